@@ -1,0 +1,9 @@
+-- Laws that belong to no one function.
+pub mod Signs
+pub mod Orders
+pub mod Value
+pub mod Cut
+pub mod Bounds
+pub mod Round
+pub mod Range
+pub mod Casts

@@ -1,0 +1,25 @@
+-- `float::cast::to_usize` meets its contract: the laws are in proofs/Casts.antt and in std's Truncating. Assumes nothing.
+use mathlib.Core.Path.{sym, subst}
+use lib.Dec.{T}
+use lib.Ieee.{ofBits}
+use borrow.Author.Needs.{needs}
+use Rattle.std.proofs.num.Truncating.{below-one, under-one}
+use Rattle.float.proofs.Casts.{above-minus, from-p64}
+use Rattle.float.proofs.cast.to_usize.Statement.{statement}
+use Rattle.float.proofs.cast.to_usize.Tie as tie
+
+truncating-f64-to-u64-requires : tie.Need-truncating-f64-to-u64-requires
+unfolding ofBits
+truncating-f64-to-u64-requires c κs = (above-minus (c .before .before .args .x) (c .before .if1 .taken), subst T (sym (c .if2 .taken)) tt)
+
+returns : tie.Need-returns
+returns c = c .truncating-f64-to-u64 .ensures
+
+returns-2 : tie.Need-returns-2
+returns-2 c = from-p64 (c .before .before .args .x) (c .before .if1 .taken) (c .if2 .left)
+
+returns-3 : tie.Need-returns-3
+returns-3 c = below-one 64 (c .before .args .x) (under-one (c .before .args .x) (c .if1 .left))
+
+pub to-usize-spec : {M : Type 1} → statement M
+to-usize-spec = tie.close (tie.spec truncating-f64-to-u64-requires returns returns-2 returns-3)

@@ -1,0 +1,13 @@
+-- A whole number as an f64. (An f64 as a whole number is `toUnsigned 64` of lib.Ieee.) Assumes nothing.
+use Prim.Native.Nat.{ℕ}
+use lib.IntN.{ℤ, pos, negsuc}
+use lib.Ieee.{Float, binary64, ofInt}
+
+-- n as an f64
+unfoldable pub natFloat : ℕ → Float
+natFloat n = ofInt binary64 (pos n)
+
+-- a signed whole number as a count: one below 0 is 0
+abbrev pub count : ℤ → ℕ
+count (pos n) = n
+count (negsuc n) = 0

@@ -1,0 +1,48 @@
+-- Known results of the helpers, by computation. Assumes nothing.
+use mathlib.Core.Path.{_≡_, refl}
+use mathlib.Core.Bool.{Bool, true, false}
+use lib.IntN.{ℤ, pos, negsuc}
+use lib.Ieee.{Float, fin, binary64, ofBits, ofInt, neg, lt, le, eq, add, sub, round, toUnsigned}
+use Rattle.float.specs.Consts.{eps, tau, sqrt2}
+use Rattle.float.specs.Sign.{negative, absolute}
+use Rattle.float.specs.Order.{larger, clamped, totalOrder}
+use Rattle.float.specs.Whole.{floorZ, ceilZ, rounded, ceiled}
+use Rattle.float.specs.Cast.{natFloat}
+use Rattle.float.specs.declared.order.Ordering.the-variants.{Less, Equal, Greater}
+
+-- `unfolding computed` opens every definition of this crate and of lib.Ieee that a closed result needs
+unfoldable pub computed : Bool
+unfolding rounded ceiled floorZ ceilZ clamped absolute totalOrder negative larger eps tau sqrt2 natFloat ofBits ofInt toUnsigned neg lt le eq add sub round
+computed = true
+
+-- "−0.25 gives −1"
+floor-quarter : floorZ (ofBits binary64 0xBFD0000000000000) ≡ negsuc 0
+unfolding computed
+floor-quarter = refl
+
+ceil-quarter : ceilZ (ofBits binary64 0xBFD0000000000000) ≡ pos 0
+unfolding computed
+ceil-quarter = refl
+
+-- "−0 precedes +0", and not the other way
+zeros : totalOrder (ofBits binary64 0x8000000000000000) (ofBits binary64 0) ≡ Less
+unfolding computed
+zeros = refl
+
+zeros-back : totalOrder (ofBits binary64 0) (ofBits binary64 0x8000000000000000) ≡ Greater
+unfolding computed
+zeros-back = refl
+
+-- "clamp keeps −0"
+keeps : clamped (ofBits binary64 0x8000000000000000) (ofBits binary64 0) (ofBits binary64 0x3FF0000000000000) ≡ ofBits binary64 0x8000000000000000
+unfolding computed
+keeps = refl
+
+-- a half goes away from zero, and a zero keeps its sign
+round-half : rounded (ofBits binary64 0xBFE0000000000000) ≡ ofBits binary64 0xBFF0000000000000
+unfolding computed
+round-half = refl
+
+round-quarter : rounded (ofBits binary64 0xBFD0000000000000) ≡ ofBits binary64 0x8000000000000000
+unfolding computed
+round-quarter = refl

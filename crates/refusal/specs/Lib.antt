@@ -1,0 +1,2 @@
+-- The definitions that every contract of an open call cites.
+pub mod Refusals

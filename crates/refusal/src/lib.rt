@@ -1,0 +1,39 @@
+// Who sends the caller back: 01's table of refusals, once for every call.
+ghost use mathlib.Core.Path.{_≡_};
+ghost use Rattle.refusal.specs.Refusals.{numberOf};
+
+pub enum Refusal {
+    Steps,
+    Length,
+    Room,
+    Coordinate,
+    Texture,
+    Count,
+    Direction,
+    NotThere,
+    Mark,
+    Sample,
+    NoStep,
+    Full,
+}
+
+impl Refusal {
+    pub fn number(self) -> u8
+        ensures { λ r. ⌜ r ≡ numberOf self ⌝ }
+    {
+        match self {
+            Refusal::Steps => 1,
+            Refusal::Length => 2,
+            Refusal::Room => 3,
+            Refusal::Coordinate => 4,
+            Refusal::Texture => 5,
+            Refusal::Count => 6,
+            Refusal::Direction => 7,
+            Refusal::NotThere => 8,
+            Refusal::Mark => 9,
+            Refusal::Sample => 10,
+            Refusal::NoStep => 11,
+            Refusal::Full => 12,
+        }
+    }
+}

@@ -1,0 +1,34 @@
+-- "A Vector holds three f64; the Vector operations keep their names and hand back a new Vector." One rounding per operation. Assumes nothing.
+use mathlib.Core.Bool.{Bool}
+use lib.Ieee.{Float, binary64, lt, add, sub, mul}
+use Rattle.float.specs.Consts.{eps}
+use Rattle.float.specs.Sign.{absolute}
+use Rattle.float.specs.Order.{larger}
+use Rattle.vector.specs.declared.Vector.{Vector}
+
+abbrev pub vector : Float → Float → Float → Vector
+vector x y z = record { x = x; y = y; z = z }
+
+-- add
+abbrev pub plus : Vector → Vector → Vector
+plus a b = vector (add binary64 (a .x) (b .x)) (add binary64 (a .y) (b .y)) (add binary64 (a .z) (b .z))
+
+-- sub
+abbrev pub minus : Vector → Vector → Vector
+minus a b = vector (sub binary64 (a .x) (b .x)) (sub binary64 (a .y) (b .y)) (sub binary64 (a .z) (b .z))
+
+-- mul_scalar
+abbrev pub scaled : Vector → Float → Vector
+scaled a s = vector (mul binary64 (a .x) s) (mul binary64 (a .y) s) (mul binary64 (a .z) s)
+
+-- the largest of three
+abbrev pub largest : Vector → Float
+largest a = larger (larger (a .x) (a .y)) (a .z)
+
+-- `Vector::map` of the absolute value
+abbrev pub absolutes : Vector → Vector
+absolutes a = vector (absolute (a .x)) (absolute (a .y)) (absolute (a .z))
+
+-- "Closeness: the largest of the three absolute differences is below EPS"
+unfoldable pub allClose : Vector → Vector → Bool
+allClose a b = lt (largest (absolutes (minus a b))) eps
