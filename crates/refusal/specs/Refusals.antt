@@ -1,7 +1,10 @@
 -- "Who sends the caller back", and what an answer is. Assumes nothing.
 use Prim.Native.Nat.{ℕ}
+use mathlib.Core.Bool.{Bool, true, false}
 use Rattle.refusal.specs.declared.Refusal.{Refusal}
 use Rattle.refusal.specs.declared.Refusal.the-variants.{Steps, Length, Room, Coordinate, Texture, Count, Direction, NotThere, Mark, Sample, NoStep, Full}
+use Rattle.refusal.specs.declared.Check.{Check}
+use Rattle.refusal.specs.declared.Check.the-variants.{Passed, Failed}
 
 -- 01's number of each refusal
 abbrev pub numberOf : Refusal → ℕ
@@ -44,3 +47,14 @@ answerNumber (refused k) = k
 abbrev pub valuesOr : {A : Type 0} → A → Answer A → A
 valuesOr z (ok a) = a
 valuesOr z (refused k) = z
+
+-- "The lowest number applies": tests stand in the order of their numbers, and the first that fails answers.
+-- One test: k where it does not hold, and what comes after it where it does
+abbrev pub unless : Bool → Refusal → Check → Check
+unless true k after = after
+unless false k after = Failed k
+
+-- an answer that is due only where the tests before it pass
+abbrev pub passing : {A : Type 0} → Check → Answer A → Answer A
+passing Passed a = a
+passing (Failed k) a = refused (numberOf k)

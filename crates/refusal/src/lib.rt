@@ -37,3 +37,9 @@ impl Refusal {
         }
     }
 }
+
+// What a test of the input says: it passes, or a refusal applies.
+pub enum Check {
+    Passed,
+    Failed(Refusal),
+}

@@ -1,0 +1,77 @@
+// The grid: one list of f64, three per point (x, y, z), in number order. Point numbers, reading a point, and the
+// refusals of a grid, once for every call that takes one.
+use refusal::Check;
+use refusal::Refusal;
+use vector::Vector;
+ghost use mathlib.Core.Path.{_≡_};
+ghost use Prim.Native.Nat.{_+_, _*_, _≤_};
+ghost use lib.ListN.{length};
+ghost use Rattle.grid.specs.Grid.{pointNumber, pointAt, coordinatesFit, shapeCheck, gridCheck};
+
+// M and N are at most this.
+pub const MAX_STEPS: usize = 255;
+
+// 2^40, the largest magnitude of a coordinate.
+const MAX_COORDINATE: f64 = 1099511627776.0;
+
+// The number of grid point (u, v) where there are n steps in v.
+pub fn point_number(n: usize, u: usize, v: usize) -> usize
+    requires { ⌜ (n ≤ 255) × (u ≤ 256) × (v ≤ 256) ⌝ }
+    ensures { λ r. ⌜ r ≡ pointNumber n u v ⌝ }
+{
+    u * (n + 1) + v
+}
+
+// Point number i of a list of coordinates.
+pub fn point_at(points: &[f64], i: usize) -> Vector
+    requires { ⌜ 3 * i + 3 ≤ length (now points) ⌝ }
+    ensures { λ r. ⌜ r ≡ pointAt (now (points .entry)) i ⌝ }
+{
+    Vector {
+        x: points[3 * i],
+        y: points[3 * i + 1],
+        z: points[3 * i + 2],
+    }
+}
+
+// Whether every coordinate is finite and at most 2^40 in magnitude.
+pub fn coordinates_fit(points: &[f64]) -> bool
+    ensures { λ r. ⌜ r ≡ coordinatesFit (now (points .entry)) ⌝ }
+{
+    let mut i: usize = 0;
+    while i < points.len() {
+        if !float::sign::at_most(points[i], MAX_COORDINATE) {
+            return false;
+        }
+        i += 1;
+    }
+    true
+}
+
+// Refusals 1 and 2: the steps, and the length that goes with them.
+pub fn check_shape(grid: &[f64], m: usize, n: usize) -> Check
+    ensures { λ r. ⌜ r ≡ shapeCheck (now (grid .entry)) m n ⌝ }
+{
+    if m < 1 || MAX_STEPS < m || n < 1 || MAX_STEPS < n {
+        return Check::Failed(Refusal::Steps);
+    }
+    if grid.len() != 3 * ((m + 1) * (n + 1)) {
+        return Check::Failed(Refusal::Length);
+    }
+    Check::Passed
+}
+
+// Refusals 1, 2 and 4: whether a grid is accepted.
+pub fn check_grid(grid: &[f64], m: usize, n: usize) -> Check
+    ensures { λ r. ⌜ r ≡ gridCheck (now (grid .entry)) m n ⌝ }
+{
+    match check_shape(grid, m, n) {
+        Check::Failed(k) => Check::Failed(k),
+        Check::Passed => {
+            if coordinates_fit(grid) {
+                return Check::Passed;
+            }
+            Check::Failed(Refusal::Coordinate)
+        }
+    }
+}
