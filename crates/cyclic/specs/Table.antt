@@ -1,0 +1,1 @@
+-- 01's starred results on seams and mappings, by computation. Assumes nothing.
