@@ -1,0 +1,2 @@
+-- The definitions that the contracts of every call with lent lists cite.
+pub mod Lent

@@ -1,0 +1,343 @@
+-- Demand 3, proved: for every covered joining with at least 3 steps each way. Assumes nothing.
+use Prim.Native.Nat.{ℕ, zero, suc, _+_, _-_, _*_, _≤_, _<_, min, max}
+use mathlib.Core.Path.{_≡_, refl, sym, ap, _∙_, subst}
+use mathlib.Core.Logic.{_⊎_, inl, inr, ⊎-elim}
+use mathlib.Core.Bool.{Bool, true, false, not}
+use mathlib.Core.List.{List, [], List·Memᴰ, List·Memᴰ·not-nil, Memᴰ·cast}
+use native.Mathlib.Omega.{arith}
+use lib.Dec.{eqb}
+use lib.Arith.{digits-div, digits-mod}
+use lib.ListN.{length, getD}
+use borrow.Author.Tests.{ne-eqb}
+use Rattle.surface.specs.Surface.{pick, both, Seam, unjoined, forward, reverse, reversed, Split, Shape, J, Triangle, tri, halfOf, slot, proper, kept, slots, triangles, Pair, ordered, numberOf, stepOn, process, flipped, Follows, HasSide, nth, Owns, OwnedOnce, OwnedTwice, Same, Rim, SameWay, GridEdge, along-u, along-v, fall, riseᵉ, EdgeNumbers, Jₙ, Covered, Meets, Demand3}
+use Rattle.surface.proofs.Steps.{lt-or-le, Fits, laidOn, on-below}
+use Rattle.surface.proofs.Strip.{Strip, Kind, straight}
+use Rattle.surface.proofs.Places.{Cell}
+use Rattle.surface.proofs.Owners.{Holds, OnRim, SameTri, Other, owned}
+use Rattle.surface.proofs.Ways.{Runs, Turn, Shared, runs-holds, holds-flip, holds-runs, runs-differ, same-way, turn-shared}
+use Rattle.surface.proofs.Points.{covered-along}
+use Rattle.surface.proofs.Views.{View, viewU, viewV, EdgeAt, halfNum, index}
+use Rattle.surface.proofs.Lists.{halfAt, uAt, vAt, slot-at, uAt-lt, vAt-lt, index-at, index-lt, uAt-index, vAt-index, halfAt-index, kept-length, kept-at, step-on, pair-eq, mk, mem-in, process-to, process-from}
+
+proper-of : (t : Triangle) → (t .a ≡ t .b → ⊥) → (t .a ≡ t .c → ⊥) → (t .b ≡ t .c → ⊥) → proper t ≡ true
+proper-of t p q r = rw (ne-eqb (t .a) (t .b) p, ne-eqb (t .a) (t .c) q, ne-eqb (t .b) (t .c) r)
+
+reversed-step : (m : Seam) (c : Bool) (n y : ℕ) → 3 ≤ n → Fits m c n → reversed m ≡ true → y < n → stepOn m n y ≡ laidOn m n y
+reversed-step (reverse o) c n y h f e k = step-on o c n y h f k
+reversed-step unjoined c n y h f e k = cc
+reversed-step (forward o) c n y h f e k = cc
+
+module _ (s : Shape) (m : 3 ≤ s .M) (n : 3 ≤ s .N) (W : View s) where
+  abbrev Run : Bool → ℕ → ℕ → ℕ → ℕ → Type 0
+  Run = Runs (W .S) (W .half) (W .half-diagonal) (W .dir) (W .dir-not)
+
+  abbrev Hold : Bool → ℕ → ℕ → ℕ → ℕ → Type 0
+  Hold = Holds (W .S) (W .half) (W .half-diagonal)
+
+  abbrev xAt : ℕ → ℕ
+  xAt i = W .x (uAt s i) (vAt s i)
+
+  abbrev yAt : ℕ → ℕ
+  yAt i = W .y (uAt s i) (vAt s i)
+
+  u-lt : (i : ℕ) → i < slots s → uAt s i < s .M
+  u-lt i h = uAt-lt s i (omega arith) h
+
+  v-lt : (i : ℕ) → vAt s i < s .N
+  v-lt i = vAt-lt s i (omega arith)
+
+  slot-runs : (i a b : ℕ) → i < slots s → Follows (slot s i) a b → Run (halfAt i) (xAt i) (yAt i) a b
+  slot-runs i a b h F = W .to-runs (halfAt i) (uAt s i) (vAt s i) a b (u-lt i h) (v-lt i) (subst (λ (t : Triangle). Follows t a b) (slot-at s i) F)
+
+  runs-slot : (i a b : ℕ) → i < slots s → Run (halfAt i) (xAt i) (yAt i) a b → Follows (slot s i) a b
+  runs-slot i a b h r = subst (λ (t : Triangle). Follows t a b) (sym (slot-at s i)) (W .from-runs (halfAt i) (uAt s i) (vAt s i) a b (u-lt i h) (v-lt i) r)
+
+  slot-proper : (i : ℕ) → i < slots s → proper (slot s i) ≡ true
+  slot-proper i h =
+      proper-of (slot s i)
+      (differ (slot s i .a) (slot s i .b) (inl (refl, refl)))
+      (λ e. differ (slot s i .c) (slot s i .a) (inr (inr (refl, refl))) (sym e))
+      (differ (slot s i .b) (slot s i .c) (inr (inl (refl, refl))))
+    where
+      differ : (a b : ℕ) → Follows (slot s i) a b → a ≡ b → ⊥
+      differ a b F = runs-differ (W .S) (W .half) (W .half-diagonal) (W .dir) (W .dir-not) (halfAt i) (xAt i) (yAt i) a b (slot-runs i a b h F)
+
+  count : length (triangles s) ≡ slots s
+  unfolding triangles
+  count = kept-length s (slots s) slot-proper
+
+  nth-is : (i : ℕ) → i < slots s → nth (triangles s) i ≡ slot s i
+  unfolding triangles
+  nth-is i h = kept-at s (slots s) i slot-proper h
+
+  number-is : (i : ℕ) → i < slots s → numberOf s i ≡ i
+  unfolding numberOf
+  number-is i h = kept-length s i (λ j k. slot-proper j (omega arith))
+
+  -- ---- triangles of the list, and places of the strip
+
+  below : (i : ℕ) → i < length (triangles s) → i < slots s
+  below i h = omega (arith, count)
+
+  nth-runs : (i a b : ℕ) → i < length (triangles s) → Follows (nth (triangles s) i) a b → Run (halfAt i) (xAt i) (yAt i) a b
+  nth-runs i a b h F = slot-runs i a b (below i h) (subst (λ (t : Triangle). Follows t a b) (nth-is i (below i h)) F)
+
+  runs-nth : (i a b : ℕ) → i < slots s → Run (halfAt i) (xAt i) (yAt i) a b → Follows (nth (triangles s) i) a b
+  runs-nth i a b h r = subst (λ (t : Triangle). Follows t a b) (sym (nth-is i h)) (runs-slot i a b h r)
+
+  owns-holds : (a b i : ℕ) → Owns (triangles s) a b i → Hold (halfAt i) (xAt i) (yAt i) a b
+  owns-holds a b i o =
+      ⊎-elim
+      (λ F. runs-holds (W .S) (W .half) (W .half-diagonal) (W .dir) (W .dir-not) (halfAt i) (xAt i) (yAt i) a b (nth-runs i a b (o .there) F))
+      (λ F. holds-flip (W .S) (W .half) (W .half-diagonal) (W .dir) (W .dir-not) (halfAt i) (xAt i) (yAt i) b a (runs-holds (W .S) (W .half) (W .half-diagonal) (W .dir) (W .dir-not) (halfAt i) (xAt i) (yAt i) b a (nth-runs i b a (o .there) F)))
+      (o .has)
+
+  holds-owns : (a b i : ℕ) → i < slots s → Hold (halfAt i) (xAt i) (yAt i) a b → Owns (triangles s) a b i
+  holds-owns a b i h p =
+      record {
+        there = omega (arith, count);
+        has = ⊎-elim (λ r. inl (runs-nth i a b h r)) (λ r. inr (runs-nth i b a h r)) (holds-runs (W .S) (W .half) (W .half-diagonal) (W .dir) (W .dir-not) (halfAt i) (xAt i) (yAt i) a b p);
+      }
+
+  -- the number of the triangle of half h of cell (x, y) of the strip
+  indexOf : Bool → ℕ → ℕ → ℕ
+  indexOf h x y = index s h (W .u x y) (W .v x y)
+
+  indexOf-lt : (h : Bool) (x y : ℕ) → Cell (W .S) x y → indexOf h x y < slots s
+  unfolding indexOf
+  indexOf-lt h x y c = let b = W .back x y c in index-lt s h (W .u x y) (W .v x y) (b .0) (b .1)
+
+  half-indexOf : (h : Bool) (x y : ℕ) → halfAt (indexOf h x y) ≡ h
+  unfolding indexOf
+  half-indexOf h x y = halfAt-index s h (W .u x y) (W .v x y)
+
+  x-indexOf : (h : Bool) (x y : ℕ) → Cell (W .S) x y → xAt (indexOf h x y) ≡ x
+  unfolding indexOf
+  x-indexOf h x y c = let b = W .back x y c in cc (uAt-index s h (W .u x y) (W .v x y) (b .1), vAt-index s h (W .u x y) (W .v x y) (b .1), b .2)
+
+  y-indexOf : (h : Bool) (x y : ℕ) → Cell (W .S) x y → yAt (indexOf h x y) ≡ y
+  unfolding indexOf
+  y-indexOf h x y c = let b = W .back x y c in cc (uAt-index s h (W .u x y) (W .v x y) (b .1), vAt-index s h (W .u x y) (W .v x y) (b .1), b .3)
+
+  indexOf-at : (i : ℕ) → indexOf (halfAt i) (xAt i) (yAt i) ≡ i
+  unfolding indexOf
+  indexOf-at i = cc (W .u-of (uAt s i) (vAt s i), W .v-of (uAt s i) (vAt s i), index-at s i)
+
+  is-indexOf : (k : ℕ) (h : Bool) (x y : ℕ) → halfAt k ≡ h → xAt k ≡ x → yAt k ≡ y → k ≡ indexOf h x y
+  is-indexOf k h x y p q r = cc (indexOf-at k)
+
+  at-index : (P : Bool → ℕ → ℕ → Type 0) (h : Bool) (x y : ℕ) → Cell (W .S) x y → P h x y → P (halfAt (indexOf h x y)) (xAt (indexOf h x y)) (yAt (indexOf h x y))
+  at-index P h x y c p = rw (half-indexOf h x y, x-indexOf h x y c, y-indexOf h x y c) p
+
+  -- ---- sides
+
+  once-case : (a b i : ℕ) → Owns (triangles s) a b i → ((h′ : Bool) (x′ y′ : ℕ) → Hold h′ x′ y′ a b → SameTri (W .S) (W .half) (W .half-diagonal) (halfAt i) (xAt i) (yAt i) h′ x′ y′) → OwnedOnce (triangles s) a b
+  once-case a b i o f =
+      record {
+        first = i;
+        owns = o;
+        only = λ k q. let e = f (halfAt k) (xAt k) (yAt k) (owns-holds a b k q) in
+            is-indexOf k (halfAt i) (xAt i) (yAt i) (e .0) (e .1) (e .2) ∙ indexOf-at i;
+      }
+
+  twice-case : (a b i : ℕ) → Owns (triangles s) a b i → Other (W .S) (W .half) (W .half-diagonal) (halfAt i) (xAt i) (yAt i) a b → OwnedTwice (triangles s) a b
+  twice-case a b i o t = ⊎-elim (λ h. in-order h) (λ h. out-of-order h) (lt-or-le i j)
+    where
+      j : ℕ
+      j = indexOf (t .h₂) (t .x₂) (t .y₂)
+
+      c : Cell (W .S) (t .x₂) (t .y₂)
+      c = t .holds .cell
+
+      o₂ : Owns (triangles s) a b j
+      o₂ = holds-owns a b j (indexOf-lt (t .h₂) (t .x₂) (t .y₂) c) (at-index (λ h x y. Hold h x y a b) (t .h₂) (t .x₂) (t .y₂) c (t .holds))
+
+      differ : i ≡ j → ⊥
+      differ e = t .apart (sym (ap halfAt e ∙ half-indexOf (t .h₂) (t .x₂) (t .y₂)), sym (ap xAt e ∙ x-indexOf (t .h₂) (t .x₂) (t .y₂) c), sym (ap yAt e ∙ y-indexOf (t .h₂) (t .x₂) (t .y₂) c))
+
+      either : (k : ℕ) → Owns (triangles s) a b k → (k ≡ i) ⊎ (k ≡ j)
+      either k q =
+          ⊎-elim
+          (λ e. inl (is-indexOf k (halfAt i) (xAt i) (yAt i) (e .0) (e .1) (e .2) ∙ indexOf-at i))
+          (λ e. inr (is-indexOf k (t .h₂) (t .x₂) (t .y₂) (e .0) (e .1) (e .2)))
+          (t .only (halfAt k) (xAt k) (yAt k) (owns-holds a b k q))
+
+      in-order : i < j → OwnedTwice (triangles s) a b
+      in-order h = record { first = i; second = j; apart = h; owns-first = o; owns-second = o₂; only = either }
+
+      out-of-order : j ≤ i → OwnedTwice (triangles s) a b
+      out-of-order h = record { first = j; second = i; apart = omega (arith, differ); owns-first = o₂; owns-second = o; only = λ k q. ⊎-elim (λ e. inr e) (λ e. inl e) (either k q) }
+
+  side-case : (a b i : ℕ) → Owns (triangles s) a b i → (Rim s a b × OwnedOnce (triangles s) a b) ⊎ ((Rim s a b → ⊥) × OwnedTwice (triangles s) a b)
+  side-case a b i o =
+      ⊎-elim
+      (λ w. inl (W .rim-from a b (w .0), once-case a b i o (w .1)))
+      (λ w. inr (λ r. w .0 (W .rim-to a b r), twice-case a b i o (w .1)))
+      (owned (W .S) (W .half) (W .half-diagonal) (halfAt i) (xAt i) (yAt i) a b (owns-holds a b i o))
+
+  edge-case : (u v u′ v′ : ℕ) → GridEdge s u v u′ v′ → (i : ℕ) × Owns (triangles s) (J s u v) (J s u′ v′) i
+  edge-case u v u′ v′ g =
+      let e = W .edge-to u v u′ v′ g in
+      let h = W .half (e .k) (e .t) in
+      let p : Hold h (e .x) (e .y) (J s u v) (J s u′ v′) = record { k = e .k; t = e .t; cell = e .cell; on = refl; ends = e .ends } in
+      (indexOf h (e .x) (e .y), holds-owns (J s u v) (J s u′ v′) (indexOf h (e .x) (e .y)) (indexOf-lt h (e .x) (e .y) (e .cell)) (at-index (λ h x y. Hold h x y (J s u v) (J s u′ v′)) h (e .x) (e .y) (e .cell) p))
+
+  -- ---- flipped pairs
+
+  abbrev Z : Strip
+  Z = W .S
+
+  abbrev TurnW : Bool → ℕ → ℕ → Bool → ℕ → ℕ → Type 0
+  TurnW = Turn Z (W .half) (W .half-diagonal) (W .dir) (W .dir-not)
+
+  abbrev on : ℕ → ℕ
+  on y = laidOn (Z .seam) (Z .Y) y
+
+  low-half : Bool
+  low-half = W .half straight false
+
+  high-half : Bool
+  high-half = W .half straight true
+
+  far : ℕ
+  far = Z .X - 1
+
+  far-is : far + 1 ≡ Z .X
+  unfolding far
+  far-is = omega (arith, Z .X≥3)
+
+  low-is : (y : ℕ) → y < Z .Y → W .lows y ≡ indexOf low-half 0 y
+  unfolding indexOf low-half
+  low-is y h = W .low-index y h
+
+  high-is : (x y : ℕ) → x + 1 ≡ Z .X → y < Z .Y → W .highs y ≡ indexOf high-half x y
+  unfolding indexOf high-half
+  high-is x y e h = W .high-index x y e h
+
+  on-lt : (y : ℕ) → y < Z .Y → on y < Z .Y
+  on-lt y h = on-below (Z .seam) (Z .closed) (Z .Y) y (Z .fits) h
+
+  low-cell : (y : ℕ) → y < Z .Y → Cell Z 0 y
+  low-cell y h = (omega (arith, Z .X≥3), h)
+
+  high-cell : (y : ℕ) → y < Z .Y → Cell Z far y
+  high-cell y h = (omega (arith, far-is), h)
+
+  low-ok : (y : ℕ) → y < Z .Y → (proper (slot s (W .lows y)) ≡ true) × (numberOf s (W .lows y) ≡ W .lows y)
+  low-ok y h =
+      let l : W .lows y < slots s = omega (arith, low-is y h, indexOf-lt low-half 0 y (low-cell y h)) in
+      (slot-proper (W .lows y) l, number-is (W .lows y) l)
+
+  high-ok : (y : ℕ) → y < Z .Y → (proper (slot s (W .highs y)) ≡ true) × (numberOf s (W .highs y) ≡ W .highs y)
+  high-ok y h =
+      let l : W .highs y < slots s = omega (arith, high-is far y far-is h, indexOf-lt high-half far y (high-cell y h)) in
+      (slot-proper (W .highs y) l, number-is (W .highs y) l)
+
+  flipped-reversed : reversed (Z .seam) ≡ true → flipped s ≡ process s (Z .seam) (Z .Y) (W .lows) (W .highs) (Z .Y) []
+  flipped-reversed e = W .flips ∙ ap (λ (t : Bool). pick t (process s (Z .seam) (Z .Y) (W .lows) (W .highs) (Z .Y) []) []) e
+
+  flipped-none : reversed (Z .seam) ≡ false → flipped s ≡ []
+  flipped-none e = W .flips ∙ ap (λ (t : Bool). pick t (process s (Z .seam) (Z .Y) (W .lows) (W .highs) (Z .Y) []) []) e
+
+  -- the two triangles at a turn, by their numbers
+  turn-low : (i j : ℕ) → TurnW (halfAt i) (xAt i) (yAt i) (halfAt j) (xAt j) (yAt j) → i ≡ W .lows (on (yAt j))
+  unfolding low-half
+  turn-low i j t = is-indexOf i low-half 0 (on (yAt j)) (t .low-half) (t .low-x) (t .low-y) ∙ sym (low-is (on (yAt j)) (on-lt (yAt j) (t .below)))
+
+  turn-high : (i j : ℕ) → TurnW (halfAt i) (xAt i) (yAt i) (halfAt j) (xAt j) (yAt j) → j ≡ W .highs (yAt j)
+  unfolding high-half
+  turn-high i j t = is-indexOf j high-half (xAt j) (yAt j) (t .high-half) refl refl ∙ sym (high-is (xAt j) (yAt j) (t .high-x) (t .below))
+
+  listed : (i j : ℕ) → TurnW (halfAt i) (xAt i) (yAt i) (halfAt j) (xAt j) (yAt j) → List·Memᴰ (ordered i j) (flipped s)
+  listed i j t =
+      mem-in (sym (flipped-reversed (t .rev)))
+      (Memᴰ·cast (cc (turn-low i j t, turn-high i j t))
+      (process-from s (Z .seam) (Z .Y) (W .lows) (W .highs) on (λ y h. reversed-step (Z .seam) (Z .closed) (Z .Y) y (Z .Y≥3) (Z .fits) (t .rev) h) on-lt low-ok high-ok (Z .Y) (omega arith) (yAt j) (t .below)))
+
+  flip-case : (i j : ℕ) → i < j → SameWay (triangles s) i j → List·Memᴰ (mk i j) (flipped s)
+  flip-case i j h w =
+      ⊎-elim
+      (λ t. Memᴰ·cast (pair-eq (mk i j) (ordered i j) (omega arith) (omega arith)) (listed i j t))
+      (λ t. Memᴰ·cast (pair-eq (mk i j) (ordered j i) (omega arith) (omega arith)) (listed j i t))
+      (same-way Z (W .half) (W .half-diagonal) (W .dir) (W .dir-not) (halfAt i) (halfAt j) (xAt i) (yAt i) (xAt j) (yAt j) (w .a) (w .b) (nth-runs i (w .a) (w .b) (w .there-i) (w .along-i)) (nth-runs j (w .a) (w .b) (w .there-j) (w .along-j)) apart)
+    where
+      apart : SameTri Z (W .half) (W .half-diagonal) (halfAt i) (xAt i) (yAt i) (halfAt j) (xAt j) (yAt j) → ⊥
+      apart e = let q : j ≡ i = is-indexOf j (halfAt i) (xAt i) (yAt i) (e .0) (e .1) (e .2) ∙ indexOf-at i in omega arith
+
+  way-swap : (i j : ℕ) → SameWay (triangles s) i j → SameWay (triangles s) j i
+  way-swap i j w = record { there-i = w .there-j; there-j = w .there-i; a = w .a; b = w .b; along-i = w .along-j; along-j = w .along-i }
+
+  shared-way : (y : ℕ) → y < Z .Y → reversed (Z .seam) ≡ true → SameWay (triangles s) (indexOf low-half 0 (on y)) (indexOf high-half far y)
+  unfolding low-half high-half
+  shared-way y h e =
+      let t : TurnW low-half 0 (on y) high-half far y = record { rev = e; below = h; low-half = refl; low-x = refl; low-y = refl; high-half = refl; high-x = far-is } in
+      let r = turn-shared Z (W .half) (W .half-diagonal) (W .dir) (W .dir-not) low-half high-half 0 (on y) far y t in
+      let cl = low-cell (on y) (on-lt y h) in
+      let ch = high-cell y h in
+      let i = indexOf low-half 0 (on y) in
+      let j = indexOf high-half far y in
+      let li = indexOf-lt low-half 0 (on y) cl in
+      let lj = indexOf-lt high-half far y ch in
+      record {
+        there-i = omega (arith, count);
+        there-j = omega (arith, count);
+        a = r .a;
+        b = r .b;
+        along-i = runs-nth i (r .a) (r .b) li (at-index (λ h x y. Run h x y (r .a) (r .b)) low-half 0 (on y) cl (r .one));
+        along-j = runs-nth j (r .a) (r .b) lj (at-index (λ h x y. Run h x y (r .a) (r .b)) high-half far y ch (r .two));
+      }
+
+  turn-apart : (y : ℕ) → y < Z .Y → indexOf low-half 0 (on y) ≡ indexOf high-half far y → ⊥
+  turn-apart y h e =
+      omega (arith, sym (x-indexOf low-half 0 (on y) (low-cell (on y) (on-lt y h))) ∙ ap xAt e ∙ x-indexOf high-half far y (high-cell y h), far-is, Z .X≥3)
+
+  ordered-way : (p : Pair) (i j : ℕ) → p ≡ ordered i j → (i ≡ j → ⊥) → SameWay (triangles s) i j → (p .low < p .high) × SameWay (triangles s) (p .low) (p .high)
+  ordered-way p i j e d w =
+      let el : p .low ≡ min i j = ap (λ (q : Pair). q .low) e in
+      let eh : p .high ≡ max i j = ap (λ (q : Pair). q .high) e in (
+        omega (arith, d),
+        ⊎-elim
+            (λ h. at (p .low) (p .high) i j (omega arith) (omega arith) w)
+            (λ h. at (p .low) (p .high) j i (omega arith) (omega arith) (way-swap i j w))
+            (lt-or-le i j),
+      )
+    where
+      at : (a b c d : ℕ) → a ≡ c → b ≡ d → SameWay (triangles s) c d → SameWay (triangles s) a b
+      at a b c d p q w = rw (p, q) w
+
+  flop-case : (p : Pair) → List·Memᴰ p (flipped s) → (p .low < p .high) × SameWay (triangles s) (p .low) (p .high)
+  flop-case p q = go (reversed (Z .seam)) refl
+    where
+      go : (t : Bool) → reversed (Z .seam) ≡ t → (p .low < p .high) × SameWay (triangles s) (p .low) (p .high)
+      go false e = absurd (List·Memᴰ·not-nil (mem-in (flipped-none e) q))
+      go true e =
+          let t = process-to s (Z .seam) (Z .Y) (W .lows) (W .highs) on (λ y h. reversed-step (Z .seam) (Z .closed) (Z .Y) y (Z .Y≥3) (Z .fits) e h) on-lt low-ok high-ok (Z .Y) (omega arith) p (mem-in (flipped-reversed e) q) in
+          let y = t .0 in
+          let f : p ≡ ordered (indexOf low-half 0 (on y)) (indexOf high-half far y) = t .2 ∙ cc (low-is (on y) (on-lt y (t .1)), high-is far y far-is (t .1)) in
+          ordered-way p (indexOf low-half 0 (on y)) (indexOf high-half far y) f (turn-apart y (t .1)) (shared-way y (t .1) e)
+
+  pub meets : Meets s
+  meets = record { sides = side-case; flip = flip-case; flop = flop-case; edges = edge-case }
+
+pub demand3 : Demand3
+demand3 s m n c = ⊎-elim (λ w. meets s m n (viewU s m n w)) (λ w. meets s m n (viewV s m n w)) (covered-along s c)
+
+-- J of a point by its number
+pub J-number : (s : Shape) (u v : ℕ) → v ≤ s .N → Jₙ s (u * (s .N + 1) + v) ≡ J s u v
+unfolding Jₙ
+J-number s u v h = let k : v < s .N + 1 = omega arith in rw (digits-div u k, digits-mod u k)
+
+-- what a trace records: J of the two numbers are the ends of a side
+pub traced : (s : Shape) → Meets s → (p q : ℕ) → EdgeNumbers s p q → (i : ℕ) × Owns (triangles s) (Jₙ s p) (Jₙ s q) i
+traced s m p q e =
+    let r = m .edges (e .u) (e .v) (e .u′) (e .v′) (e .edge) in
+    let b = bounds (e .u) (e .v) (e .u′) (e .v′) (e .edge) in
+    let jp : Jₙ s p ≡ J s (e .u) (e .v) = ap (Jₙ s) (e .p-is) ∙ J-number s (e .u) (e .v) (b .0) in
+    let jq : Jₙ s q ≡ J s (e .u′) (e .v′) = ap (Jₙ s) (e .q-is) ∙ J-number s (e .u′) (e .v′) (b .1) in
+    (r .0, rw (jp, jq) (r .1))
+  where
+    bounds : (u v u′ v′ : ℕ) → GridEdge s u v u′ v′ → (v ≤ s .N) × (v′ ≤ s .N)
+    bounds u v u′ v′ (along-u h k) = (k, k)
+    bounds u v u′ v′ (along-v h k) = omega arith
+    bounds u v u′ v′ (fall h k d) = omega arith
+    bounds u v u′ v′ (riseᵉ h k d) = omega arith

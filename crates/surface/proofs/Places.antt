@@ -1,0 +1,240 @@
+-- The places of a cell's sides: two for each name, and which triangles hold them. Assumes nothing.
+use Prim.Native.Nat.{ℕ, zero, suc, _+_, _-_, _≤_, _<_}
+use mathlib.Core.Path.{_≡_, refl, sym, ap, _∙_, subst}
+use mathlib.Core.Logic.{_⊎_, inl, inr, ⊎-elim}
+use mathlib.Core.Bool.{Bool, true, false, not}
+use native.Mathlib.Omega.{arith}
+use lib.Dec.{eqb, ltb}
+use borrow.Author.Tests.{eqb-true, eqb-false, eq-eqb, ne-eqb}
+use Rattle.surface.specs.Surface.{pick, both, Seam, unjoined, forward, reverse, joined, reversed, inverse, Split, falling, rising, Same}
+use Rattle.surface.proofs.Steps.{eqb-cases, lt-or-le, nf, nf-open, nf-closed, nf-two, nf-below, nf-end, nf-le, laidOn, laidBack, on-below, back-below, on-back, on-inj, Fits}
+use Rattle.surface.proofs.Strip.{Strip, crossing, colOf, rowOf, pointOf, stepAt, turned, next, Kind, straight, across, diagonal, n0, n1, y0, x1, y1, Valid, one-name, row-below, col-below, step-below, stepAt-lt, col-le, next-le, next-ne, next-inj, col-ne, col-inj, row-next, adjacent, crossing-below}
+
+abbrev pub Cell : Strip → ℕ → ℕ → Type 0
+Cell S x y = (x < S .X) × (y < S .Y)
+
+-- the ends of the side of kind k of cell (x, y): the low one (false) or the high one (true); a diagonal is both
+abbrev pub endsOf : Strip → Kind → Split → Bool → ℕ → ℕ → ℕ × ℕ
+endsOf S straight d false x y = (pointOf S x y, pointOf S x (y + 1))
+endsOf S straight d true x y = (pointOf S (x + 1) y, pointOf S (x + 1) (y + 1))
+endsOf S across d false x y = (pointOf S x y, pointOf S (x + 1) y)
+endsOf S across d true x y = (pointOf S x (y + 1), pointOf S (x + 1) (y + 1))
+endsOf S diagonal falling t x y = (pointOf S x (y + 1), pointOf S (x + 1) y)
+endsOf S diagonal rising t x y = (pointOf S x y, pointOf S (x + 1) (y + 1))
+
+unfoldable pub e0 : Strip → Kind → Bool → ℕ → ℕ → ℕ
+e0 S k t x y = endsOf S k (S .split) t x y .0
+
+unfoldable pub e1 : Strip → Kind → Bool → ℕ → ℕ → ℕ
+e1 S k t x y = endsOf S k (S .split) t x y .1
+
+-- its name
+abbrev pub nx : Strip → Kind → Bool → ℕ → ℕ
+nx S straight false x = x
+nx S straight true x = colOf S (x + 1)
+nx S across t x = x
+nx S diagonal t x = x
+
+abbrev pub ny : Strip → Kind → Bool → ℕ → ℕ → ℕ
+ny S straight false x y = y
+ny S straight true x y = stepAt S (x + 1) y
+ny S across false x y = y
+ny S across true x y = next S y
+ny S diagonal t x y = y
+
+abbrev pub turnedAt : Strip → Kind → Bool → ℕ → Bool
+turnedAt S straight false x = false
+turnedAt S straight true x = turned S (x + 1)
+turnedAt S across t x = false
+turnedAt S diagonal t x = false
+
+-- the side lies on the rim of an unjoined seam
+abbrev pub RimAt : Strip → Kind → Bool → ℕ → ℕ → Type 0
+RimAt S straight false x y = (S .seam ≡ unjoined) × (x ≡ 0)
+RimAt S straight true x y = (S .seam ≡ unjoined) × (x + 1 ≡ S .X)
+RimAt S across false x y = (S .closed ≡ false) × (y ≡ 0)
+RimAt S across true x y = (S .closed ≡ false) × (y + 1 ≡ S .Y)
+RimAt S diagonal t x y = ⊥
+
+module _ (S : Strip) where
+  open Strip S using (X, Y, closed, seam, split, enc, X≥3, Y≥3, fits, inj)
+
+  pub valid : (k : Kind) (t : Bool) (x y : ℕ) → Cell S x y → Valid S k (nx S k t x) (ny S k t x y)
+  valid straight false x y c = (omega arith, c .1)
+  valid straight true x y c = (col-le S (x + 1) (omega arith), stepAt-lt S (x + 1) y (c .1))
+  valid across false x y c = (c .0, omega arith)
+  valid across true x y c = (c .0, next-le S y (c .1))
+  valid diagonal t x y c = c
+
+  pt : (x y a b : ℕ) → colOf S x ≡ a → rowOf S x y ≡ b → pointOf S x y ≡ enc a b
+  unfolding pointOf
+  pt x y a b p q = ap (λ (z : ℕ). enc z (rowOf S x y)) p ∙ ap (enc a) q
+
+  low : (x y : ℕ) → x < X → y < Y → pointOf S x y ≡ enc x y
+  low x y h k = pt x y x y (col-below S x h) (row-below S x y h ∙ nf-below closed Y y k)
+
+  up : (x y : ℕ) → x < X → pointOf S x (y + 1) ≡ enc x (next S y)
+  unfolding next
+  up x y h = pt x (y + 1) x (next S y) (col-below S x h) (row-below S x (y + 1) h)
+
+  abbrev pub Named : Kind → Bool → ℕ → ℕ → Type 0
+  Named k t x y =
+      ((turnedAt S k t x ≡ false) × (e0 S k t x y ≡ n0 S k (nx S k t x) (ny S k t x y)) × (e1 S k t x y ≡ n1 S k (nx S k t x) (ny S k t x y)))
+      ⊎ ((turnedAt S k t x ≡ true) × (e0 S k t x y ≡ n1 S k (nx S k t x) (ny S k t x y)) × (e1 S k t x y ≡ n0 S k (nx S k t x) (ny S k t x y)))
+
+  named-across-high : (x y : ℕ) → pointOf S (x + 1) (y + 1) ≡ enc (colOf S (x + 1)) (rowOf S (x + 1) (next S y))
+  named-across-high x y = pt (x + 1) (y + 1) (colOf S (x + 1)) (rowOf S (x + 1) (next S y)) refl (sym (row-next S (x + 1) y))
+
+  pub named : (k : Kind) (t : Bool) (x y : ℕ) → Cell S x y → Named k t x y
+  unfolding e0 e1 n0 n1
+  named straight false x y c = inl (refl, low x y (c .0) (c .1), up x y (c .0))
+  named straight true x y c =
+      ⊎-elim
+      (λ w. inl (w .0, pt (x + 1) y (colOf S (x + 1)) (stepAt S (x + 1) y) refl (w .1), pt (x + 1) (y + 1) (colOf S (x + 1)) (next S (stepAt S (x + 1) y)) refl (w .2)))
+      (λ w. inr (w .0, pt (x + 1) y (colOf S (x + 1)) (next S (stepAt S (x + 1) y)) refl (w .2), pt (x + 1) (y + 1) (colOf S (x + 1)) (stepAt S (x + 1) y) refl (w .1)))
+      (adjacent S (x + 1) y (c .1))
+  named across false x y c = inl (refl, low x y (c .0) (c .1), pt (x + 1) y (colOf S (x + 1)) (rowOf S (x + 1) y) refl refl)
+  named across true x y c = inl (refl, up x y (c .0), named-across-high x y)
+  named diagonal t x y c = go split
+    where
+      go : (d : Split) →
+          ((false ≡ false) × (endsOf S diagonal d t x y .0 ≡ enc x (y0 S diagonal d y)) × (endsOf S diagonal d t x y .1 ≡ enc (colOf S (x + 1)) (y1 S diagonal d x y)))
+          ⊎ ((false ≡ true) × (endsOf S diagonal d t x y .0 ≡ enc (colOf S (x + 1)) (y1 S diagonal d x y)) × (endsOf S diagonal d t x y .1 ≡ enc x (y0 S diagonal d y)))
+      go falling = inl (refl, up x y (c .0), pt (x + 1) y (colOf S (x + 1)) (rowOf S (x + 1) y) refl refl)
+      go rising = inl (refl, low x y (c .0) (c .1), pt (x + 1) (y + 1) (colOf S (x + 1)) (rowOf S (x + 1) (y + 1)) refl refl)
+
+  -- ---- a place is known by its name
+
+  step-inj-at : (z a b : ℕ) → a < Y → b < Y → stepAt S z a ≡ stepAt S z b → a ≡ b
+  unfolding stepAt
+  step-inj-at z a b h k = go (crossing S z)
+    where
+      go : (w : Bool) → pick w (laidOn seam Y a) a ≡ pick w (laidOn seam Y b) b → a ≡ b
+      go true e = on-inj seam closed Y a b fits h k e
+      go false e = e
+
+  pub one-place : (k : Kind) (t : Bool) (x y x′ y′ : ℕ) → Cell S x y → Cell S x′ y′ →
+      nx S k t x ≡ nx S k t x′ → ny S k t x y ≡ ny S k t x′ y′ → (x ≡ x′) × (y ≡ y′)
+  one-place straight false x y x′ y′ c c′ p q = (p, q)
+  one-place straight true x y x′ y′ c c′ p q =
+      let e : x ≡ x′ = col-inj S x x′ (c .0) (c′ .0) p in
+      (e, step-inj-at (x′ + 1) y y′ (c .1) (c′ .1) (ap (λ (z : ℕ). stepAt S (z + 1) y) (sym e) ∙ q))
+  one-place across false x y x′ y′ c c′ p q = (p, q)
+  one-place across true x y x′ y′ c c′ p q = (p, next-inj S y y′ (c .1) (c′ .1) q)
+  one-place diagonal t x y x′ y′ c c′ p q = (p, q)
+
+  -- ---- the other place of a name
+
+  seam-cases : (seam ≡ unjoined) ⊎ (joined seam ≡ true)
+  seam-cases = go seam refl
+    where
+      go : (m : Seam) → seam ≡ m → (seam ≡ unjoined) ⊎ (joined seam ≡ true)
+      go unjoined e = inl e
+      go (forward o) e = inr (ap joined e)
+      go (reverse o) e = inr (ap joined e)
+
+  closed-cases : (closed ≡ false) ⊎ (closed ≡ true)
+  closed-cases = go closed refl
+    where
+      go : (c : Bool) → closed ≡ c → (closed ≡ false) ⊎ (closed ≡ true)
+      go false e = inl e
+      go true e = inr e
+
+  pub far-col : joined seam ≡ true → colOf S X ≡ 0
+  unfolding colOf
+  far-col j = ap (λ (t : Bool). nf t X X) j ∙ nf-end X
+
+  pub far-step : (y : ℕ) → joined seam ≡ true → stepAt S X y ≡ laidOn seam Y y
+  unfolding stepAt
+  far-step y j = ap (λ (t : Bool). pick t (laidOn seam Y y) y) (ap (λ (t : Bool). both t (eqb X X)) j ∙ eq-eqb X X refl)
+
+  col-unjoined : (x : ℕ) → seam ≡ unjoined → colOf S x ≡ x
+  unfolding colOf
+  col-unjoined x e = ap (λ (m : Seam). nf (joined m) X x) e ∙ nf-open X x
+
+  next-open : (y : ℕ) → closed ≡ false → next S y ≡ y + 1
+  unfolding next
+  next-open y e = ap (λ (c : Bool). nf c Y (y + 1)) e ∙ nf-open Y (y + 1)
+
+  next-below : (y : ℕ) → y + 1 < Y → next S y ≡ y + 1
+  unfolding next
+  next-below y h = nf-below closed Y (y + 1) h
+
+  next-last : (y : ℕ) → closed ≡ true → y + 1 ≡ Y → next S y ≡ 0
+  unfolding next
+  next-last y e h = ap (λ (c : Bool). nf c Y (y + 1)) e ∙ ap (nf true Y) h ∙ nf-end Y
+
+  pub record Mate (k : Kind) (t : Bool) (x y : ℕ) : Type 0 where
+    pub x′ : ℕ
+    pub y′ : ℕ
+    pub cell : Cell S x′ y′
+    pub same-x : nx S k (not t) x′ ≡ nx S k t x
+    pub same-y : ny S k (not t) x′ y′ ≡ ny S k t x y
+
+  pub mate : (k : Kind) (t : Bool) (x y : ℕ) → Cell S x y → RimAt S k t x y ⊎ Mate k t x y
+  mate straight false x y c =
+      ⊎-elim
+      (λ h. inr (record { x′ = x - 1; y′ = y; cell = (omega arith, c .1); same-x = ap (colOf S) (back h) ∙ col-below S x (c .0); same-y = step-below S (x - 1 + 1) y (omega arith) }))
+      (λ h. ⊎-elim
+      (λ j. inl (j, omega arith))
+      (λ j. inr (record { x′ = X - 1; y′ = laidBack seam Y y; cell = (omega arith, back-below seam closed Y y fits (c .1)); same-x = ap (colOf S) top ∙ far-col j ∙ omega arith; same-y = ap (λ (z : ℕ). stepAt S z (laidBack seam Y y)) top ∙ far-step (laidBack seam Y y) j ∙ on-back seam closed Y y fits (c .1) }))
+      seam-cases)
+      (lt-or-le 0 x)
+    where
+      top : X - 1 + 1 ≡ X
+      top = omega arith
+
+      back : 0 < x → x - 1 + 1 ≡ x
+      back h = omega arith
+  mate straight true x y c =
+      ⊎-elim
+      (λ h. inr (found (omega (arith, col-below S (x + 1) h))))
+      (λ h. ⊎-elim
+      (λ j. inl (j, omega arith))
+      (λ j. inr (found (omega (arith, far-col j, ap (colOf S) (last h)))))
+      seam-cases)
+      (lt-or-le (x + 1) X)
+    where
+      last : X ≤ x + 1 → x + 1 ≡ X
+      last h = omega arith
+
+      found : colOf S (x + 1) < X → Mate straight true x y
+      found h = record { x′ = colOf S (x + 1); y′ = stepAt S (x + 1) y; cell = (h, stepAt-lt S (x + 1) y (c .1)); same-x = refl; same-y = refl }
+  mate across false x y c =
+      ⊎-elim
+      (λ h. inr (record { x′ = x; y′ = y - 1; cell = (c .0, omega arith); same-x = refl; same-y = next-below (y - 1) (omega arith) ∙ omega arith }))
+      (λ h. ⊎-elim
+      (λ j. inl (j, omega arith))
+      (λ j. inr (record { x′ = x; y′ = Y - 1; cell = (c .0, omega arith); same-x = refl; same-y = next-last (Y - 1) j (omega arith) ∙ omega arith }))
+      closed-cases)
+      (lt-or-le 0 y)
+  mate across true x y c =
+      ⊎-elim
+      (λ h. inr (found (omega (arith, next-below y h))))
+      (λ h. ⊎-elim
+      (λ j. inl (j, omega arith))
+      (λ j. inr (found (omega (arith, next-last y j (omega arith)))))
+      closed-cases)
+      (lt-or-le (y + 1) Y)
+    where
+      found : next S y < Y → Mate across true x y
+      found h = record { x′ = x; y′ = next S y; cell = (c .0, h); same-x = refl; same-y = refl }
+  mate diagonal t x y c = inr (record { x′ = x; y′ = y; cell = c; same-x = refl; same-y = refl })
+
+  -- a side on the rim has no other place
+  pub rim-alone : (k : Kind) (t : Bool) (x y x′ y′ : ℕ) → Cell S x′ y′ → RimAt S k t x y →
+      nx S k (not t) x′ ≡ nx S k t x → ny S k (not t) x′ y′ ≡ ny S k t x y → ⊥
+  rim-alone straight false x y x′ y′ c r p q = omega (arith, col-unjoined (x′ + 1) (r .0))
+  rim-alone straight true x y x′ y′ c r p q = omega (arith, col-unjoined (x + 1) (r .0))
+  rim-alone across false x y x′ y′ c r p q = omega (arith, next-open y′ (r .0))
+  rim-alone across true x y x′ y′ c r p q = omega (arith, next-open y (r .0))
+  rim-alone diagonal t x y x′ y′ c r p q = r
+
+  -- the two places of a name that is no diagonal are in different cells
+  pub mate-apart : (k : Kind) (t : Bool) (x y : ℕ) → Cell S x y → (k ≡ diagonal → ⊥) →
+      nx S k (not t) x ≡ nx S k t x → ny S k (not t) x y ≡ ny S k t x y → ⊥
+  mate-apart straight false x y c n p q = col-ne S x (c .0) p
+  mate-apart straight true x y c n p q = col-ne S x (c .0) (sym p)
+  mate-apart across false x y c n p q = next-ne S y (c .1) q
+  mate-apart across true x y c n p q = next-ne S y (c .1) (sym q)
+  mate-apart diagonal t x y c n p q = n refl
