@@ -6,7 +6,7 @@ use vector::Vector;
 ghost use mathlib.Core.Path.{_≡_};
 ghost use Prim.Native.Nat.{_+_, _*_, _≤_};
 ghost use lib.ListN.{length};
-ghost use Rattle.grid.specs.Grid.{pointNumber, pointAt, coordinatesFit, shapeCheck, gridCheck};
+ghost use Rattle.grid.specs.Grid.{pointNumber, pointAt, stepsFit, coordinatesFit, shapeCheck, gridCheck};
 
 // M and N are at most this.
 pub const MAX_STEPS: usize = 255;
@@ -48,11 +48,18 @@ pub fn coordinates_fit(points: &[f64]) -> bool
     true
 }
 
+// Whether M and N are from 1 to 255.
+fn steps_fit(m: usize, n: usize) -> bool
+    ensures { λ r. ⌜ r ≡ stepsFit m n ⌝ }
+{
+    ((1 <= m) & (m <= MAX_STEPS)) & ((1 <= n) & (n <= MAX_STEPS))
+}
+
 // Refusals 1 and 2: the steps, and the length that goes with them.
 pub fn check_shape(grid: &[f64], m: usize, n: usize) -> Check
     ensures { λ r. ⌜ r ≡ shapeCheck (now (grid .entry)) m n ⌝ }
 {
-    if m < 1 || MAX_STEPS < m || n < 1 || MAX_STEPS < n {
+    if !steps_fit(m, n) {
         return Check::Failed(Refusal::Steps);
     }
     if grid.len() != 3 * ((m + 1) * (n + 1)) {
