@@ -1,0 +1,9 @@
+// Triangles and flipped pairs of a grid, from the seams that are found in it.
+use cyclic::seam::SeamSearch;
+use refusal::Refusal;
+
+// Both seams with their comparisons, the count of triangles and the count of flipped pairs.
+pub enum Triangulation {
+    Triangulated(SeamSearch, SeamSearch, usize, usize),
+    Refused(Refusal),
+}
