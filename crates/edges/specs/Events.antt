@@ -1,0 +1,175 @@
+-- Events (01, "An event is a lambda and the side it falls on: U(u), V(v) or Diagonal(u,v)"). `sorted_edge_events` "fixes the candidates and their order: end
+-- events first, then U, V, diagonals; a stable sort by IEEE 754 totalOrder, so −0 precedes +0; an event closer than EPS to the last one kept is dropped". Assumes nothing.
+use mathlib.Core.Bool.{Bool, true, false, _&&_}
+use mathlib.Core.List.{List, [], _∷_, _++_}
+use Prim.Native.Nat.{ℕ, zero, suc, _+_, _-_, _*_, _/_, _%_, min, max}
+use lib.IntN.{ℤ, pos, negsuc}
+use lib.Dec.{ltb}
+use lib.Ieee.{Float, binary64, lt, add, sub, div}
+use Rattle.float.specs.Consts.{eps, zero64, one64}
+use Rattle.float.specs.Sign.{absolute}
+use Rattle.float.specs.Order.{totalOrder}
+use Rattle.float.specs.declared.order.Ordering.{Ordering}
+use Rattle.float.specs.declared.order.Ordering.the-variants.{Less, Equal, Greater}
+use Rattle.float.specs.Whole.{floorZ, ceilZ}
+use Rattle.float.specs.Cast.{natFloat, count}
+use Rattle.edges.specs.declared.point.ParamPoint.{ParamPoint}
+use Rattle.edges.specs.declared.point.WholeStep.{WholeStep}
+use Rattle.edges.specs.declared.point.WholeStep.the-variants.{Step, Between}
+use Rattle.edges.specs.declared.cell.DiagonalCell.{DiagonalCell}
+use Rattle.edges.specs.declared.cell.DiagonalCell.the-variants.{Cell, NoCell}
+use Rattle.edges.specs.declared.event.ParamEdge.{ParamEdge}
+use Rattle.edges.specs.declared.event.ParamEdge.the-variants.{U, «V», Diagonal}
+use Rattle.edges.specs.declared.event.EdgeEvent.{EdgeEvent}
+use Rattle.edges.specs.declared.event.EdgeAtPoint.{EdgeAtPoint}
+use Rattle.edges.specs.declared.event.EdgeAtPoint.the-variants.{Edge, NoEdge}
+use Rattle.edges.specs.declared.event.NormalizedLambda.{NormalizedLambda}
+use Rattle.edges.specs.declared.event.NormalizedLambda.the-variants.{Lambda, Outside}
+use Rattle.edges.specs.declared.event.Candidate.{Candidate}
+use Rattle.edges.specs.declared.event.Candidate.the-variants.{Event, NoEvent}
+use Rattle.edges.specs.Param.{pick, lerp, within, paramInBounds, integerStep, normalizeLambda}
+use Rattle.edges.specs.Cell.{diagonalCellAt}
+
+abbrev pub event : Float → ParamEdge → EdgeEvent
+event l e = record { lambda = l; edge = e }
+
+-- ---- the side at a point (`edge_at_point`): a U line, else a V line, else a diagonal
+
+abbrev pub diagonalAt : DiagonalCell → EdgeAtPoint
+diagonalAt (Cell u v) = Edge (Diagonal u v)
+diagonalAt NoCell = NoEdge
+
+abbrev pub orV : WholeStep → EdgeAtPoint → EdgeAtPoint
+orV (Step v) e = Edge («V» v)
+orV Between e = e
+
+abbrev pub orU : WholeStep → EdgeAtPoint → EdgeAtPoint
+orU (Step u) e = Edge (U u)
+orU Between e = e
+
+unfoldable pub edgeAtPoint : ℕ → ℕ → ParamPoint → EdgeAtPoint
+edgeAtPoint m n p =
+    pick (paramInBounds m n p)
+    (orU (integerStep (p .u) m) (orV (integerStep (p .v) n) (diagonalAt (diagonalCellAt m n p))))
+    NoEdge
+
+-- ---- candidates of the step from a to b
+
+abbrev pub endCandidate : Float → EdgeAtPoint → Candidate
+endCandidate l (Edge e) = Event (event l e)
+endCandidate l NoEdge = NoEvent
+
+-- where a line at `step` of an axis is crossed, that axis going from x by dx
+abbrev pub lambdaAt : ℕ → Float → Float → NormalizedLambda
+lambdaAt step x dx = normalizeLambda (div binary64 (sub binary64 (natFloat step) x) dx)
+
+-- U(u), where the crossing is within EPS of the grid in v
+unfoldable pub uAt : ℕ → ParamPoint → ParamPoint → ℕ → NormalizedLambda → Candidate
+uAt n a b u Outside = NoEvent
+uAt n a b u (Lambda l) = pick (within (lerp a b l .v) (natFloat n)) (Event (event l (U u))) NoEvent
+
+-- V(v) alike in u
+unfoldable pub vAt : ℕ → ParamPoint → ParamPoint → ℕ → NormalizedLambda → Candidate
+vAt m a b v Outside = NoEvent
+vAt m a b v (Lambda l) = pick (within (lerp a b l .u) (natFloat m)) (Event (event l («V» v))) NoEvent
+
+abbrev pub diagonalEvent : Float → DiagonalCell → Candidate
+diagonalEvent l (Cell u v) = Event (event l (Diagonal u v))
+diagonalEvent l NoCell = NoEvent
+
+-- a diagonal, where the crossing is in bounds and a cell's diagonal is there
+unfoldable pub diagonalCrossing : ℕ → ℕ → ParamPoint → ParamPoint → NormalizedLambda → Candidate
+diagonalCrossing m n a b Outside = NoEvent
+diagonalCrossing m n a b (Lambda l) =
+    pick (paramInBounds m n (lerp a b l)) (diagonalEvent l (diagonalCellAt m n (lerp a b l))) NoEvent
+
+abbrev pub uCandidate : ℕ → ParamPoint → ParamPoint → ℕ → Candidate
+uCandidate n a b u = uAt n a b u (lambdaAt u (a .u) (sub binary64 (b .u) (a .u)))
+
+abbrev pub vCandidate : ℕ → ParamPoint → ParamPoint → ℕ → Candidate
+vCandidate m a b v = vAt m a b v (lambdaAt v (a .v) (sub binary64 (b .v) (a .v)))
+
+-- u + v along the step: where it starts, where it ends, and by how much it changes
+abbrev pub sumOf : ParamPoint → Float
+sumOf p = add binary64 (p .u) (p .v)
+
+abbrev pub changeOfSum : ParamPoint → ParamPoint → Float
+changeOfSum a b = add binary64 (sub binary64 (b .u) (a .u)) (sub binary64 (b .v) (a .v))
+
+abbrev pub diagonalCandidate : ℕ → ℕ → ParamPoint → ParamPoint → ℕ → Candidate
+diagonalCandidate m n a b sum = diagonalCrossing m n a b (lambdaAt sum (sumOf a) (changeOfSum a b))
+
+-- ---- their order
+
+-- an axis is tried if it changes by more than EPS
+abbrev pub moves : Float → Bool
+moves d = lt eps (absolute d)
+
+abbrev pub listed : Candidate → List EdgeEvent → List EdgeEvent
+listed (Event e) es = e ∷ es
+listed NoEvent es = es
+
+-- k candidates from number i on
+unfoldable pub listFrom : (ℕ → Candidate) → ℕ → ℕ → List EdgeEvent
+listFrom f zero i = []
+listFrom f (suc k) i = listed (f i) (listFrom f k (i + 1))
+
+-- the smaller and the larger of two sums
+abbrev pub lowSum : ParamPoint → ParamPoint → Float
+lowSum a b = pick (lt (sumOf b) (sumOf a)) (sumOf b) (sumOf a)
+
+abbrev pub highSum : ParamPoint → ParamPoint → Float
+highSum a b = pick (lt (sumOf a) (sumOf b)) (sumOf b) (sumOf a)
+
+-- whole sums from the ceiling of the smaller to the floor of the larger; those outside 1 to M+N−1 are skipped
+abbrev pub firstSum : ParamPoint → ParamPoint → ℕ
+firstSum a b = max 1 (count (ceilZ (lowSum a b)))
+
+abbrev pub pastSum : ℕ → ℕ → ParamPoint → ParamPoint → ℕ
+pastSum m n a b = min (m + n) (count (floorZ (highSum a b)) + 1)
+
+unfoldable pub ends : ℕ → ℕ → ParamPoint → ParamPoint → List EdgeEvent
+ends m n a b = listed (endCandidate zero64 (edgeAtPoint m n a)) (listed (endCandidate one64 (edgeAtPoint m n b)) [])
+
+unfoldable pub us : ℕ → ℕ → ParamPoint → ParamPoint → List EdgeEvent
+us m n a b = pick (moves (sub binary64 (b .u) (a .u))) (listFrom (uCandidate n a b) (m + 1) 0) []
+
+unfoldable pub vs : ℕ → ℕ → ParamPoint → ParamPoint → List EdgeEvent
+vs m n a b = pick (moves (sub binary64 (b .v) (a .v))) (listFrom (vCandidate m a b) (n + 1) 0) []
+
+unfoldable pub diagonals : ℕ → ℕ → ParamPoint → ParamPoint → List EdgeEvent
+diagonals m n a b =
+    pick (moves (changeOfSum a b)) (listFrom (diagonalCandidate m n a b) (pastSum m n a b - firstSum a b) (firstSum a b)) []
+
+-- "the candidates and their order: end events first, then U, V, diagonals"
+unfoldable pub candidates : ℕ → ℕ → ParamPoint → ParamPoint → List EdgeEvent
+candidates m n a b = ends m n a b ++ (us m n a b ++ (vs m n a b ++ diagonals m n a b))
+
+-- "a stable sort by IEEE 754 totalOrder": each event in turn goes before the first that it precedes, so after its equals
+abbrev pub precedes : Ordering → Bool
+precedes Less = true
+precedes Equal = false
+precedes Greater = false
+
+unfoldable pub insert : EdgeEvent → List EdgeEvent → List EdgeEvent
+insert e [] = e ∷ []
+insert e (x ∷ xs) = pick (precedes (totalOrder (e .lambda) (x .lambda))) (e ∷ (x ∷ xs)) (x ∷ insert e xs)
+
+unfoldable pub sortInto : List EdgeEvent → List EdgeEvent → List EdgeEvent
+sortInto [] sorted = sorted
+sortInto (e ∷ es) sorted = sortInto es (insert e sorted)
+
+-- "an event closer than EPS to the last one kept is dropped"
+abbrev pub closeBy : Float → Float → Bool
+closeBy kept l = lt (absolute (sub binary64 kept l)) eps
+
+unfoldable pub uniqueAfter : Float → List EdgeEvent → List EdgeEvent
+uniqueAfter kept [] = []
+uniqueAfter kept (e ∷ es) = pick (closeBy kept (e .lambda)) (uniqueAfter kept es) (e ∷ uniqueAfter (e .lambda) es)
+
+unfoldable pub unique : List EdgeEvent → List EdgeEvent
+unique [] = []
+unique (e ∷ es) = e ∷ uniqueAfter (e .lambda) es
+
+unfoldable pub sortedEdgeEvents : ℕ → ℕ → ParamPoint → ParamPoint → List EdgeEvent
+sortedEdgeEvents m n a b = unique (sortInto (candidates m n a b) [])

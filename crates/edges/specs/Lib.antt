@@ -1,0 +1,5 @@
+-- The definitions that the contracts of this crate cite.
+pub mod Param
+pub mod Cell
+pub mod Events
+pub mod Table

@@ -1,0 +1,1 @@
+-- 01's starred results on events, by computation. Assumes nothing.
