@@ -1,0 +1,8 @@
+-- The definitions that the contracts of this crate cite.
+pub mod Crossing
+pub mod Walk
+pub mod Drawing
+pub mod Trace
+pub mod Page
+pub mod Demand
+pub mod Table

@@ -1,0 +1,3 @@
+// Pen lines traced across the cells of a grid.
+pub mod crossing;
+pub mod page;
