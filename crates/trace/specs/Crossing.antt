@@ -2,7 +2,7 @@
 -- Diagonal takes p at (u+1,v), q at (u,v+1)." References: `step_index`, `edge_point`. Assumes nothing.
 use mathlib.Core.Bool.{Bool, true, false, _||_, cond}
 use mathlib.Core.List.{List}
-use Prim.Native.Nat.{ℕ, _+_, _-_}
+use Prim.Native.Nat.{ℕ, _+_, _-_, _≤_, _<_}
 use lib.Dec.{eqb}
 use lib.Ieee.{Float, binary64, neg, lt, add, sub}
 use Rattle.float.specs.Consts.{eps, zero64, one64}
@@ -71,3 +71,10 @@ unfoldable pub edgePoint : List Float → ℕ → ℕ → ParamEdge → ParamPoi
 edgePoint g m n (U u) x = onU g n u (stepIndex (x .v) n)
 edgePoint g m n («V» v) x = onV g n v (stepIndex (x .u) m)
 edgePoint g m n (Diagonal u v) x = onDiagonal g n u v (x .v)
+
+-- ---- the sides that the grid has
+
+abbrev pub EdgeInside : ℕ → ℕ → ParamEdge → Type 0
+EdgeInside m n (U u) = u ≤ m
+EdgeInside m n («V» v) = v ≤ n
+EdgeInside m n (Diagonal u v) = (u < m) × (v < n)
