@@ -1,3 +1,6 @@
--- Laws that the functions' proofs share.
+-- Laws that belong to no one function.
 pub mod Steps
 pub mod Edges
+pub mod Related
+pub mod Turns
+pub mod Agree

@@ -1,7 +1,7 @@
 -- The trace of flat samples: its refusals, its answer, and what it leaves in the four lent lists (01, "A trace across the cells", "Who sends the caller back"). Assumes nothing.
 use mathlib.Core.Path.{_≡_}
 use mathlib.Core.Bool.{Bool, true, false, _&&_, _||_}
-use mathlib.Core.List.{List, [], _∷_}
+use mathlib.Core.List.{List, [], _∷_, _++_}
 use Prim.Native.Nat.{ℕ, _*_}
 use lib.Dec.{eqb, leb}
 use lib.ListN.{length}
@@ -60,18 +60,20 @@ abbrev pub statedTrace : Trace → Answer Counts
 statedTrace (Drawn p l) = ok (record { points = p; lines = l })
 statedTrace (Refused k) = refused (numberOf k)
 
--- three f64 a point, two point numbers a side, one fraction
-unfoldable pub coordinates : List Crossing → List Float
-coordinates [] = []
-coordinates (c ∷ cs) = c .point .x ∷ c .point .y ∷ c .point .z ∷ coordinates cs
+-- what a point puts into each list: "A point takes three f64 and a side two point numbers", and its fraction one
+abbrev pub pointOf : Crossing → List Float
+pointOf c = c .point .x ∷ c .point .y ∷ c .point .z ∷ []
 
-unfoldable pub sideNumbers : List Crossing → List ℕ
-sideNumbers [] = []
-sideNumbers (c ∷ cs) = c .p ∷ c .q ∷ sideNumbers cs
+abbrev pub sideOf : Crossing → List ℕ
+sideOf c = c .p ∷ c .q ∷ []
 
-unfoldable pub fractionsOf : List Crossing → List Float
-fractionsOf [] = []
-fractionsOf (c ∷ cs) = c .t ∷ fractionsOf cs
+abbrev pub fractionOf : Crossing → List Float
+fractionOf c = c .t ∷ []
+
+-- the points one after another
+unfoldable pub inTurn : {A : Type 0} → (Crossing → List A) → List Crossing → List A
+inTurn f [] = []
+inTurn f (c ∷ cs) = f c ++ inTurn f cs
 
 -- the four lent lists
 pub record Lists : Type 0 where
@@ -86,8 +88,8 @@ lists p s d f = record { points = p; starts = s; sides = d; fractions = f }
 -- the lists after these points and starts: zero past them
 abbrev pub listsWith : List Crossing → List ℕ → Lists → Lists
 listsWith cs ss l =
-    lists (filled zeroFloat (coordinates cs) (l .points)) (filled 0 ss (l .starts)) (filled 0 (sideNumbers cs) (l .sides))
-    (filled zeroFloat (fractionsOf cs) (l .fractions))
+    lists (filled zeroFloat (inTurn pointOf cs) (l .points)) (filled 0 ss (l .starts)) (filled 0 (inTurn sideOf cs) (l .sides))
+    (filled zeroFloat (inTurn fractionOf cs) (l .fractions))
 
 -- an answer and the four lists after a call
 pub record Traced : Type 0 where

@@ -1,0 +1,114 @@
+-- Two walks over the same samples stay related, where each push and each flush keeps their states related: the walk does nothing else to a state. Assumes nothing.
+use mathlib.Core.Path.{_≡_, refl, sym}
+use mathlib.Core.Bool.{Bool, true, false, _||_, true≢false}
+use mathlib.Core.List.{List, [], _∷_}
+use Prim.Native.Nat.{ℕ}
+use lib.Dec.{eqb}
+use lib.Ieee.{Float}
+use Rattle.float.specs.Consts.{zero64}
+use Rattle.refusal.specs.declared.Refusal.{Refusal}
+use Rattle.edges.specs.Param.{pick, lerp, paramInBounds}
+use Rattle.edges.specs.Events.{sortedEdgeEvents}
+use Rattle.edges.specs.declared.point.ParamPoint.{ParamPoint}
+use Rattle.edges.specs.declared.event.ParamEdge.{ParamEdge}
+use Rattle.edges.specs.declared.event.EdgeEvent.{EdgeEvent}
+use Rattle.trace.specs.declared.crossing.Crossing.{Crossing}
+use Rattle.trace.specs.declared.crossing.EdgePoint.{EdgePoint}
+use Rattle.trace.specs.declared.crossing.EdgePoint.the-variants.{On, NoStep}
+use Rattle.trace.specs.declared.page.Previous.{Previous}
+use Rattle.trace.specs.declared.page.Previous.the-variants.{At, Nowhere}
+use Rattle.trace.specs.Crossing.{edgePoint}
+use Rattle.trace.specs.Walk.{Step, on, off, follow, Sample, afterSample, beforeInside, afterInside, nextLambda, pushed, flushUnless, crossed, crossings, appendEdgeCrossings, paired, sampled, traced}
+
+-- both walks go on in related states, or both end by one refusal, the first in a state of which Q holds
+pub data Related {S T : Type 0} (R : S → T → Type 0) (Q : S → Type 0) : Step S → Step T → Type 0 where
+  both-on : {s : S} {t : T} → R s t → Related R Q (on s) (on t)
+  both-off : {k : Refusal} {s : S} {t : T} → Q s → Related R Q (off k s) (off k t)
+
+module _ {S T : Type 0} {R : S → T → Type 0} {Q : S → Type 0} where
+  pub follow-related : {x : Step S} {y : Step T} (f : S → Step S) (h : T → Step T) → Related R Q x y
+      → ((s : S) (t : T) → R s t → Related R Q (f s) (h t)) → Related R Q (follow x f) (follow y h)
+  follow-related f h (both-on {s} {t} r) k = k s t r
+  follow-related f h (both-off q) k = both-off q
+
+  pub pick-related : (b : Bool) {x x′ : Step S} {y y′ : Step T} → Related R Q x y → Related R Q x′ y′ → Related R Q (pick b x x′) (pick b y y′)
+  pick-related true p q = p
+  pick-related false p q = q
+
+  -- two tests that agree
+  pub test-related : (a b : Bool) {x x′ : Step S} {y y′ : Step T} → a ≡ b → (b ≡ true → Related R Q x y) → (b ≡ false → Related R Q x′ y′) → Related R Q (pick a x x′) (pick b y y′)
+  test-related true true e p q = p refl
+  test-related false false e p q = q refl
+  test-related true false e p q = absurd (true≢false e)
+  test-related false true e p q = absurd (true≢false (sym e))
+
+-- each event's points on its side are good
+abbrev pub GoodEdge : List Float → ℕ → ℕ → (Crossing → Type 0) → ParamEdge → Type 0
+GoodEdge g m n Good e = (x : ParamPoint) (c : Crossing) → edgePoint g m n e x ≡ On c → Good c
+
+abbrev pub GoodEvents : List Float → ℕ → ℕ → (Crossing → Type 0) → List EdgeEvent → Type 0
+GoodEvents g m n Good [] = Unit {0}
+GoodEvents g m n Good (e ∷ es) = GoodEdge g m n Good (e .edge) × GoodEvents g m n Good es
+
+module _ {S T : Type 0} (R : S → T → Type 0) (Q : S → Type 0) (Good : Crossing → Type 0)
+    (push : Crossing → S → Step S) (flush : S → Step S) (push′ : Crossing → T → Step T) (flush′ : T → Step T)
+    (refusable : (s : S) (t : T) → R s t → Q s)
+    (pushes : (c : Crossing) → Good c → (s : S) (t : T) → R s t → Related R Q (push c s) (push′ c t))
+    (flushes : (s : S) (t : T) → R s t → Related R Q (flush s) (flush′ t))
+    (g : List Float) (m n : ℕ)
+    (events : (a b : ParamPoint) → GoodEvents g m n Good (sortedEdgeEvents m n a b))
+  where
+    abbrev Rel : Step S → Step T → Type 0
+    Rel = Related R Q
+
+    pushed-related : (e : EdgePoint) → ((c : Crossing) → e ≡ On c → Good c) → (s : S) (t : T) → R s t → Rel (pushed push flush g m n e s) (pushed push′ flush′ g m n e t)
+    pushed-related (On c) good s t r = pushes c (good c refl) s t r
+    pushed-related NoStep good s t r = both-off (refusable s t r)
+
+    unless-related : (b : Bool) (s : S) (t : T) → R s t → Rel (flushUnless push flush g m n b s) (flushUnless push′ flush′ g m n b t)
+    unless-related true s t r = both-on r
+    unless-related false s t r = flushes s t r
+
+    crossed-related : (a b : ParamPoint) (previous : Float) (e : EdgeEvent) (next : Float) → GoodEdge g m n Good (e .edge) → (s : S) (t : T) → R s t
+        → Rel (crossed push flush g m n a b previous e next s) (crossed push′ flush′ g m n a b previous e next t)
+    unfolding crossed
+    crossed-related a b previous e next good s t r =
+        let before = beforeInside m n a b previous (e .lambda) in
+        let after = afterInside m n a b (e .lambda) next in
+        let x = lerp a b (e .lambda) in
+        follow-related (flushUnless push flush g m n after) (flushUnless push′ flush′ g m n after)
+        (pick-related (before || after) (pushed-related (edgePoint g m n (e .edge) x) (good x) s t r) (both-on r))
+        (unless-related after)
+
+    crossings-related : (a b : ParamPoint) (previous : Float) (es : List EdgeEvent) → GoodEvents g m n Good es → (s : S) (t : T) → R s t
+        → Rel (crossings push flush g m n a b previous es s) (crossings push′ flush′ g m n a b previous es t)
+    unfolding crossings
+    crossings-related a b previous [] good s t r = both-on r
+    crossings-related a b previous (e ∷ es) good s t r =
+        follow-related (crossings push flush g m n a b (e .lambda) es) (crossings push′ flush′ g m n a b (e .lambda) es)
+        (crossed-related a b previous e (nextLambda es) (good .0) s t r)
+        (crossings-related a b (e .lambda) es (good .1))
+
+    append-related : (a b : ParamPoint) (s : S) (t : T) → R s t → Rel (appendEdgeCrossings push flush g m n a b s) (appendEdgeCrossings push′ flush′ g m n a b t)
+    unfolding appendEdgeCrossings
+    append-related a b s t r =
+        follow-related (flushUnless push flush g m n (paramInBounds m n b)) (flushUnless push′ flush′ g m n (paramInBounds m n b))
+        (crossings-related a b zero64 (sortedEdgeEvents m n a b) (events a b) s t r)
+        (unless-related (paramInBounds m n b))
+
+    paired-related : (p : Previous) (b : ParamPoint) (s : S) (t : T) → R s t → Rel (paired push flush g m n p b s) (paired push′ flush′ g m n p b t)
+    paired-related (At a) b s t r = append-related a b s t r
+    paired-related Nowhere b s t r = both-on r
+
+    sampled-related : (p : Previous) (x : Sample) (s : S) (t : T) → R s t → Rel (sampled push flush g m n p x s) (sampled push′ flush′ g m n p x t)
+    unfolding sampled
+    sampled-related p x s t r = pick-related (eqb (x .mark) 0) (flushes s t r) (paired-related p (x .point) s t r)
+
+    -- the whole trace
+    pub traced-related : (xs : List Sample) (p : Previous) (s : S) (t : T) → R s t → Rel (traced push flush g m n xs p s) (traced push′ flush′ g m n xs p t)
+    unfolding traced
+    traced-related [] p s t r = flushes s t r
+    traced-related (x ∷ xs) p s t r =
+        follow-related (traced push flush g m n xs (afterSample x)) (traced push′ flush′ g m n xs (afterSample x))
+        (sampled-related p x s t r)
+        (traced-related xs (afterSample x))

@@ -1,0 +1,71 @@
+-- Points one after another in a list, w places each: the front of the list is unmoved by a drop, and grows by one point with a write. Over the width w. Assumes nothing.
+use mathlib.Core.Path.{_≡_, refl, sym, ap, _∙_, subst}
+use mathlib.Core.List.{List, [], _∷_, _++_, append-assoc, append-nil}
+use Prim.Native.Nat.{ℕ, zero, suc, _+_, _-_, _*_, _≤_, _<_}
+use native.Mathlib.Nat.{mul-suc, mul-zero, mul-le-mul-left}
+use native.Mathlib.Numerals.{add-one}
+use native.Mathlib.Omega.{arith}
+use lib.ListN.{length, take, drop, getD, set, length-append, length-take, length-set}
+use lib.Seq.{take-at, take-take, take-append-seam, sets, sets-eq, length-sets, getD-take, getD-append-add}
+use Rattle.trace.specs.declared.crossing.Crossing.{Crossing}
+use Rattle.trace.specs.Trace.{inTurn}
+
+-- one after another, the first points and then the others
+pub turn-append : {A : Type 0} (f : Crossing → List A) (cs ds : List Crossing) → inTurn f (cs ++ ds) ≡ inTurn f cs ++ inTurn f ds
+unfolding inTurn
+turn-append f [] ds = refl
+turn-append f (c ∷ cs) ds = rw (turn-append f cs ds, append-assoc)
+
+pub turn-one : {A : Type 0} (f : Crossing → List A) (c : Crossing) → inTurn f (c ∷ []) ≡ f c
+unfolding inTurn
+turn-one f c = append-nil (f c)
+
+-- `sets` from a place on, and no further
+pub take-sets : {A : Type 0} (vs l : List A) (i : ℕ) → i + length vs ≤ length l → take (i + length vs) (sets l i vs) ≡ take i l ++ vs
+take-sets vs l i h =
+    ap (take (i + length vs)) (sets-eq vs l i h) ∙ take-at (take i l ++ vs) (drop (i + length vs) l) (i + length vs) front
+  where
+    front : length (take i l ++ vs) ≡ i + length vs
+    front = simp (length-append, length-take) (omega arith)
+
+-- the list's front holds these points, w places each
+abbrev pub Holds : {A : Type 0} → ℕ → (Crossing → List A) → List A → List Crossing → Type 0
+Holds w f l cs = take (w * length cs) l ≡ inTurn f cs
+
+-- the places of one point more
+one-more : (w : ℕ) (cs : List Crossing) (c : Crossing) → w * length (cs ++ (c ∷ [])) ≡ w * length cs + w
+one-more w cs c = rw (length-append, add-one, mul-suc)
+
+module _ {A : Type 0} (w : ℕ) (f : Crossing → List A) (wide : (c : Crossing) → length (f c) ≡ w) where
+  pub length-turn : (cs : List Crossing) → length (inTurn f cs) ≡ w * length cs
+  unfolding inTurn
+  length-turn [] = sym (mul-zero w)
+  length-turn (c ∷ cs) = rw (length-append, wide c, length-turn cs, mul-suc) (omega arith)
+
+  -- so it holds the first of them
+  pub holds-front : (l : List A) (cs ds : List Crossing) → Holds w f l (cs ++ ds) → Holds w f l cs
+  holds-front l cs ds h =
+      let k : w * length cs ≤ w * length (cs ++ ds) = mul-le-mul-left w (simp length-append (omega arith)) in
+      sym (take-take (w * length cs) (w * length (cs ++ ds)) l k)
+      ∙ ap (take (w * length cs)) (h ∙ turn-append f cs ds)
+      ∙ take-at (inTurn f cs) (inTurn f ds) (w * length cs) (length-turn cs)
+
+  last-turn : (cs : List Crossing) (c : Crossing) → inTurn f (cs ++ (c ∷ [])) ≡ inTurn f cs ++ f c
+  last-turn cs c = turn-append f cs (c ∷ []) ∙ ap (λ (x : List A). inTurn f cs ++ x) (turn-one f c)
+
+  -- one point more, written at its place
+  pub holds-more : (l : List A) (cs : List Crossing) (c : Crossing) → w * length cs + w ≤ length l → Holds w f l cs → Holds w f (sets l (w * length cs) (f c)) (cs ++ (c ∷ []))
+  holds-more l cs c r h =
+      ap (λ (k : ℕ). take k (sets l (w * length cs) (f c))) (one-more w cs c ∙ ap (λ (x : ℕ). w * length cs + x) (sym (wide c)))
+      ∙ take-sets (f c) l (w * length cs) (rw (wide c) r)
+      ∙ ap (λ (x : List A). x ++ f c) h
+      ∙ sym (last-turn cs c)
+
+  -- a place of the last point
+  pub last-at : (l : List A) (cs : List Crossing) (c : Crossing) (i : ℕ) (z : A) → i < w → Holds w f l (cs ++ (c ∷ [])) → getD l (w * length cs + i) z ≡ getD (f c) i z
+  last-at l cs c i z k h =
+      let below : w * length cs + i < w * length (cs ++ (c ∷ [])) = rw (one-more w cs c) (omega arith) in
+      sym (getD-take (w * length (cs ++ (c ∷ []))) l (w * length cs + i) z below)
+      ∙ ap (λ (x : List A). getD x (w * length cs + i) z) (h ∙ last-turn cs c)
+      ∙ ap (λ (x : ℕ). getD (inTurn f cs ++ f c) (x + i) z) (sym (length-turn cs))
+      ∙ getD-append-add (inTurn f cs) (f c) i z
