@@ -2,7 +2,6 @@
 //!
 //! The sources are not part of this repository: `build.rs` says where they are looked for. Where they
 //! are absent this crate is empty, and its dependents learn it from `DEP_LARNT_PRESENT`.
-#![cfg_attr(not(larnt), allow(missing_docs))]
 #![cfg(larnt)]
 
 mod parametric;
