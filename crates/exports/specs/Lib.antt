@@ -1,0 +1,3 @@
+-- How the answers of open calls cross the C boundary.
+pub mod Floats
+pub mod Vectors

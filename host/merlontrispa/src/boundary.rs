@@ -1,0 +1,26 @@
+//! The functions of `crates/exports`, as C sees them. All `unsafe` of this workspace is here.
+//!
+//! A `safe fn` takes and hands back numbers only, so that no argument can break it. A function that
+//! takes a slice takes its pointer and its length, and has its safe form below the declarations.
+
+use crate::Vector;
+
+unsafe extern "C" {
+    pub safe fn mt_abs(x: f64) -> f64;
+    pub safe fn mt_is_finite(x: f64) -> bool;
+    pub safe fn mt_at_most(x: f64, top: f64) -> bool;
+    pub safe fn mt_max(x: f64, y: f64) -> f64;
+    pub safe fn mt_clamp(x: f64, lo: f64, hi: f64) -> f64;
+    pub safe fn mt_total_cmp(x: f64, y: f64) -> i32;
+    pub safe fn mt_floor_i64(x: f64) -> i64;
+    pub safe fn mt_ceil_i64(x: f64) -> i64;
+    pub safe fn mt_round(x: f64) -> f64;
+    pub safe fn mt_ceil(x: f64) -> f64;
+    pub safe fn mt_to_usize(x: f64) -> usize;
+    pub safe fn mt_to_f64(n: usize) -> f64;
+
+    pub safe fn mt_vector_add(ax: f64, ay: f64, az: f64, bx: f64, by: f64, bz: f64) -> Vector;
+    pub safe fn mt_vector_sub(ax: f64, ay: f64, az: f64, bx: f64, by: f64, bz: f64) -> Vector;
+    pub safe fn mt_vector_mul_scalar(ax: f64, ay: f64, az: f64, s: f64) -> Vector;
+    pub safe fn mt_vector_all_close(ax: f64, ay: f64, az: f64, bx: f64, by: f64, bz: f64) -> bool;
+}

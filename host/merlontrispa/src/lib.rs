@@ -1,0 +1,19 @@
+//! Verified surfaces, seams and pen lines: a safe wrapper over the proved static library.
+//!
+//! Every function here is one call of the library, whose meaning is fixed by its contract: the numbers
+//! that it answers are those of the definitions in `crates/*/specs`, to the last bit.
+//!
+//! ```
+//! use merlontrispa::{Vector, float};
+//!
+//! assert_eq!(float::floor_i64(-0.25), -1);
+//! let p = Vector::new(1.0, 2.0, 3.0);
+//! assert!(p.all_close(p.add(Vector::new(1e-10, 0.0, 0.0))));
+//! ```
+
+#[allow(unsafe_code)]
+mod boundary;
+pub mod float;
+mod vector;
+
+pub use vector::Vector;

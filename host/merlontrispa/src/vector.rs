@@ -1,0 +1,42 @@
+use crate::boundary;
+
+/// A point or direction of three f64. The operations round once per component.
+#[repr(C)]
+#[derive(Debug, Clone, Copy, PartialEq, Default)]
+pub struct Vector {
+    /// The x component.
+    pub x: f64,
+    /// The y component.
+    pub y: f64,
+    /// The z component.
+    pub z: f64,
+}
+
+impl Vector {
+    /// A vector of three components.
+    pub fn new(x: f64, y: f64, z: f64) -> Self {
+        Self { x, y, z }
+    }
+
+    /// The sum.
+    #[allow(clippy::should_implement_trait)]
+    pub fn add(self, other: Self) -> Self {
+        boundary::mt_vector_add(self.x, self.y, self.z, other.x, other.y, other.z)
+    }
+
+    /// The difference.
+    #[allow(clippy::should_implement_trait)]
+    pub fn sub(self, other: Self) -> Self {
+        boundary::mt_vector_sub(self.x, self.y, self.z, other.x, other.y, other.z)
+    }
+
+    /// The components times `s`.
+    pub fn mul_scalar(self, s: f64) -> Self {
+        boundary::mt_vector_mul_scalar(self.x, self.y, self.z, s)
+    }
+
+    /// Whether the largest of the three absolute differences is below 10^-9.
+    pub fn all_close(self, other: Self) -> bool {
+        boundary::mt_vector_all_close(self.x, self.y, self.z, other.x, other.y, other.z)
+    }
+}
