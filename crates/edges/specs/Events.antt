@@ -63,15 +63,19 @@ endCandidate l NoEdge = NoEvent
 abbrev pub lambdaAt : ℕ → Float → Float → NormalizedLambda
 lambdaAt step x dx = normalizeLambda (div binary64 (sub binary64 (natFloat step) x) dx)
 
+-- an event on a line of so many steps, where it is within EPS of the line
+abbrev pub onLine : Float → ℕ → EdgeEvent → Candidate
+onLine x steps e = pick (within x (natFloat steps)) (Event e) NoEvent
+
 -- U(u), where the crossing is within EPS of the grid in v
 unfoldable pub uAt : ℕ → ParamPoint → ParamPoint → ℕ → NormalizedLambda → Candidate
 uAt n a b u Outside = NoEvent
-uAt n a b u (Lambda l) = pick (within (lerp a b l .v) (natFloat n)) (Event (event l (U u))) NoEvent
+uAt n a b u (Lambda l) = onLine (lerp a b l .v) n (event l (U u))
 
 -- V(v) alike in u
 unfoldable pub vAt : ℕ → ParamPoint → ParamPoint → ℕ → NormalizedLambda → Candidate
 vAt m a b v Outside = NoEvent
-vAt m a b v (Lambda l) = pick (within (lerp a b l .u) (natFloat m)) (Event (event l («V» v))) NoEvent
+vAt m a b v (Lambda l) = onLine (lerp a b l .u) m (event l («V» v))
 
 abbrev pub diagonalEvent : Float → DiagonalCell → Candidate
 diagonalEvent l (Cell u v) = Event (event l (Diagonal u v))

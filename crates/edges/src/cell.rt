@@ -1,4 +1,13 @@
 // The cell on whose diagonal a point lies.
+use crate::point::ParamPoint;
+use crate::point::is_within;
+use float::cast::to_f64;
+use float::consts::EPS;
+use float::sign::abs;
+use float::whole::floor_i64;
+ghost use mathlib.Core.Path.{_≡_};
+ghost use lib.IntN.{pos, _-ℤ_};
+ghost use Rattle.edges.specs.Cell.{indexOf, onDiagonal, tryCell, orCell, diagonalCellAt};
 
 // A whole number as an index below a count.
 pub enum CellIndex {
@@ -9,4 +18,82 @@ pub enum CellIndex {
 pub enum DiagonalCell {
     Cell(usize, usize),
     NoCell,
+}
+
+// z as an index below n.
+fn index_of(z: i64, n: usize) -> CellIndex
+    ensures { λ r. ⌜ r ≡ indexOf z n ⌝ }
+{
+    if z >= 0 {
+        let k = z as usize;
+        if k < n {
+            return CellIndex::Index(k);
+        }
+    }
+    CellIndex::Outside
+}
+
+// z - 1 as an index below n. It is not formed where it would wrap.
+fn index_before(z: i64, n: usize) -> CellIndex
+    ensures { λ r. ⌜ r ≡ indexOf (z -ℤ pos 1) n ⌝ }
+{
+    if z >= 1 {
+        index_of(z - 1, n)
+    } else {
+        CellIndex::Outside
+    }
+}
+
+fn on_diagonal(point: ParamPoint, u: usize, v: usize) -> bool
+    ensures { λ r. ⌜ r ≡ onDiagonal point u v ⌝ }
+{
+    let s = point.u - to_f64(u);
+    let t = point.v - to_f64(v);
+    is_within(s, 1.0) & (is_within(t, 1.0) & (abs(s + t - 1.0) < EPS))
+}
+
+// The cell of two indices, where the point is on its diagonal.
+fn try_cell(point: ParamPoint, i: CellIndex, j: CellIndex) -> DiagonalCell
+    ensures { λ r. ⌜ r ≡ tryCell point i j ⌝ }
+{
+    match i {
+        CellIndex::Index(u) => match j {
+            CellIndex::Index(v) => {
+                if on_diagonal(point, u, v) {
+                    DiagonalCell::Cell(u, v)
+                } else {
+                    DiagonalCell::NoCell
+                }
+            }
+            CellIndex::Outside => DiagonalCell::NoCell,
+        },
+        CellIndex::Outside => DiagonalCell::NoCell,
+    }
+}
+
+fn or_cell(a: DiagonalCell, b: DiagonalCell) -> DiagonalCell
+    ensures { λ r. ⌜ r ≡ orCell a b ⌝ }
+{
+    match a {
+        DiagonalCell::Cell(u, v) => DiagonalCell::Cell(u, v),
+        DiagonalCell::NoCell => b,
+    }
+}
+
+// Of the cell of the point's floors and the three before it, the first on whose diagonal the
+// point lies: u - 1 before u, and for each v - 1 before v.
+pub fn diagonal_cell_at(m: usize, n: usize, point: ParamPoint) -> DiagonalCell
+    ensures { λ r. ⌜ r ≡ diagonalCellAt m n point ⌝ }
+{
+    let u_floor = floor_i64(point.u);
+    let v_floor = floor_i64(point.v);
+    let u0 = index_before(u_floor, m);
+    let u1 = index_of(u_floor, m);
+    let v0 = index_before(v_floor, n);
+    let v1 = index_of(v_floor, n);
+    let a = try_cell(point, u0, v0);
+    let b = try_cell(point, u0, v1);
+    let c = try_cell(point, u1, v0);
+    let d = try_cell(point, u1, v1);
+    or_cell(a, or_cell(b, or_cell(c, d)))
 }

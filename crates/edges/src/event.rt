@@ -1,4 +1,16 @@
 // Events: a lambda and the side it falls on.
+use crate::cell::DiagonalCell;
+use crate::cell::diagonal_cell_at;
+use crate::point::ParamPoint;
+use crate::point::WholeStep;
+use crate::point::integer_step;
+use crate::point::is_within;
+use crate::point::param_in_bounds;
+use float::cast::to_f64;
+use float::order::clamp;
+ghost use mathlib.Core.Path.{_≡_};
+ghost use Rattle.edges.specs.Param.{normalizeLambda};
+ghost use Rattle.edges.specs.Events.{edgeAtPoint, lambdaAt, onLine, uCandidate, vCandidate, diagonalCandidate};
 
 pub enum ParamEdge {
     U(usize),
@@ -24,4 +36,107 @@ pub enum NormalizedLambda {
 pub enum Candidate {
     Event(EdgeEvent),
     NoEvent,
+}
+
+// The side that a point lies on: a U line, else a V line, else a diagonal.
+pub fn edge_at_point(m: usize, n: usize, point: ParamPoint) -> EdgeAtPoint
+    ensures { λ r. ⌜ r ≡ edgeAtPoint m n point ⌝ }
+{
+    if !param_in_bounds(m, n, point) {
+        return EdgeAtPoint::NoEdge;
+    }
+    if let WholeStep::Step(u) = integer_step(point.u, m) {
+        return EdgeAtPoint::Edge(ParamEdge::U(u));
+    }
+    if let WholeStep::Step(v) = integer_step(point.v, n) {
+        return EdgeAtPoint::Edge(ParamEdge::V(v));
+    }
+    if let DiagonalCell::Cell(u, v) = diagonal_cell_at(m, n, point) {
+        return EdgeAtPoint::Edge(ParamEdge::Diagonal(u, v));
+    }
+    EdgeAtPoint::NoEdge
+}
+
+// A lambda that is within EPS of 0 to 1 is brought there; -0.0 stays -0.0.
+pub fn normalize_lambda(lambda: f64) -> NormalizedLambda
+    ensures { λ r. ⌜ r ≡ normalizeLambda lambda ⌝ }
+{
+    if is_within(lambda, 1.0) {
+        return NormalizedLambda::Lambda(clamp(lambda, 0.0, 1.0));
+    }
+    NormalizedLambda::Outside
+}
+
+// Where an axis that goes from `start` by `change` comes to `step`.
+fn lambda_at(step: usize, start: f64, change: f64) -> NormalizedLambda
+    ensures { λ r. ⌜ r ≡ lambdaAt step start change ⌝ }
+{
+    normalize_lambda((to_f64(step) - start) / change)
+}
+
+// An event on a line of so many steps, where it is within EPS of the line.
+fn on_line(x: f64, steps: usize, event: EdgeEvent) -> Candidate
+    ensures { λ r. ⌜ r ≡ onLine x steps event ⌝ }
+{
+    if is_within(x, to_f64(steps)) {
+        return Candidate::Event(event);
+    }
+    Candidate::NoEvent
+}
+
+// Where the step from a to b crosses the line U(u).
+pub fn u_candidate(n: usize, a: ParamPoint, b: ParamPoint, u: usize) -> Candidate
+    ensures { λ r. ⌜ r ≡ uCandidate n a b u ⌝ }
+{
+    let NormalizedLambda::Lambda(lambda) = lambda_at(u, a.u, b.u - a.u) else {
+        return Candidate::NoEvent;
+    };
+    let point = a.lerp(b, lambda);
+    on_line(
+        point.v,
+        n,
+        EdgeEvent {
+            lambda,
+            edge: ParamEdge::U(u),
+        },
+    )
+}
+
+// Where the step from a to b crosses the line V(v).
+pub fn v_candidate(m: usize, a: ParamPoint, b: ParamPoint, v: usize) -> Candidate
+    ensures { λ r. ⌜ r ≡ vCandidate m a b v ⌝ }
+{
+    let NormalizedLambda::Lambda(lambda) = lambda_at(v, a.v, b.v - a.v) else {
+        return Candidate::NoEvent;
+    };
+    let point = a.lerp(b, lambda);
+    on_line(
+        point.u,
+        m,
+        EdgeEvent {
+            lambda,
+            edge: ParamEdge::V(v),
+        },
+    )
+}
+
+// Where u + v comes to `sum`, in bounds and on the diagonal of a cell.
+pub fn diagonal_candidate(m: usize, n: usize, a: ParamPoint, b: ParamPoint, sum: usize) -> Candidate
+    ensures { λ r. ⌜ r ≡ diagonalCandidate m n a b sum ⌝ }
+{
+    let change = b.u - a.u + (b.v - a.v);
+    let NormalizedLambda::Lambda(lambda) = lambda_at(sum, a.u + a.v, change) else {
+        return Candidate::NoEvent;
+    };
+    let point = a.lerp(b, lambda);
+    if !param_in_bounds(m, n, point) {
+        return Candidate::NoEvent;
+    }
+    let DiagonalCell::Cell(u, v) = diagonal_cell_at(m, n, point) else {
+        return Candidate::NoEvent;
+    };
+    Candidate::Event(EdgeEvent {
+        lambda,
+        edge: ParamEdge::Diagonal(u, v),
+    })
 }

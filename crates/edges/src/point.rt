@@ -1,6 +1,11 @@
 // A point of the parameter plane, and where it lies on an axis of whole steps.
+use float::cast::to_f64;
+use float::cast::to_usize;
+use float::consts::EPS;
+use float::sign::abs;
+use float::whole::round;
 ghost use mathlib.Core.Path.{_≡_};
-ghost use Rattle.edges.specs.Param.{lerp, paramInBounds};
+ghost use Rattle.edges.specs.Param.{lerp, within, paramInBounds, integerStep};
 
 pub struct ParamPoint {
     pub u: f64,
@@ -22,4 +27,28 @@ impl ParamPoint {
 pub enum WholeStep {
     Step(usize),
     Between,
+}
+
+// From -EPS to top + EPS: never so for a NaN.
+pub fn is_within(x: f64, top: f64) -> bool
+    ensures { λ r. ⌜ r ≡ within x top ⌝ }
+{
+    (-EPS <= x) & (x <= top + EPS)
+}
+
+pub fn param_in_bounds(m: usize, n: usize, point: ParamPoint) -> bool
+    ensures { λ r. ⌜ r ≡ paramInBounds m n point ⌝ }
+{
+    is_within(point.u, to_f64(m)) & is_within(point.v, to_f64(n))
+}
+
+// The whole number from 0 to `steps` that a value is within EPS of.
+pub fn integer_step(value: f64, steps: usize) -> WholeStep
+    ensures { λ r. ⌜ r ≡ integerStep value steps ⌝ }
+{
+    let step = round(value);
+    if (abs(value - step) < EPS) & ((0.0 <= step) & (step <= to_f64(steps))) {
+        return WholeStep::Step(to_usize(step));
+    }
+    WholeStep::Between
 }

@@ -1,0 +1,78 @@
+-- `edgeAtPoint` and the candidates by what the code found, each fact an argument. Assumes nothing.
+use mathlib.Core.Path.{_≡_, sym, ap, _∙_}
+use mathlib.Core.Bool.{true, false}
+use Prim.Native.Nat.{ℕ}
+use lib.Ieee.{Float}
+use Rattle.edges.specs.declared.point.ParamPoint.{ParamPoint}
+use Rattle.edges.specs.declared.point.WholeStep.{WholeStep}
+use Rattle.edges.specs.declared.point.WholeStep.the-variants.{Step, Between}
+use Rattle.edges.specs.declared.cell.DiagonalCell.{DiagonalCell}
+use Rattle.edges.specs.declared.cell.DiagonalCell.the-variants.{Cell, NoCell}
+use Rattle.edges.specs.declared.event.ParamEdge.the-variants.{U, «V», Diagonal}
+use Rattle.edges.specs.declared.event.EdgeAtPoint.the-variants.{Edge, NoEdge}
+use Rattle.edges.specs.declared.event.NormalizedLambda.{NormalizedLambda}
+use Rattle.edges.specs.declared.event.NormalizedLambda.the-variants.{Lambda, Outside}
+use Rattle.edges.specs.declared.event.Candidate.{Candidate}
+use Rattle.edges.specs.declared.event.Candidate.the-variants.{Event, NoEvent}
+use Rattle.edges.specs.Param.{lerp, paramInBounds, integerStep}
+use Rattle.edges.specs.Cell.{diagonalCellAt}
+use Rattle.edges.specs.Events.{event, edgeAtPoint, onLine, uAt, vAt, diagonalCrossing}
+
+-- ---- the side at a point
+module _ (m n : ℕ) (p : ParamPoint) where
+  pub edge-out : paramInBounds m n p ≡ false → NoEdge ≡ edgeAtPoint m n p
+  unfolding edgeAtPoint
+  edge-out h = rw h
+
+  module _ (h : paramInBounds m n p ≡ true) where
+    pub edge-u : {u : ℕ} → integerStep (p .u) m ≡ Step u → Edge (U u) ≡ edgeAtPoint m n p
+    unfolding edgeAtPoint
+    edge-u d = rw (h, d)
+
+    module _ (d : integerStep (p .u) m ≡ Between) where
+      pub edge-v : {v : ℕ} → integerStep (p .v) n ≡ Step v → Edge («V» v) ≡ edgeAtPoint m n p
+      unfolding edgeAtPoint
+      edge-v e = rw (h, d, e)
+
+      pub edge-diagonal : {u v : ℕ} → integerStep (p .v) n ≡ Between → diagonalCellAt m n p ≡ Cell u v → Edge (Diagonal u v) ≡ edgeAtPoint m n p
+      unfolding edgeAtPoint
+      edge-diagonal e f = rw (h, d, e, f)
+
+      pub edge-none : integerStep (p .v) n ≡ Between → diagonalCellAt m n p ≡ NoCell → NoEdge ≡ edgeAtPoint m n p
+      unfolding edgeAtPoint
+      edge-none e f = rw (h, d, e, f)
+
+-- ---- candidates: r is the lambda that was found, and q the point there
+module _ (a b : ParamPoint) {L r : NormalizedLambda} (e : r ≡ L) where
+  pub u-off : (n u : ℕ) → r ≡ Outside → NoEvent ≡ uAt n a b u L
+  unfolding uAt
+  u-off n u h = rw (sym e ∙ h)
+
+  pub v-off : (m v : ℕ) → r ≡ Outside → NoEvent ≡ vAt m a b v L
+  unfolding vAt
+  v-off m v h = rw (sym e ∙ h)
+
+  pub crossing-off : (m n : ℕ) → r ≡ Outside → NoEvent ≡ diagonalCrossing m n a b L
+  unfolding diagonalCrossing
+  crossing-off m n h = rw (sym e ∙ h)
+
+  module _ {l : Float} {q : ParamPoint} (h : r ≡ Lambda l) (k : q ≡ lerp a b l) where
+    pub u-on : (n u : ℕ) {x : Candidate} → x ≡ onLine (q .v) n (event l (U u)) → x ≡ uAt n a b u L
+    unfolding uAt
+    u-on n u t = rw (sym e ∙ h) (t ∙ ap (λ (y : ParamPoint). onLine (y .v) n (event l (U u))) k)
+
+    pub v-on : (m v : ℕ) {x : Candidate} → x ≡ onLine (q .u) m (event l («V» v)) → x ≡ vAt m a b v L
+    unfolding vAt
+    v-on m v t = rw (sym e ∙ h) (t ∙ ap (λ (y : ParamPoint). onLine (y .u) m (event l («V» v))) k)
+
+    pub crossing-out : (m n : ℕ) → paramInBounds m n q ≡ false → NoEvent ≡ diagonalCrossing m n a b L
+    unfolding diagonalCrossing
+    crossing-out m n t = rw (sym e ∙ h, ← k, t)
+
+    pub crossing-no : (m n : ℕ) → paramInBounds m n q ≡ true → diagonalCellAt m n q ≡ NoCell → NoEvent ≡ diagonalCrossing m n a b L
+    unfolding diagonalCrossing
+    crossing-no m n t d = rw (sym e ∙ h, ← k, t, d)
+
+    pub crossing-yes : (m n : ℕ) {u v : ℕ} → paramInBounds m n q ≡ true → diagonalCellAt m n q ≡ Cell u v → Event (event l (Diagonal u v)) ≡ diagonalCrossing m n a b L
+    unfolding diagonalCrossing
+    crossing-yes m n t d = rw (sym e ∙ h, ← k, t, d)

@@ -1,0 +1,140 @@
+-- `indexOf` by the tests of the code, on signed numbers; `tryCell` and `diagonalCellAt` by what the code found; and a diagonal's cell is in the grid. Assumes nothing.
+use mathlib.Core.Path.{_≡_, refl, sym, subst}
+use Prim.Native.Nat.{ℕ, zero, suc, _≤_, _<_}
+use native.Mathlib.Nat.{lt-of-le-of-lt, le-suc}
+use native.Mathlib.Omega.{arith}
+use mathlib.Core.Bool.{Bool, true, false, true≢false}
+use lib.IntN.{ℤ, pos, negsuc, natAbs, predℤ, _-ℤ_, -ℤ-one}
+use lib.Signed.{nonNeg, leZ}
+use lib.Dec.{T, ltb, leb}
+use borrow.Author.Tests.{ltb-true, lt-ltb, le-ltb, leb-false}
+use mir.Syntax.{w64}
+use mir.Val.{SFits, Fits}
+use Rattle.float.specs.Whole.{floorZ}
+use Rattle.edges.specs.declared.point.ParamPoint.{ParamPoint}
+use Rattle.edges.specs.declared.cell.CellIndex.{CellIndex}
+use Rattle.edges.specs.declared.cell.CellIndex.the-variants.{Index, Outside}
+use Rattle.edges.specs.declared.cell.DiagonalCell.{DiagonalCell}
+use Rattle.edges.specs.declared.cell.DiagonalCell.the-variants.{Cell, NoCell}
+use Rattle.edges.specs.Param.{pick}
+use Rattle.edges.specs.Cell.{indexOf, onDiagonal, tryCell, orCell, diagonalCellAt}
+
+-- ---- the cast
+pub nonneg-of : (z : ℤ) → leZ (pos 0) z ≡ true → T (nonNeg z)
+nonneg-of (pos n) h = tt
+nonneg-of (negsuc n) h = absurd (true≢false (sym h))
+
+pub abs-fits : (z : ℤ) → SFits w64 z → Fits w64 (natAbs z)
+abs-fits (pos n) s = record { fits = wide n (s .sfits) }
+  where
+    wide : (k : ℕ) → k < 9223372036854775808 → k < 18446744073709551616
+    wide k h = omega arith
+abs-fits (negsuc n) s = record { fits = wide n (s .sfits) }
+  where
+    wide : (k : ℕ) → k < 9223372036854775808 → suc k < 18446744073709551616
+    wide k h = omega arith
+
+-- ---- `indexOf` by the tests
+no-zero : (n : ℕ) → leb 0 n ≡ false → ⊥
+no-zero n h = omega (arith, leb-false 0 n h)
+
+no-one : (n : ℕ) → leb 1 (suc n) ≡ false → ⊥
+no-one n h = omega (arith, leb-false 1 (suc n) h)
+
+pub index-neg : (z : ℤ) (n : ℕ) → leZ (pos 0) z ≡ false → Outside ≡ indexOf z n
+unfolding indexOf
+index-neg (pos k) n h = absurd (no-zero k h)
+index-neg (negsuc k) n h = refl
+
+pub index-in : (z : ℤ) (n : ℕ) → leZ (pos 0) z ≡ true → natAbs z < n → Index (natAbs z) ≡ indexOf z n
+unfolding indexOf
+index-in (pos k) n h l = simp (lt-ltb k n l)
+index-in (negsuc k) n h l = absurd (true≢false (sym h))
+
+pub index-out : (z : ℤ) (n : ℕ) → n ≤ natAbs z → Outside ≡ indexOf z n
+unfolding indexOf
+index-out (pos k) n l = simp (le-ltb k n l)
+index-out (negsuc k) n l = refl
+
+pub before-out : (z : ℤ) (n : ℕ) → leZ (pos 1) z ≡ false → Outside ≡ indexOf (z -ℤ pos 1) n
+unfolding indexOf
+before-out (pos zero) n h = refl
+before-out (pos (suc k)) n h = absurd (no-one k h)
+before-out (negsuc k) n h = refl
+
+pub before-fits : (z : ℤ) → leZ (pos 1) z ≡ true → SFits w64 z → SFits w64 (z -ℤ pos 1)
+before-fits z h s = subst (λ (y : ℤ). SFits w64 y) (sym (-ℤ-one z)) (go z h s)
+  where
+    go : (y : ℤ) → leZ (pos 1) y ≡ true → SFits w64 y → SFits w64 (predℤ y)
+    go (pos zero) g t = absurd (true≢false (sym g))
+    go (pos (suc k)) g t = record { sfits = lt-of-le-of-lt (le-suc k) (t .sfits) }
+    go (negsuc k) g t = absurd (true≢false (sym g))
+
+-- ---- a cell by what was found: the facts are arguments, so that `cc` and `rw` have only these to look at
+pub try-yes : (p : ParamPoint) {i j : CellIndex} {u v : ℕ} → i ≡ Index u → j ≡ Index v → onDiagonal p u v ≡ true → Cell u v ≡ tryCell p i j
+unfolding tryCell
+try-yes p d e h = rw (d, e, h)
+
+pub try-no : (p : ParamPoint) {i j : CellIndex} {u v : ℕ} → i ≡ Index u → j ≡ Index v → onDiagonal p u v ≡ false → NoCell ≡ tryCell p i j
+unfolding tryCell
+try-no p d e h = rw (d, e, h)
+
+pub diagonal-is : (m n : ℕ) (p : ParamPoint) {x y : ℤ} {u0 u1 v0 v1 : CellIndex} {a b c d e f g : DiagonalCell}
+    → x ≡ floorZ (p .u) → y ≡ floorZ (p .v)
+    → u0 ≡ indexOf (x -ℤ pos 1) m → u1 ≡ indexOf x m → v0 ≡ indexOf (y -ℤ pos 1) n → v1 ≡ indexOf y n
+    → a ≡ tryCell p u0 v0 → b ≡ tryCell p u0 v1 → c ≡ tryCell p u1 v0 → d ≡ tryCell p u1 v1
+    → e ≡ orCell c d → f ≡ orCell b e → g ≡ orCell a f
+    → g ≡ diagonalCellAt m n p
+unfolding diagonalCellAt
+diagonal-is m n p hx hy h0 h1 k0 k1 ea eb ec ed ee ef eg = cc
+
+-- ---- the cell is in the grid
+abbrev pub IndexBelow : ℕ → CellIndex → Type 0
+IndexBelow n (Index k) = k < n
+IndexBelow n Outside = Unit
+
+abbrev pub CellInside : ℕ → ℕ → DiagonalCell → Type 0
+CellInside m n (Cell u v) = (u < m) × (v < n)
+CellInside m n NoCell = Unit
+
+index-below : (z : ℤ) (n : ℕ) → IndexBelow n (indexOf z n)
+unfolding indexOf
+index-below (pos k) n = go (ltb k n) refl
+  where
+    go : (t : Bool) → ltb k n ≡ t → IndexBelow n (pick t (Index k) Outside)
+    go true p = ltb-true k n p
+    go false p = tt
+index-below (negsuc k) n = tt
+
+try-inside : (p : ParamPoint) (i j : CellIndex) (m n : ℕ) → IndexBelow m i → IndexBelow n j → CellInside m n (tryCell p i j)
+unfolding tryCell
+try-inside p Outside j m n h k = tt
+try-inside p (Index u) Outside m n h k = tt
+try-inside p (Index u) (Index v) m n h k = go (onDiagonal p u v)
+  where
+    go : (t : Bool) → CellInside m n (pick t (Cell u v) NoCell)
+    go true = (h, k)
+    go false = tt
+
+or-inside : (a b : DiagonalCell) (m n : ℕ) → CellInside m n a → CellInside m n b → CellInside m n (orCell a b)
+or-inside (Cell u v) b m n h k = h
+or-inside NoCell b m n h k = k
+
+pub diagonal-inside : (m n : ℕ) (p : ParamPoint) → CellInside m n (diagonalCellAt m n p)
+unfolding diagonalCellAt
+diagonal-inside m n p =
+    let u0 = indexOf (floorZ (p .u) -ℤ pos 1) m in
+    let u1 = indexOf (floorZ (p .u)) m in
+    let v0 = indexOf (floorZ (p .v) -ℤ pos 1) n in
+    let v1 = indexOf (floorZ (p .v)) n in
+    let h0 : IndexBelow m u0 = index-below (floorZ (p .u) -ℤ pos 1) m in
+    let h1 : IndexBelow m u1 = index-below (floorZ (p .u)) m in
+    let k0 : IndexBelow n v0 = index-below (floorZ (p .v) -ℤ pos 1) n in
+    let k1 : IndexBelow n v1 = index-below (floorZ (p .v)) n in
+    let a = tryCell p u0 v0 in
+    let b = tryCell p u0 v1 in
+    let c = tryCell p u1 v0 in
+    let d = tryCell p u1 v1 in
+    or-inside a (orCell b (orCell c d)) m n (try-inside p u0 v0 m n h0 k0)
+    (or-inside b (orCell c d) m n (try-inside p u0 v1 m n h0 k1)
+    (or-inside c d m n (try-inside p u1 v0 m n h1 k0) (try-inside p u1 v1 m n h1 k1)))

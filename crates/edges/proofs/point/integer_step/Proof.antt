@@ -1,0 +1,45 @@
+-- `edges::point::integer_step` meets its contract: its tests are those of the definition, of what `round` gave. Assumes nothing.
+use mathlib.Core.Path.{_≡_, sym, ap, _∙_}
+use mathlib.Core.Bool.{Bool, _&&_}
+use lib.Ieee.{Float, binary64, lt, le, sub, toUnsigned}
+use Rattle.float.specs.Consts.{eps, zero64}
+use Rattle.float.specs.Sign.{absolute}
+use Rattle.float.specs.Whole.{rounded}
+use Rattle.float.specs.Cast.{natFloat}
+use Rattle.edges.specs.Param.{integerStep}
+use Rattle.edges.specs.declared.point.WholeStep.the-variants.{Step}
+use borrow.Author.Needs.{needs}
+use Rattle.edges.proofs.point.integer_step.Statement.{statement}
+use Rattle.edges.proofs.point.integer_step.Tie as tie
+
+tests : (c : tie.After-to-f64) →
+    lt (c .before .abs .result) eps && (le zero64 (c .before .before .round .result) && le (c .before .before .round .result) (c .to-f64 .result))
+    ≡ lt (absolute (sub binary64 (c .before .before .before .args .value) (rounded (c .before .before .before .args .value)))) eps
+    && (le zero64 (rounded (c .before .before .before .args .value)) && le (rounded (c .before .before .before .args .value)) (natFloat (c .before .before .before .args .steps)))
+tests c = cc
+
+round-requires : tie.Need-round-requires
+round-requires c κs = search needs
+
+abs-requires : tie.Need-abs-requires
+abs-requires c κs = search needs
+
+to-f64-requires : tie.Need-to-f64-requires
+to-f64-requires c κs = search needs
+
+to-usize-requires : tie.Need-to-usize-requires
+to-usize-requires c κs = search needs
+
+returns : tie.Need-returns
+unfolding integerStep eps
+returns c =
+    simp (sym (tests (c .before .before)) ∙ c .before .if1 .taken) (ap Step (c .to-usize .ensures ∙ ap (toUnsigned 64) (c .before .before .before .before .round .ensures)))
+
+returns-2 : tie.Need-returns-2
+unfolding integerStep eps
+returns-2 c = simp (sym (tests (c .before)) ∙ c .if1 .left)
+
+pub integer-step-spec : {M : Type 1} → statement M
+integer-step-spec =
+    tie.close
+    (tie.spec round-requires abs-requires to-f64-requires to-usize-requires returns returns-2)

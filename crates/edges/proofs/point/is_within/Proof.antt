@@ -1,0 +1,13 @@
+-- `edges::point::is_within` meets its contract: its two tests are those of the definition. Assumes nothing.
+use mathlib.Core.Path.{refl}
+use Rattle.float.specs.Consts.{eps}
+use Rattle.edges.specs.Param.{within}
+use Rattle.edges.proofs.point.is_within.Statement.{statement}
+use Rattle.edges.proofs.point.is_within.Tie as tie
+
+returns : tie.Need-returns
+unfolding within eps
+returns c = refl
+
+pub is-within-spec : {M : Type 1} → statement M
+is-within-spec = tie.close (tie.spec returns)
