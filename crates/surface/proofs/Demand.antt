@@ -9,7 +9,8 @@ use lib.Dec.{eqb}
 use lib.Arith.{digits-div, digits-mod}
 use lib.ListN.{length, getD}
 use borrow.Author.Tests.{ne-eqb}
-use Rattle.surface.specs.Surface.{pick, both, Seam, unjoined, forward, reverse, reversed, Split, Shape, J, Triangle, tri, halfOf, slot, proper, kept, slots, triangles, Pair, ordered, numberOf, stepOn, process, flipped, Follows, HasSide, nth, Owns, OwnedOnce, OwnedTwice, Same, Rim, SameWay, GridEdge, along-u, along-v, fall, riseᵉ, EdgeNumbers, Jₙ, Covered, Meets, Demand3}
+use Rattle.cyclic.specs.Mapping.{pick}
+use Rattle.surface.specs.Surface.{Seam, unjoined, forward, reverse, reversed, Split, Shape, J, Triangle, tri, halfOf, slot, proper, kept, slots, triangles, Pair, ordered, numberOf, stepOn, process, flipped, Follows, HasSide, nth, Owns, OwnedOnce, OwnedTwice, Same, Rim, SameWay, GridEdge, along-u, along-v, EdgeNumbers, Jₙ, Covered, Meets, Demand3, falls, rises}
 use Rattle.surface.proofs.Steps.{lt-or-le, Fits, laidOn, on-below}
 use Rattle.surface.proofs.Strip.{Strip, Kind, straight}
 use Rattle.surface.proofs.Places.{Cell}
@@ -317,7 +318,7 @@ module _ (s : Shape) (m : 3 ≤ s .M) (n : 3 ≤ s .N) (W : View s) where
           ordered-way p (indexOf low-half 0 (on y)) (indexOf high-half far y) f (turn-apart y (t .1)) (shared-way y (t .1) e)
 
   pub meets : Meets s
-  meets = record { sides = side-case; flip = flip-case; flop = flop-case; edges = edge-case }
+  meets = record { sides = side-case; flipped-if = flip-case; flipped-only-if = flop-case; edges = edge-case }
 
 pub demand3 : Demand3
 demand3 s m n c = ⊎-elim (λ w. meets s m n (viewU s m n w)) (λ w. meets s m n (viewV s m n w)) (covered-along s c)
@@ -339,5 +340,5 @@ traced s m p q e =
     bounds : (u v u′ v′ : ℕ) → GridEdge s u v u′ v′ → (v ≤ s .N) × (v′ ≤ s .N)
     bounds u v u′ v′ (along-u h k) = (k, k)
     bounds u v u′ v′ (along-v h k) = omega arith
-    bounds u v u′ v′ (fall h k d) = omega arith
-    bounds u v u′ v′ (riseᵉ h k d) = omega arith
+    bounds u v u′ v′ (falls h k d) = omega arith
+    bounds u v u′ v′ (rises h k d) = omega arith

@@ -2,7 +2,7 @@
 use Prim.Native.Nat.{ℕ, zero, suc, _+_, _-_, _*_, _/_, _%_, _≤_, _<_, min, max}
 use mathlib.Core.Path.{_≡_, refl, sym, ap, _∙_, subst}
 use mathlib.Core.Logic.{_⊎_, inl, inr, ⊎-elim}
-use mathlib.Core.Bool.{Bool, true, false, not}
+use mathlib.Core.Bool.{Bool, true, false, _&&_, not}
 use mathlib.Core.List.{List, [], _∷_, _++_, List·Memᴰ, List·Memᴰ·head, List·Memᴰ·tail, List·Memᴰ·cases-cons, List·Memᴰ·not-nil, Memᴰ·cast}
 use native.Mathlib.Omega.{arith}
 use native.Mathlib.Nat.{mod-lt, div-add-mod', div-lt-iff-lt-mul, mul-comm}
@@ -10,7 +10,8 @@ use lib.Dec.{eqb, ltb}
 use lib.Arith.{digits-div, digits-mod, digits-lt}
 use lib.ListN.{length, getD, length-append, List·getD-append}
 use borrow.Author.Tests.{eqb-true, eqb-false, eq-eqb, ne-eqb, ltb-true, ltb-false, lt-ltb, le-ltb}
-use Rattle.surface.specs.Surface.{pick, both, Seam, unjoined, forward, reverse, joined, reversed, inverse, Shape, Split, Triangle, tri, halfOf, slot, proper, kept, slots, triangles, Pair, ordered, insert, Before, Ascending, numberOf, wrapEnds, stepOn, putDown, process, flipped, lowU, highU, lowV, highV, nth}
+use Rattle.cyclic.specs.Mapping.{pick}
+use Rattle.surface.specs.Surface.{Seam, unjoined, forward, reverse, joined, reversed, inverse, Shape, Split, Triangle, tri, halfOf, slot, proper, kept, slots, triangles, Pair, ordered, insert, Before, Ascending, numberOf, stepOn, putDown, process, flipped, lowU, highU, lowV, highV, nth, lowerOf}
 use Rattle.surface.proofs.Steps.{eqb-cases, lt-or-le, Offset, Fits, laidOn, on-below, raw-reverse}
 use Rattle.surface.proofs.Views.{halfNum, index}
 
@@ -110,17 +111,17 @@ halfAt-index s false u v = ne-eqb ((2 * (u * s .N + v) + 0) % 2) 1 (λ e. omega 
 
 -- ---- flipped pairs
 
-both-ne : (a b c d : ℕ) → (a ≡ b → c ≡ d → ⊥) → both (eqb a b) (eqb c d) ≡ false
+both-ne : (a b c d : ℕ) → (a ≡ b → c ≡ d → ⊥) → (eqb a b && eqb c d) ≡ false
 both-ne a b c d h =
     ⊎-elim
-    (λ w. ap (λ (t : Bool). both t (eqb c d)) (w .0) ∙ ne-eqb c d (λ e. h (w .1) e))
-    (λ w. ap (λ (t : Bool). both t (eqb c d)) (w .0))
+    (λ w. ap (λ (t : Bool). t && eqb c d) (w .0) ∙ ne-eqb c d (λ e. h (w .1) e))
+    (λ w. ap (λ (t : Bool). t && eqb c d) (w .0))
     (eqb-cases a b)
 
-both-eq : (a b c d : ℕ) → a ≡ b → c ≡ d → both (eqb a b) (eqb c d) ≡ true
-both-eq a b c d p q = ap (λ (t : Bool). both t (eqb c d)) (eq-eqb a b p) ∙ eq-eqb c d q
+both-eq : (a b c d : ℕ) → a ≡ b → c ≡ d → (eqb a b && eqb c d) ≡ true
+both-eq a b c d p q = ap (λ (t : Bool). t && eqb c d) (eq-eqb a b p) ∙ eq-eqb c d q
 
-wrap-up : (n a : ℕ) → 3 ≤ n → wrapEnds n (a + 1) a ≡ a
+wrap-up : (n a : ℕ) → 3 ≤ n → lowerOf n (a + 1) a ≡ a
 wrap-up n a h =
     rw (
       both-ne (a + 1 + 1) n a 0 (λ p q. omega arith),
@@ -129,7 +130,7 @@ wrap-up n a h =
       eq-eqb (a + 1) (a + 1) refl,
     )
 
-wrap-end : (n a : ℕ) → 3 ≤ n → a + 1 ≡ n → wrapEnds n 0 a ≡ a
+wrap-end : (n a : ℕ) → 3 ≤ n → a + 1 ≡ n → lowerOf n 0 a ≡ a
 wrap-end n a h e =
     rw (
       both-ne (0 + 1) n a 0 (λ p q. omega arith),
@@ -141,10 +142,10 @@ pub step-on : (o : ℕ) (c : Bool) (n y : ℕ) → 3 ≤ n → Offset o c n → 
 unfolding stepOn
 step-on o c n y h f k =
     let r = raw-reverse o c n y f k in
-    ap (wrapEnds n (inverse (reverse o) n y)) (r .0)
+    ap (lowerOf n (inverse (reverse o) n y)) (r .0)
     ∙ ⊎-elim
-    (λ w. ap (λ (z : ℕ). wrapEnds n z (laidOn (reverse o) n y)) w ∙ wrap-up n (laidOn (reverse o) n y) h)
-    (λ w. ap (λ (z : ℕ). wrapEnds n z (laidOn (reverse o) n y)) (w .0) ∙ wrap-end n (laidOn (reverse o) n y) h (w .1))
+    (λ w. ap (λ (z : ℕ). lowerOf n z (laidOn (reverse o) n y)) w ∙ wrap-up n (laidOn (reverse o) n y) h)
+    (λ w. ap (λ (z : ℕ). lowerOf n z (laidOn (reverse o) n y)) (w .0) ∙ wrap-end n (laidOn (reverse o) n y) h (w .1))
     (r .1)
 
 abbrev pub mk : ℕ → ℕ → Pair
@@ -256,7 +257,7 @@ unfolding process
 process-ascending s m Y lows highs zero ps a = a
 process-ascending s m Y lows highs (suc n) ps a =
     pick-case (ltb (stepOn m Y n) Y) Ascending _ _
-    (λ e. pick-case (both (proper (slot s (lows (stepOn m Y n)))) (proper (slot s (highs n)))) Ascending _ _ (λ f. insert-ascending (ordered (numberOf s (lows (stepOn m Y n))) (numberOf s (highs n))) (process s m Y lows highs n ps) (process-ascending s m Y lows highs n ps a)) (λ f. process-ascending s m Y lows highs n ps a))
+    (λ e. pick-case (proper (slot s (lows (stepOn m Y n))) && proper (slot s (highs n))) Ascending _ _ (λ f. insert-ascending (ordered (numberOf s (lows (stepOn m Y n))) (numberOf s (highs n))) (process s m Y lows highs n ps) (process-ascending s m Y lows highs n ps a)) (λ f. process-ascending s m Y lows highs n ps a))
     (λ e. process-ascending s m Y lows highs n ps a)
 
 -- the flipped pairs of any shape

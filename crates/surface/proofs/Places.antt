@@ -2,11 +2,12 @@
 use Prim.Native.Nat.{ℕ, zero, suc, _+_, _-_, _≤_, _<_}
 use mathlib.Core.Path.{_≡_, refl, sym, ap, _∙_, subst}
 use mathlib.Core.Logic.{_⊎_, inl, inr, ⊎-elim}
-use mathlib.Core.Bool.{Bool, true, false, not}
+use mathlib.Core.Bool.{Bool, true, false, _&&_, not}
 use native.Mathlib.Omega.{arith}
 use lib.Dec.{eqb, ltb}
 use borrow.Author.Tests.{eqb-true, eqb-false, eq-eqb, ne-eqb}
-use Rattle.surface.specs.Surface.{pick, both, Seam, unjoined, forward, reverse, joined, reversed, inverse, Split, falling, rising, Same}
+use Rattle.cyclic.specs.Mapping.{pick}
+use Rattle.surface.specs.Surface.{Seam, unjoined, forward, reverse, joined, reversed, inverse, Split, falling, rising, Same}
 use Rattle.surface.proofs.Steps.{eqb-cases, lt-or-le, nf, nf-open, nf-closed, nf-two, nf-below, nf-end, nf-le, laidOn, laidBack, on-below, back-below, on-back, on-inj, Fits}
 use Rattle.surface.proofs.Strip.{Strip, crossing, colOf, rowOf, pointOf, stepAt, turned, next, Kind, straight, across, diagonal, n0, n1, y0, x1, y1, Valid, one-name, row-below, col-below, step-below, stepAt-lt, col-le, next-le, next-ne, next-inj, col-ne, col-inj, row-next, adjacent, crossing-below}
 
@@ -146,7 +147,7 @@ module _ (S : Strip) where
 
   pub far-step : (y : ℕ) → joined seam ≡ true → stepAt S X y ≡ laidOn seam Y y
   unfolding stepAt
-  far-step y j = ap (λ (t : Bool). pick t (laidOn seam Y y) y) (ap (λ (t : Bool). both t (eqb X X)) j ∙ eq-eqb X X refl)
+  far-step y j = ap (λ (t : Bool). pick t (laidOn seam Y y) y) (ap (λ (t : Bool). t && eqb X X) j ∙ eq-eqb X X refl)
 
   col-unjoined : (x : ℕ) → seam ≡ unjoined → colOf S x ≡ x
   unfolding colOf

@@ -2,13 +2,14 @@
 use Prim.Native.Nat.{ℕ, zero, suc, _+_, _-_, _*_, _/_, _%_, _≤_, _<_}
 use mathlib.Core.Path.{_≡_, refl, sym, ap, _∙_, subst}
 use mathlib.Core.Logic.{_⊎_, inl, inr, ⊎-elim}
-use mathlib.Core.Bool.{Bool, true, false, not}
+use mathlib.Core.Bool.{Bool, true, false, _&&_, not}
 use native.Mathlib.Omega.{arith}
 use lib.Dec.{eqb}
 use lib.Arith.{digits-div, digits-mod}
 use borrow.Author.Tests.{eqb-true, eqb-false, eq-eqb, ne-eqb}
-use Rattle.surface.specs.Surface.{pick, both, Seam, unjoined, forward, reverse, joined, reversed, inverse, Point, at, Rule, once, twice, Split, Shape, uRule, vRule, number, joinedBy, J, cornerBy, corner, Beside, AtZero, Covered, neither, only-u, only-v, both-u, both-v}
-use Rattle.surface.proofs.Steps.{eqb-cases, nf, nf-open, nf-closed, nf-below, nf-le, nf-nf, Fits, Offset, brought, brought-nf, inv-forward, inv-reverse}
+use Rattle.cyclic.specs.Mapping.{pick}
+use Rattle.surface.specs.Surface.{Seam, unjoined, forward, reverse, joined, reversed, inverse, Point, at, Rule, once, twice, Split, Shape, uRule, vRule, number, joinedBy, J, cornerBy, corner, Beside, AtZero, Covered, neither, only-u, only-v, both-u, both-v}
+use Rattle.surface.proofs.Steps.{eqb-cases, nf, nf-open, nf-closed, nf-below, nf-le, nf-nf, Fits, Offset, brought, brought-nf, inv-forward-0, inv-forward, inv-reverse}
 use Rattle.surface.proofs.Strip.{Strip, colOf, rowOf, pointOf, row-below, col-below}
 
 -- ---- point numbers
@@ -51,17 +52,17 @@ stripV s m n f =
 
 -- ---- the two rules
 
-uRule-form : (s : Shape) (u v : ℕ) → uRule s (at u v) ≡ at (nf (joined (s .su)) (s .M) u) (pick (both (joined (s .su)) (eqb u (s .M))) (inverse (s .su) (s .N) v) v)
+uRule-form : (s : Shape) (u v : ℕ) → uRule s (at u v) ≡ at (nf (joined (s .su)) (s .M) u) (pick (joined (s .su) && eqb u (s .M)) (inverse (s .su) (s .N) v) v)
 unfolding nf
-uRule-form s u v = go (both (joined (s .su)) (eqb u (s .M)))
+uRule-form s u v = go (joined (s .su) && eqb u (s .M))
   where
     go : (t : Bool) → pick t (at 0 (inverse (s .su) (s .N) v)) (at u v) ≡ at (pick t 0 u) (pick t (inverse (s .su) (s .N) v) v)
     go true = refl
     go false = refl
 
-vRule-form : (s : Shape) (u v : ℕ) → vRule s (at u v) ≡ at (pick (both (joined (s .sv)) (eqb v (s .N))) (inverse (s .sv) (s .M) u) u) (nf (joined (s .sv)) (s .N) v)
+vRule-form : (s : Shape) (u v : ℕ) → vRule s (at u v) ≡ at (pick (joined (s .sv) && eqb v (s .N)) (inverse (s .sv) (s .M) u) u) (nf (joined (s .sv)) (s .N) v)
 unfolding nf
-vRule-form s u v = go (both (joined (s .sv)) (eqb v (s .N)))
+vRule-form s u v = go (joined (s .sv) && eqb v (s .N))
   where
     go : (t : Bool) → pick t (at (inverse (s .sv) (s .M) u) 0) (at u v) ≡ at (pick t (inverse (s .sv) (s .M) u) u) (pick t 0 v)
     go true = refl
@@ -73,14 +74,14 @@ Plain m = (m ≡ unjoined) ⊎ (m ≡ forward 0)
 
 plain-pick : (m : Seam) → Plain m → (t : Bool) (n b : ℕ) → pick t (inverse m n b) b ≡ b
 plain-pick m (inl e) true n b = ap (λ (z : Seam). inverse z n b) e
-plain-pick m (inr e) true n b = ap (λ (z : Seam). inverse z n b) e
+plain-pick m (inr e) true n b = ap (λ (z : Seam). inverse z n b) e ∙ inv-forward-0 n b
 plain-pick m e false n b = refl
 
 uRule-plain : (s : Shape) (u v : ℕ) → Plain (s .su) → uRule s (at u v) ≡ at (nf (joined (s .su)) (s .M) u) v
-uRule-plain s u v e = uRule-form s u v ∙ ap (at (nf (joined (s .su)) (s .M) u)) (plain-pick (s .su) e (both (joined (s .su)) (eqb u (s .M))) (s .N) v)
+uRule-plain s u v e = uRule-form s u v ∙ ap (at (nf (joined (s .su)) (s .M) u)) (plain-pick (s .su) e (joined (s .su) && eqb u (s .M)) (s .N) v)
 
 vRule-plain : (s : Shape) (u v : ℕ) → Plain (s .sv) → vRule s (at u v) ≡ at u (nf (joined (s .sv)) (s .N) v)
-vRule-plain s u v e = vRule-form s u v ∙ ap (λ (z : ℕ). at z (nf (joined (s .sv)) (s .N) v)) (plain-pick (s .sv) e (both (joined (s .sv)) (eqb v (s .N))) (s .M) u)
+vRule-plain s u v e = vRule-form s u v ∙ ap (λ (z : ℕ). at z (nf (joined (s .sv)) (s .N) v)) (plain-pick (s .sv) e (joined (s .sv) && eqb v (s .N)) (s .M) u)
 
 -- where the other seam is joined, a mapping takes inner points to inner points; the fourfold rule does without
 abbrev pub Tame : Rule → Seam → Bool → ℕ → Type 0
@@ -102,7 +103,7 @@ nf-lt false n i z h e = absurd (false-true e)
     false-true e = zero-one (cc)
 
 -- a point that has passed a rule does not pass it again
-settled : (c : Bool) (n i : ℕ) → 0 < n → both c (eqb (nf c n i) n) ≡ false
+settled : (c : Bool) (n i : ℕ) → 0 < n → (c && eqb (nf c n i) n) ≡ false
 settled false n i z = refl
 settled true n i z = ne-eqb (nf true n i) n (λ e. ⊎-elim (λ w. omega arith) (λ w. w .1 (sym (w .0) ∙ e)) (nf-closed n i))
 
@@ -123,9 +124,9 @@ module _ (s : Shape) (m : 3 ≤ s .M) (n : 3 ≤ s .N) (f : Fits (s .su) (joined
   place : ℕ → ℕ → Point
   place u v = at (colOf SU u) (rowOf SU u v)
 
-  row-form : (u v : ℕ) → rowOf SU u v ≡ nf jv (s .N) (pick (both ju (eqb u (s .M))) (inverse (s .su) (s .N) v) v)
+  row-form : (u v : ℕ) → rowOf SU u v ≡ nf jv (s .N) (pick (ju && eqb u (s .M)) (inverse (s .su) (s .N) v) v)
   unfolding rowOf brought SU stripU
-  row-form u v = pick-nf (both ju (eqb u (s .M))) jv (s .N) (inverse (s .su) (s .N) v) v
+  row-form u v = pick-nf (ju && eqb u (s .M)) jv (s .N) (inverse (s .su) (s .N) v) v
 
   col-form : (u : ℕ) → colOf SU u ≡ nf ju (s .M) u
   unfolding colOf SU stripU
@@ -135,7 +136,7 @@ module _ (s : Shape) (m : 3 ≤ s .M) (n : 3 ≤ s .N) (f : Fits (s .su) (joined
   unfolding place
   one-round u v =
       ap (vRule s) (uRule-form s u v)
-      ∙ vRule-plain s (nf ju (s .M) u) (pick (both ju (eqb u (s .M))) (inverse (s .su) (s .N) v) v) plain
+      ∙ vRule-plain s (nf ju (s .M) u) (pick (ju && eqb u (s .M)) (inverse (s .su) (s .N) v) v) plain
       ∙ sym (ap (λ (z : ℕ). at z (rowOf SU u v)) (col-form u) ∙ ap (at (nf ju (s .M) u)) (row-form u v))
 
   second-round : (u v : ℕ) → vRule s (uRule s (place u v)) ≡ place u v
@@ -144,10 +145,10 @@ module _ (s : Shape) (m : 3 ≤ s .M) (n : 3 ≤ s .N) (f : Fits (s .su) (joined
       ap (vRule s)
       (uRule-form s (colOf SU u) (rowOf SU u v)
       ∙ ap (λ (t : Bool). at (nf ju (s .M) (colOf SU u)) (pick t (inverse (s .su) (s .N) (rowOf SU u v)) (rowOf SU u v)))
-      (ap (λ (z : ℕ). both ju (eqb z (s .M))) (col-form u) ∙ settled ju (s .M) u (omega arith))
+      (ap (λ (z : ℕ). ju && eqb z (s .M)) (col-form u) ∙ settled ju (s .M) u (omega arith))
       ∙ ap (λ (z : ℕ). at z (rowOf SU u v)) (ap (nf ju (s .M)) (col-form u) ∙ nf-nf ju (s .M) u (omega arith) ∙ sym (col-form u)))
       ∙ vRule-plain s (colOf SU u) (rowOf SU u v) plain
-      ∙ ap (at (colOf SU u)) (ap (nf jv (s .N)) (row-form u v) ∙ nf-nf jv (s .N) (pick (both ju (eqb u (s .M))) (inverse (s .su) (s .N) v) v) (omega arith) ∙ sym (row-form u v))
+      ∙ ap (at (colOf SU u)) (ap (nf jv (s .N)) (row-form u v) ∙ nf-nf jv (s .N) (pick (ju && eqb u (s .M)) (inverse (s .su) (s .N) v) v) (omega arith) ∙ sym (row-form u v))
 
   joined-u : (r : Rule) (u v : ℕ) → joinedBy r s (at u v) ≡ place u v
   unfolding joinedBy
@@ -155,12 +156,12 @@ module _ (s : Shape) (m : 3 ≤ s .M) (n : 3 ≤ s .N) (f : Fits (s .su) (joined
   joined-u twice u v = ap (λ (p : Point). vRule s (uRule s p)) (one-round u v) ∙ second-round u v
 
   corner-u : (r : Rule) → Tame r (s .su) jv (s .N) → (row u v : ℕ) → row < s .N → v ≤ row + 1 → cornerBy r s row (at u v) ≡ place u v
-  unfolding cornerBy place
+  unfolding cornerBy joinedBy place
   corner-u twice t row u v h k = joined-u twice u v
   corner-u once t row u v h k =
       ⊎-elim
       (λ w. ap (λ (z : Bool). pick z (vRule s (uRule s (at u v))) (uRule s (at u v))) (w .0) ∙ one-round u v)
-      (λ w. ap (λ (z : Bool). pick z (vRule s (uRule s (at u v))) (uRule s (at u v))) (w .0) ∙ uRule-form s u v ∙ sym (ap (λ (z : ℕ). at z (rowOf SU u v)) (col-form u) ∙ ap (at (nf ju (s .M) u)) (row-form u v ∙ nf-fix jv (s .N) (pick (both ju (eqb u (s .M))) (inverse (s .su) (s .N) v) v) (λ e. inner e (both ju (eqb u (s .M))) (below (w .1))))))
+      (λ w. ap (λ (z : Bool). pick z (vRule s (uRule s (at u v))) (uRule s (at u v))) (w .0) ∙ uRule-form s u v ∙ sym (ap (λ (z : ℕ). at z (rowOf SU u v)) (col-form u) ∙ ap (at (nf ju (s .M) u)) (row-form u v ∙ nf-fix jv (s .N) (pick (ju && eqb u (s .M)) (inverse (s .su) (s .N) v) v) (λ e. inner e (ju && eqb u (s .M)) (below (w .1))))))
       (eqb-cases (row + 1) (s .N))
     where
       below : (row + 1 ≡ s .N → ⊥) → v < s .N
@@ -192,7 +193,7 @@ module _ (s : Shape) (m : 3 ≤ s .M) (n : 3 ≤ s .N) (f : Fits (s .sv) (joined
   placeV u v = at (rowOf SV v u) (colOf SV v)
 
   far : ℕ → Bool
-  far v = both kv (eqb v (s .N))
+  far v = kv && eqb v (s .N)
 
   rowV-form : (u v : ℕ) → rowOf SV v u ≡ pick (far v) (brought (s .sv) ku (s .M) u) (nf ku (s .M) u)
   unfolding rowOf SV stripV far
@@ -262,7 +263,7 @@ module _ (s : Shape) (m : 3 ≤ s .M) (n : 3 ≤ s .N) (f : Fits (s .sv) (joined
   joined-v twice t u v h = joined-twice u v
 
   corner-v : (r : Rule) → Tame r (s .sv) ku (s .M) → (row u v : ℕ) → row < s .N → v ≤ row + 1 → u ≤ s .M → cornerBy r s row (at u v) ≡ placeV u v
-  unfolding cornerBy placeV
+  unfolding cornerBy joinedBy placeV
   corner-v twice t row u v h k l = joined-v twice t u v l
   corner-v once t row u v h k l =
       ⊎-elim
@@ -288,7 +289,7 @@ module _ (s : Shape) (m : 3 ≤ s .M) (n : 3 ≤ s .N) (f : Fits (s .sv) (joined
 
 tame-mapping : (m : Seam) (n : ℕ) → Beside once m n → (b : ℕ) → b < n → inverse m n b < n
 tame-mapping unjoined n h b k = absurd h
-tame-mapping (forward zero) n h b k = k
+tame-mapping (forward zero) n h b k = omega (arith, inv-forward-0 n b)
 tame-mapping (forward (suc o)) n h b k = ⊎-elim (λ w. omega arith) (λ w. omega arith) (inv-forward (suc o) n b (omega arith) h (omega arith))
 tame-mapping (reverse o) n h b k = ⊎-elim (λ w. omega arith) (λ v. ⊎-elim (λ w. omega arith) (λ w. omega arith) v) (inv-reverse o n b (h .0) (h .1) (omega arith))
 

@@ -2,12 +2,14 @@
 use Prim.Native.Nat.{ℕ, zero, suc, _+_, _-_, _*_, _/_, _%_, _≤_, _<_}
 use mathlib.Core.Path.{_≡_, refl, sym, ap, _∙_, subst}
 use mathlib.Core.Logic.{_⊎_, inl, inr, ⊎-elim}
-use mathlib.Core.Bool.{Bool, true, false}
+use mathlib.Core.Bool.{Bool, true, false, _&&_}
 use native.Mathlib.Nat.{mod-eq-of-lt, mod-eq-sub-mod, mod-self}
 use native.Mathlib.Omega.{arith}
 use lib.Dec.{eqb, ltb}
 use borrow.Author.Tests.{eqb-true, eqb-false, eq-eqb, ne-eqb, ltb-true, ltb-false, lt-ltb, le-ltb}
-use Rattle.surface.specs.Surface.{pick, both, Seam, unjoined, forward, reverse, joined, reversed, inverse}
+use Rattle.cyclic.specs.Mapping.{pick}
+use Rattle.cyclic.specs.Mapping as mapping
+use Rattle.surface.specs.Surface.{Seam, unjoined, forward, reverse, joined, reversed, inverse}
 
 -- a test with what it says
 pub eqb-cases : (a b : ℕ) → ((eqb a b ≡ true) × (a ≡ b)) ⊎ ((eqb a b ≡ false) × (a ≡ b → ⊥))
@@ -26,7 +28,7 @@ lt-or-le a b = go (ltb a b) refl
 
 -- i, with n read as 0 on a closed row
 unfoldable pub nf : Bool → ℕ → ℕ → ℕ
-nf c n i = pick (both c (eqb i n)) 0 i
+nf c n i = pick (c && eqb i n) 0 i
 
 pub nf-open : (n i : ℕ) → nf false n i ≡ i
 unfolding nf
@@ -77,9 +79,18 @@ step-inj c n i j k l e =
 pub mod-once : (x n : ℕ) → n ≤ x → x < n + n → x % n ≡ x - n
 mod-once x n h k = mod-eq-sub-mod h ∙ mod-eq-of-lt (omega arith)
 
--- ---- a seam's inverse by cases
+-- ---- the inverse image by cases, so that nothing below looks into its definition
+
+pub inv-forward-0 : (n b : ℕ) → inverse (forward 0) n b ≡ b
+unfolding mapping.inverse
+inv-forward-0 n b = refl
+
+pub inv-reverse-0 : (n b : ℕ) → inverse (reverse 0) n b ≡ n - b
+unfolding mapping.inverse
+inv-reverse-0 n b = refl
 
 pub inv-forward : (o n b : ℕ) → 0 < o → o < n → b ≤ n → ((b < o) × (inverse (forward o) n b ≡ b + n - o)) ⊎ ((o ≤ b) × (inverse (forward o) n b ≡ b - o))
+unfolding mapping.inverse
 inv-forward o n b p q r =
     ⊎-elim
     (λ h. inl (h, unfolded ∙ mod-eq-of-lt (omega arith)))
@@ -90,6 +101,7 @@ inv-forward o n b p q r =
     unfolded = rw (ne-eqb o 0 (λ e. omega arith), mod-eq-of-lt q)
 
 pub inv-reverse : (o n b : ℕ) → 0 < o → o < n → b ≤ n → ((b ≤ o) × (inverse (reverse o) n b ≡ o - b)) ⊎ (((o < b) × (b < n) × (inverse (reverse o) n b ≡ o + n - b)) ⊎ ((b ≡ n) × (inverse (reverse o) n b ≡ o)))
+unfolding mapping.inverse
 inv-reverse o n b p q r =
     ⊎-elim
     (λ h. ⊎-elim
@@ -214,7 +226,7 @@ pub adj-forward : (o : ℕ) (c : Bool) (n y : ℕ) → Offset o c n → y < n �
 unfolding brought
 adj-forward zero c n y f h =
     let e : laidOn (forward 0) n y ≡ y = ⊎-elim (λ w. omega arith) (λ w. omega arith) (on-forward 0 n y) in
-    (nf-is c n y (laidOn (forward 0) n y) (sym e) (omega arith), ap (λ (x : ℕ). nf c n (x + 1)) (sym e))
+    (nf-is c n (inverse (forward 0) n y) (laidOn (forward 0) n y) (inv-forward-0 n y ∙ sym e) (omega arith), ap (nf c n) (inv-forward-0 n (y + 1) ∙ ap (λ (x : ℕ). x + 1) (sym e)))
 adj-forward (suc o) true n y f h =
     let b = on-below (forward (suc o)) true n y f h in (
       nf-is true n (inverse (forward (suc o)) n y) (laidOn (forward (suc o)) n y)
@@ -236,7 +248,7 @@ adj-forward (suc o) false n y f h = absurd f
 pub raw-reverse : (o : ℕ) (c : Bool) (n y : ℕ) → Offset o c n → y < n → (inverse (reverse o) n (y + 1) ≡ laidOn (reverse o) n y) × ((inverse (reverse o) n y ≡ laidOn (reverse o) n y + 1) ⊎ ((inverse (reverse o) n y ≡ 0) × (laidOn (reverse o) n y + 1 ≡ n)))
 raw-reverse zero c n y f h =
     let e : laidOn (reverse 0) n y ≡ n - 1 - y = ⊎-elim (λ w. omega arith) (λ w. omega arith) (on-reverse 0 n y) in
-    (omega arith, inl (omega arith))
+    (omega (arith, inv-reverse-0 n (y + 1)), inl (omega (arith, inv-reverse-0 n y)))
 raw-reverse (suc o) true n y f h = (
   ⊎-elim
       (λ w. ⊎-elim (λ z. omega arith) (λ z. omega arith) (on-reverse (suc o) n y))
@@ -260,7 +272,7 @@ pub adj-reverse : (o : ℕ) (c : Bool) (n y : ℕ) → Offset o c n → y < n �
 unfolding brought
 adj-reverse zero c n y f h =
     let e : laidOn (reverse 0) n y ≡ n - 1 - y = ⊎-elim (λ w. omega arith) (λ w. omega arith) (on-reverse 0 n y) in
-    (nf-is c n (n - (y + 1)) (laidOn (reverse 0) n y) (omega arith) (omega arith), ap (nf c n) (omega arith))
+    (nf-is c n (inverse (reverse 0) n (y + 1)) (laidOn (reverse 0) n y) (omega (arith, inv-reverse-0 n (y + 1))) (omega arith), ap (nf c n) (omega (arith, inv-reverse-0 n y)))
 adj-reverse (suc o) true n y f h =
     let r = raw-reverse (suc o) true n y f h in (
       nf-is true n (inverse (reverse (suc o)) n (y + 1)) (laidOn (reverse (suc o)) n y) (r .0) (on-below (reverse (suc o)) true n y f h),
@@ -272,14 +284,16 @@ adj-reverse (suc o) false n y f h = absurd f
 pub brought-ends : (m : Seam) (n : ℕ) → 0 < n → Fits m true n → brought m true n n ≡ brought m true n 0
 unfolding brought
 brought-ends unjoined n h f = nf-end n ∙ sym (nf-below true n 0 h)
-brought-ends (forward zero) n h f = nf-end n ∙ sym (nf-below true n 0 h)
+brought-ends (forward zero) n h f = ap (nf true n) (inv-forward-0 n n) ∙ nf-end n ∙ sym (nf-is true n (inverse (forward 0) n 0) 0 (inv-forward-0 n 0) h)
 brought-ends (forward (suc o)) n h f =
     ap (nf true n)
     (⊎-elim
     (λ w. ⊎-elim (λ z. omega arith) (λ z. omega arith) (inv-forward (suc o) n 0 (omega arith) f (omega arith)))
     (λ w. ⊎-elim (λ z. omega arith) (λ z. omega arith) (inv-forward (suc o) n 0 (omega arith) f (omega arith)))
     (inv-forward (suc o) n n (omega arith) f (omega arith)))
-brought-ends (reverse zero) n h f = nf-is true n (n - n) 0 (omega arith) h ∙ sym (nf-eq n (n - 0) n (inl (omega arith)) h ∙ nf-end n)
+brought-ends (reverse zero) n h f =
+    nf-is true n (inverse (reverse 0) n n) 0 (omega (arith, inv-reverse-0 n n)) h
+    ∙ sym (nf-eq n (inverse (reverse 0) n 0) n (inl (omega (arith, inv-reverse-0 n 0))) h ∙ nf-end n)
 brought-ends (reverse (suc o)) n h f = ap (nf true n) (at-n ∙ sym at-0)
   where
     at-n : inverse (reverse (suc o)) n n ≡ suc o
@@ -290,10 +304,10 @@ brought-ends (reverse (suc o)) n h f = ap (nf true n) (at-n ∙ sym at-0)
 
 pub inverse-le : (m : Seam) (c : Bool) (n b : ℕ) → 0 < n → Fits m c n → b ≤ n → inverse m n b ≤ n
 inverse-le unjoined c n b z f h = h
-inverse-le (forward zero) c n b z f h = h
+inverse-le (forward zero) c n b z f h = omega (arith, inv-forward-0 n b)
 inverse-le (forward (suc o)) true n b z f h = ⊎-elim (λ w. omega arith) (λ w. omega arith) (inv-forward (suc o) n b (omega arith) f h)
 inverse-le (forward (suc o)) false n b z f h = absurd f
-inverse-le (reverse zero) c n b z f h = omega arith
+inverse-le (reverse zero) c n b z f h = omega (arith, inv-reverse-0 n b)
 inverse-le (reverse (suc o)) true n b z f h = ⊎-elim (λ w. omega arith) (λ v. ⊎-elim (λ w. omega arith) (λ w. omega arith) v) (inv-reverse (suc o) n b (omega arith) f h)
 inverse-le (reverse (suc o)) false n b z f h = absurd f
 

@@ -3,11 +3,12 @@
 use Prim.Native.Nat.{ℕ, zero, suc, _+_, _-_, _*_, _/_, _%_, _≤_, _<_}
 use mathlib.Core.Path.{_≡_, refl, sym, ap, _∙_, subst}
 use mathlib.Core.Logic.{_⊎_, inl, inr, ⊎-elim}
-use mathlib.Core.Bool.{Bool, true, false}
+use mathlib.Core.Bool.{Bool, true, false, _&&_}
 use native.Mathlib.Omega.{arith}
 use lib.Dec.{eqb, ltb}
 use borrow.Author.Tests.{eqb-true, eqb-false, eq-eqb, ne-eqb}
-use Rattle.surface.specs.Surface.{pick, both, Seam, unjoined, forward, reverse, joined, reversed, inverse, Split, falling, rising, Same}
+use Rattle.cyclic.specs.Mapping.{pick}
+use Rattle.surface.specs.Surface.{Seam, unjoined, forward, reverse, joined, reversed, inverse, Split, falling, rising, Same}
 use Rattle.surface.proofs.Steps.{eqb-cases, lt-or-le, nf, nf-open, nf-closed, nf-two, nf-below, nf-end, nf-le, nf-nf, step-ne, step-two, step-inj, Fits, laidOn, laidBack, on-below, back-below, on-back, on-inj, brought, adj-forward, adj-reverse, brought-ends, brought-le, brought-nf}
 
 pub record Strip : Type 0 where
@@ -24,7 +25,7 @@ pub record Strip : Type 0 where
 
 -- column x is the far one, and joined to column 0
 abbrev pub crossing : Strip → ℕ → Bool
-crossing S x = both (joined (S .seam)) (eqb x (S .X))
+crossing S x = joined (S .seam) && eqb x (S .X)
 
 unfoldable pub colOf : Strip → ℕ → ℕ
 colOf S x = nf (joined (S .seam)) (S .X) x
@@ -42,7 +43,7 @@ stepAt S x y = pick (crossing S x) (laidOn (S .seam) (S .Y) y) y
 
 -- whether it lies there the other way round
 unfoldable pub turned : Strip → ℕ → Bool
-turned S x = both (reversed (S .seam)) (eqb x (S .X))
+turned S x = reversed (S .seam) && eqb x (S .X)
 
 unfoldable pub next : Strip → ℕ → ℕ
 next S y = nf (S .closed) (S .Y) (y + 1)
@@ -55,7 +56,7 @@ module _ (S : Strip) where
   pub crossing-below : (x : ℕ) → x < X → crossing S x ≡ false
   crossing-below x h = go (joined seam)
     where
-      go : (t : Bool) → both t (eqb x X) ≡ false
+      go : (t : Bool) → (t && eqb x X) ≡ false
       go true = ne-eqb x X (λ e. omega arith)
       go false = refl
 
@@ -140,14 +141,14 @@ module _ (S : Strip) where
   adjacent x y h = go seam (eqb x X) fits
     where
       row : Seam → Bool → ℕ → ℕ
-      row m t z = pick (both (joined m) t) (brought m closed Y z) (nf closed Y z)
+      row m t z = pick (joined m && t) (brought m closed Y z) (nf closed Y z)
 
       on : Seam → Bool → ℕ
-      on m t = pick (both (joined m) t) (laidOn m Y y) y
+      on m t = pick (joined m && t) (laidOn m Y y) y
 
       go : (m : Seam) (t : Bool) → Fits m closed Y →
-          ((both (reversed m) t ≡ false) × (row m t y ≡ on m t) × (row m t (y + 1) ≡ nf closed Y (on m t + 1)))
-          ⊎ ((both (reversed m) t ≡ true) × (row m t (y + 1) ≡ on m t) × (row m t y ≡ nf closed Y (on m t + 1)))
+          (((reversed m && t) ≡ false) × (row m t y ≡ on m t) × (row m t (y + 1) ≡ nf closed Y (on m t + 1)))
+          ⊎ (((reversed m && t) ≡ true) × (row m t (y + 1) ≡ on m t) × (row m t y ≡ nf closed Y (on m t + 1)))
       go unjoined t f = inl (refl, nf-below closed Y y h, refl)
       go (forward o) true f = let a = adj-forward o closed Y y f h in inl (refl, a .0, a .1)
       go (forward o) false f = inl (refl, nf-below closed Y y h, refl)

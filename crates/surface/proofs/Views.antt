@@ -5,7 +5,8 @@ use mathlib.Core.Logic.{_⊎_, inl, inr, ⊎-elim}
 use mathlib.Core.Bool.{Bool, true, false, not}
 use mathlib.Core.List.{List, []}
 use native.Mathlib.Omega.{arith}
-use Rattle.surface.specs.Surface.{pick, both, Seam, unjoined, forward, reverse, joined, reversed, inverse, Rule, Split, falling, rising, Shape, J, corner, Triangle, halfOf, Follows, Same, Rim, RimU, RimV, GridEdge, along-u, along-v, fall, riseᵉ, Pair, process, flipped, lowU, highU, lowV, highV, rise}
+use Rattle.cyclic.specs.Mapping.{pick}
+use Rattle.surface.specs.Surface.{Seam, unjoined, forward, reverse, joined, reversed, inverse, Rule, Split, falling, rising, Shape, J, corner, Triangle, halfOf, Follows, Same, Rim, RimU, RimV, GridEdge, along-u, along-v, Pair, process, flipped, lowU, highU, lowV, highV, bySplit, falls, rises}
 use Rattle.surface.proofs.Steps.{lt-or-le}
 use Rattle.surface.proofs.Strip.{Strip, Kind, straight, across, diagonal, pointOf}
 use Rattle.surface.proofs.Places.{Cell, endsOf, e0, e1, RimAt}
@@ -282,9 +283,9 @@ module _ (s : Shape) (m : 3 ≤ s .M) (n : 3 ≤ s .N) (w : AlongU s) where
     where
       last : s .M ≤ u → u ≡ s .M - 1 + 1
       last h = omega arith
-  edge-toU i j i′ j′ (fall {u} {v} hu hv e) =
+  edge-toU i j i′ j′ (falls {u} {v} hu hv e) =
       record { k = diagonal; t = false; x = u; y = v; cell = (hu, hv); ends = subst (λ (d : Split). Same (J s (u + 1) v) (J s u (v + 1)) (endsOf ZU diagonal d false u v .0) (endsOf ZU diagonal d false u v .1)) (sym e) (inr (jU (u + 1) v, jU u (v + 1))) }
-  edge-toU i j i′ j′ (riseᵉ {u} {v} hu hv e) =
+  edge-toU i j i′ j′ (rises {u} {v} hu hv e) =
       record { k = diagonal; t = false; x = u; y = v; cell = (hu, hv); ends = subst (λ (d : Split). Same (J s u v) (J s (u + 1) (v + 1)) (endsOf ZU diagonal d false u v .0) (endsOf ZU diagonal d false u v .1)) (sym e) (inl (jU u v, jU (u + 1) (v + 1))) }
 
   flipsU : flipped s ≡ pick (reversed (s .su)) (process s (s .su) (s .N) (lowU s) (highU s) (s .N) []) []
@@ -297,18 +298,18 @@ module _ (s : Shape) (m : 3 ≤ s .M) (n : 3 ≤ s .N) (w : AlongU s) where
   unfolding lowU index
   low-indexU j = go (s .split)
     where
-      go : (d : Split) → 2 * j + rise d 0 1 ≡ 2 * (0 * s .N + j) + halfNum (halfU d straight false)
+      go : (d : Split) → 2 * j + bySplit d 0 1 ≡ 2 * (0 * s .N + j) + halfNum (halfU d straight false)
       go falling = omega arith
       go rising = omega arith
 
   high-indexU : (i j : ℕ) → i + 1 ≡ s .M → highU s j ≡ index s (halfU (s .split) straight true) i j
   unfolding highU index
-  high-indexU i j h = ap (λ (z : ℕ). 2 * (z * s .N + j) + rise (s .split) 1 0) before ∙ go (s .split)
+  high-indexU i j h = ap (λ (z : ℕ). 2 * (z * s .N + j) + bySplit (s .split) 1 0) before ∙ go (s .split)
     where
       before : s .M - 1 ≡ i
       before = omega arith
 
-      go : (d : Split) → 2 * (i * s .N + j) + rise d 1 0 ≡ 2 * (i * s .N + j) + halfNum (halfU d straight true)
+      go : (d : Split) → 2 * (i * s .N + j) + bySplit d 1 0 ≡ 2 * (i * s .N + j) + halfNum (halfU d straight true)
       go falling = refl
       go rising = refl
 
@@ -409,9 +410,9 @@ module _ (s : Shape) (m : 3 ≤ s .M) (n : 3 ≤ s .N) (w : AlongV s) where
     where
       last : s .N ≤ v → v ≡ s .N - 1 + 1
       last h = omega arith
-  edge-toV i j i′ j′ (fall {u} {v} hu hv e) =
+  edge-toV i j i′ j′ (falls {u} {v} hu hv e) =
       record { k = diagonal; t = false; x = v; y = u; cell = (hv, hu); ends = subst (λ (d : Split). Same (J s (u + 1) v) (J s u (v + 1)) (endsOf ZV diagonal d false v u .0) (endsOf ZV diagonal d false v u .1)) (sym e) (inl (jV (u + 1) v (omega arith), jV u (v + 1) (omega arith))) }
-  edge-toV i j i′ j′ (riseᵉ {u} {v} hu hv e) =
+  edge-toV i j i′ j′ (rises {u} {v} hu hv e) =
       record { k = diagonal; t = false; x = v; y = u; cell = (hv, hu); ends = subst (λ (d : Split). Same (J s u v) (J s (u + 1) (v + 1)) (endsOf ZV diagonal d false v u .0) (endsOf ZV diagonal d false v u .1)) (sym e) (inl (jV u v (omega arith), jV (u + 1) (v + 1) (omega arith))) }
 
   flipsV : flipped s ≡ pick (reversed (s .sv)) (process s (s .sv) (s .M) (lowV s) (highV s) (s .M) []) []

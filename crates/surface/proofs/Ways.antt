@@ -2,11 +2,12 @@
 use Prim.Native.Nat.{ℕ, zero, suc, _+_, _-_, _≤_, _<_}
 use mathlib.Core.Path.{_≡_, refl, sym, ap, _∙_, subst}
 use mathlib.Core.Logic.{_⊎_, inl, inr, ⊎-elim}
-use mathlib.Core.Bool.{Bool, true, false, not}
+use mathlib.Core.Bool.{Bool, true, false, _&&_, not}
 use native.Mathlib.Omega.{arith}
 use lib.Dec.{eqb}
 use borrow.Author.Tests.{eqb-true, eq-eqb}
-use Rattle.surface.specs.Surface.{pick, both, Seam, unjoined, forward, reverse, joined, reversed, Split, falling, rising, Same}
+use Rattle.cyclic.specs.Mapping.{pick}
+use Rattle.surface.specs.Surface.{Seam, unjoined, forward, reverse, joined, reversed, Split, falling, rising, Same}
 use Rattle.surface.proofs.Steps.{laidOn, on-below}
 use Rattle.surface.proofs.Strip.{Strip, Kind, straight, across, diagonal, n0, n1, y0, x1, y1, Valid, x-le, x1-le, y0-le, y1-le, turned, colOf, stepAt, col-ne, next-ne}
 use Rattle.surface.proofs.Places.{Cell, e0, e1, nx, ny, turnedAt, valid, Named, named, far-col, far-step}
@@ -47,7 +48,7 @@ module _ (S : Strip) where
       nope : _≡_ {A = ℕ} 0 1 → ⊥
       nope z = omega arith
 
-  both-true : (a b : Bool) → both a b ≡ true → (a ≡ true) × (b ≡ true)
+  both-true : (a b : Bool) → (a && b) ≡ true → (a ≡ true) × (b ≡ true)
   both-true true b e = (refl, e)
   both-true false b e = (e, cc)
 
@@ -57,7 +58,7 @@ module _ (S : Strip) where
 
   far-turned : reversed seam ≡ true → turned S X ≡ true
   unfolding turned
-  far-turned r = ap (λ (b : Bool). both b (eqb X X)) r ∙ eq-eqb X X refl
+  far-turned r = ap (λ (b : Bool). b && eqb X X) r ∙ eq-eqb X X refl
 
   reversed-joined : reversed seam ≡ true → joined seam ≡ true
   reversed-joined r = go seam r
