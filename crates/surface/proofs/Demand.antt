@@ -10,15 +10,16 @@ use lib.Arith.{digits-div, digits-mod}
 use lib.ListN.{length, getD}
 use borrow.Author.Tests.{ne-eqb}
 use Rattle.cyclic.specs.Mapping.{pick}
-use Rattle.surface.specs.Surface.{Seam, unjoined, forward, reverse, reversed, Split, Shape, J, Triangle, tri, halfOf, slot, proper, kept, slots, triangles, Pair, ordered, numberOf, stepOn, process, flipped, Follows, HasSide, nth, Owns, OwnedOnce, OwnedTwice, Same, Rim, SameWay, GridEdge, along-u, along-v, EdgeNumbers, Jₙ, Covered, Meets, Demand3, falls, rises}
+use Rattle.surface.specs.Surface.{Seam, unjoined, forward, reverse, reversed, Split, Shape, J, Triangle, tri, halfOf, slot, proper, kept, slots, triangles, Pair, pair, ordered, numberOf, stepOn, process, flipped, Follows, HasSide, nth, Owns, OwnedOnce, OwnedTwice, Same, Rim, SameWay, GridEdge, along-u, along-v, EdgeNumbers, Jₙ, Covered, Meets, Demand3, falls, rises}
 use Rattle.surface.proofs.Steps.{lt-or-le, Fits, laidOn, on-below}
 use Rattle.surface.proofs.Strip.{Strip, Kind, straight}
 use Rattle.surface.proofs.Places.{Cell}
 use Rattle.surface.proofs.Owners.{Holds, OnRim, SameTri, Other, owned}
 use Rattle.surface.proofs.Ways.{Runs, Turn, Shared, runs-holds, holds-flip, holds-runs, runs-differ, same-way, turn-shared}
 use Rattle.surface.proofs.Points.{covered-along}
-use Rattle.surface.proofs.Views.{View, viewU, viewV, EdgeAt, halfNum, index}
-use Rattle.surface.proofs.Lists.{halfAt, uAt, vAt, slot-at, uAt-lt, vAt-lt, index-at, index-lt, uAt-index, vAt-index, halfAt-index, kept-length, kept-at, step-on, pair-eq, mk, mem-in, process-to, process-from}
+use Rattle.surface.proofs.Views.{View, viewU, viewV, EdgeAt}
+use Rattle.surface.proofs.Triangles.{halfNum, index, halfAt, uAt, vAt, slot-at, uAt-lt, vAt-lt, index-at, index-lt, uAt-index, vAt-index, halfAt-index, kept-length, kept-at}
+use Rattle.surface.proofs.Pairs.{step-on, pair-eq, mem-in, process-to, process-from}
 
 proper-of : (t : Triangle) → (t .a ≡ t .b → ⊥) → (t .a ≡ t .c → ⊥) → (t .b ≡ t .c → ⊥) → proper t ≡ true
 proper-of t p q r = rw (ne-eqb (t .a) (t .b) p, ne-eqb (t .a) (t .c) q, ne-eqb (t .b) (t .c) r)
@@ -255,11 +256,11 @@ module _ (s : Shape) (m : 3 ≤ s .M) (n : 3 ≤ s .N) (W : View s) where
       (Memᴰ·cast (cc (turn-low i j t, turn-high i j t))
       (process-from s (Z .seam) (Z .Y) (W .lows) (W .highs) on (λ y h. reversed-step (Z .seam) (Z .closed) (Z .Y) y (Z .Y≥3) (Z .fits) (t .rev) h) on-lt low-ok high-ok (Z .Y) (omega arith) (yAt j) (t .below)))
 
-  flip-case : (i j : ℕ) → i < j → SameWay (triangles s) i j → List·Memᴰ (mk i j) (flipped s)
+  flip-case : (i j : ℕ) → i < j → SameWay (triangles s) i j → List·Memᴰ (pair i j) (flipped s)
   flip-case i j h w =
       ⊎-elim
-      (λ t. Memᴰ·cast (pair-eq (mk i j) (ordered i j) (omega arith) (omega arith)) (listed i j t))
-      (λ t. Memᴰ·cast (pair-eq (mk i j) (ordered j i) (omega arith) (omega arith)) (listed j i t))
+      (λ t. Memᴰ·cast (pair-eq (pair i j) (ordered i j) (omega arith) (omega arith)) (listed i j t))
+      (λ t. Memᴰ·cast (pair-eq (pair i j) (ordered j i) (omega arith) (omega arith)) (listed j i t))
       (same-way Z (W .half) (W .half-diagonal) (W .dir) (W .dir-not) (halfAt i) (halfAt j) (xAt i) (yAt i) (xAt j) (yAt j) (w .a) (w .b) (nth-runs i (w .a) (w .b) (w .there-i) (w .along-i)) (nth-runs j (w .a) (w .b) (w .there-j) (w .along-j)) apart)
     where
       apart : SameTri Z (W .half) (W .half-diagonal) (halfAt i) (xAt i) (yAt i) (halfAt j) (xAt j) (yAt j) → ⊥

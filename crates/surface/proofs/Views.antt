@@ -12,15 +12,8 @@ use Rattle.surface.proofs.Strip.{Strip, Kind, straight, across, diagona
 use Rattle.surface.proofs.Places.{Cell, endsOf, e0, e1, RimAt}
 use Rattle.surface.proofs.Owners.{Holds, OnRim, same-trans}
 use Rattle.surface.proofs.Ways.{Along, Runs, along-ends}
+use Rattle.surface.proofs.Triangles.{halfNum, index}
 use Rattle.surface.proofs.Points.{stripU, stripV, SU, SV, J-u, C-u, J-v, C-v, Plain, Tame, AlongU, AlongV}
-
-abbrev pub halfNum : Bool → ℕ
-halfNum false = 0
-halfNum true = 1
-
--- the number of the triangle of half h of cell (u, v)
-unfoldable pub index : Shape → Bool → ℕ → ℕ → ℕ
-index s h u v = 2 * (u * s .N + v) + halfNum h
 
 -- the grid edge is a side of some cell
 pub record EdgeAt (S : Strip) (a b : ℕ) : Type 0 where
