@@ -13,9 +13,9 @@ use Rattle.cyclic.specs.Mapping.{pick}
 use Rattle.surface.specs.Surface.{Seam, unjoined, forward, reverse, reversed, Split, Shape, J, Triangle, tri, halfOf, slot, proper, kept, slots, triangles, Pair, pair, ordered, numberOf, stepOn, process, flipped, Follows, HasSide, nth, Owns, OwnedOnce, OwnedTwice, Same, Rim, SameWay, GridEdge, along-u, along-v, EdgeNumbers, Jₙ, Covered, Meets, Demand3, falls, rises}
 use Rattle.surface.proofs.Steps.{lt-or-le, Fits, laidOn, on-below}
 use Rattle.surface.proofs.Strip.{Strip, Kind, straight}
-use Rattle.surface.proofs.Places.{Cell}
+use Rattle.surface.proofs.CellSides.{Cell}
 use Rattle.surface.proofs.Owners.{Holds, OnRim, SameTri, Other, owned}
-use Rattle.surface.proofs.Ways.{Runs, Turn, Shared, runs-holds, holds-flip, holds-runs, runs-differ, same-way, turn-shared}
+use Rattle.surface.proofs.Directions.{Runs, Turn, Shared, runs-holds, holds-flip, holds-runs, runs-differ, same-way, turn-shared}
 use Rattle.surface.proofs.Points.{covered-along}
 use Rattle.surface.proofs.Views.{View, viewU, viewV, EdgeAt}
 use Rattle.surface.proofs.Triangles.{halfNum, index, halfAt, uAt, vAt, slot-at, uAt-lt, vAt-lt, index-at, index-lt, uAt-index, vAt-index, halfAt-index, kept-length, kept-at}

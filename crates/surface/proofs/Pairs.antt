@@ -13,7 +13,7 @@ use lib.ListN.{length, getD, length-append, List·getD-append}
 use borrow.Author.Tests.{eqb-true, eqb-false, eq-eqb, ne-eqb, ltb-true, ltb-false, lt-ltb, le-ltb}
 use Rattle.cyclic.specs.Mapping.{pick}
 use Rattle.surface.specs.Surface.{Seam, unjoined, forward, reverse, joined, reversed, inverse, Shape, Split, Triangle, tri, halfOf, slot, proper, kept, slots, triangles, Pair, pair, ordered, insert, Before, Ascending, numberOf, stepOn, putDown, process, flipped, lowU, highU, lowV, highV, nth, lowerOf}
-use Rattle.surface.proofs.Steps.{eqb-cases, lt-or-le, Offset, Fits, laidOn, on-below, raw-reverse}
+use Rattle.surface.proofs.Steps.{eqb-cases, lt-or-le, Offset, Fits, laidOn, on-below, reverse-step}
 use Rattle.surface.proofs.Triangles.{number-below, lowU-lt, highU-lt, lowV-lt, highV-lt}
 
 -- ---- the step of row a that `process` finds
@@ -28,8 +28,8 @@ both-ne a b c d h =
 both-eq : (a b c d : ℕ) → a ≡ b → c ≡ d → (eqb a b && eqb c d) ≡ true
 both-eq a b c d p q = ap (λ (t : Bool). t && eqb c d) (eq-eqb a b p) ∙ eq-eqb c d q
 
-wrap-up : (n a : ℕ) → 3 ≤ n → lowerOf n (a + 1) a ≡ a
-wrap-up n a h =
+lower-up : (n a : ℕ) → 3 ≤ n → lowerOf n (a + 1) a ≡ a
+lower-up n a h =
     rw (
       both-ne (a + 1 + 1) n a 0 (λ p q. omega arith),
       both-ne (a + 1) n (a + 1) 0 (λ p q. omega arith),
@@ -37,8 +37,8 @@ wrap-up n a h =
       eq-eqb (a + 1) (a + 1) refl,
     )
 
-wrap-end : (n a : ℕ) → 3 ≤ n → a + 1 ≡ n → lowerOf n 0 a ≡ a
-wrap-end n a h e =
+lower-end : (n a : ℕ) → 3 ≤ n → a + 1 ≡ n → lowerOf n 0 a ≡ a
+lower-end n a h e =
     rw (
       both-ne (0 + 1) n a 0 (λ p q. omega arith),
       both-eq (a + 1) n 0 0 e refl,
@@ -48,11 +48,11 @@ wrap-end n a h e =
 pub step-on : (o : ℕ) (c : Bool) (n y : ℕ) → 3 ≤ n → Offset o c n → y < n → stepOn (reverse o) n y ≡ laidOn (reverse o) n y
 unfolding stepOn
 step-on o c n y h f k =
-    let r = raw-reverse o c n y f k in
+    let r = reverse-step o c n y f k in
     ap (lowerOf n (inverse (reverse o) n y)) (r .0)
     ∙ ⊎-elim
-    (λ w. ap (λ (z : ℕ). lowerOf n z (laidOn (reverse o) n y)) w ∙ wrap-up n (laidOn (reverse o) n y) h)
-    (λ w. ap (λ (z : ℕ). lowerOf n z (laidOn (reverse o) n y)) (w .0) ∙ wrap-end n (laidOn (reverse o) n y) h (w .1))
+    (λ w. ap (λ (z : ℕ). lowerOf n z (laidOn (reverse o) n y)) w ∙ lower-up n (laidOn (reverse o) n y) h)
+    (λ w. ap (λ (z : ℕ). lowerOf n z (laidOn (reverse o) n y)) (w .0) ∙ lower-end n (laidOn (reverse o) n y) h (w .1))
     (r .1)
 
 -- ---- into an ascending list

@@ -9,11 +9,11 @@ use Rattle.cyclic.specs.Mapping.{pick}
 use Rattle.surface.specs.Surface.{Seam, unjoined, forward, reverse, joined, reversed, inverse, Rule, Split, falling, rising, Shape, J, corner, Triangle, halfOf, Follows, Same, Rim, RimU, RimV, GridEdge, along-u, along-v, Pair, process, flipped, lowU, highU, lowV, highV, bySplit, falls, rises}
 use Rattle.surface.proofs.Steps.{lt-or-le}
 use Rattle.surface.proofs.Strip.{Strip, Kind, straight, across, diagonal, pointOf}
-use Rattle.surface.proofs.Places.{Cell, endsOf, e0, e1, RimAt}
+use Rattle.surface.proofs.CellSides.{Cell, endsOf, sideFrom, sideTo, RimAt}
 use Rattle.surface.proofs.Owners.{Holds, OnRim, same-trans}
-use Rattle.surface.proofs.Ways.{Along, Runs, along-ends}
+use Rattle.surface.proofs.Directions.{Along, Runs, along-ends}
 use Rattle.surface.proofs.Triangles.{halfNum, index}
-use Rattle.surface.proofs.Points.{stripU, stripV, SU, SV, J-u, C-u, J-v, C-v, Plain, Tame, AlongU, AlongV}
+use Rattle.surface.proofs.Points.{stripU, stripV, SU, SV, J-u, C-u, J-v, C-v, Plain, KeepsInside, AlongU, AlongV}
 
 -- the grid edge is a side of some cell
 pub record EdgeAt (S : Strip) (a b : ℕ) : Type 0 where
@@ -22,7 +22,7 @@ pub record EdgeAt (S : Strip) (a b : ℕ) : Type 0 where
   pub x : ℕ
   pub y : ℕ
   pub cell : Cell S x y
-  pub ends : Same a b (e0 S k t x y) (e1 S k t x y)
+  pub ends : Same a b (sideFrom S k t x y) (sideTo S k t x y)
 
 -- A strip that is the surface of s: x, y of a grid point, and back.
 pub record View (s : Shape) : Type 0 where
@@ -114,16 +114,16 @@ module _ (s : Shape) (m : 3 ≤ s .M) (n : 3 ≤ s .N) (w : AlongU s) where
 
   module _ (u v a b : ℕ) (hu : u < s .M) (hv : v < s .N) where
     q00U : corner s v u v ≡ pointOf TU u v
-    q00U = C-u s m n (w .fits) (w .plain) (w .tame) v u v hv (omega arith)
+    q00U = C-u s m n (w .fits) (w .plain) (w .inside) v u v hv (omega arith)
 
     q10U : corner s v (u + 1) v ≡ pointOf TU (u + 1) v
-    q10U = C-u s m n (w .fits) (w .plain) (w .tame) v (u + 1) v hv (omega arith)
+    q10U = C-u s m n (w .fits) (w .plain) (w .inside) v (u + 1) v hv (omega arith)
 
     q01U : corner s v u (v + 1) ≡ pointOf TU u (v + 1)
-    q01U = C-u s m n (w .fits) (w .plain) (w .tame) v u (v + 1) hv (omega arith)
+    q01U = C-u s m n (w .fits) (w .plain) (w .inside) v u (v + 1) hv (omega arith)
 
     q11U : corner s v (u + 1) (v + 1) ≡ pointOf TU (u + 1) (v + 1)
-    q11U = C-u s m n (w .fits) (w .plain) (w .tame) v (u + 1) (v + 1) hv (omega arith)
+    q11U = C-u s m n (w .fits) (w .plain) (w .inside) v (u + 1) (v + 1) hv (omega arith)
 
     abbrev RawU : Split → Bool → Type 0
     RawU d h = (k : Kind) × (t : Bool) × (halfU d k t ≡ h) × (((dirU d k t ≡ true) × (a ≡ endsOf TU k d t u v .0) × (b ≡ endsOf TU k d t u v .1)) ⊎ ((dirU d k t ≡ false) × (a ≡ endsOf TU k d t u v .1) × (b ≡ endsOf TU k d t u v .0)))
@@ -164,16 +164,16 @@ module _ (s : Shape) (m : 3 ≤ s .M) (n : 3 ≤ s .N) (w : AlongV s) where
 
   module _ (u v a b : ℕ) (hu : u < s .M) (hv : v < s .N) where
     q00V : corner s v u v ≡ pointOf TV v u
-    q00V = C-v s m n (w .fits) (w .plain) (w .tame) v u v hv (omega arith) (omega arith)
+    q00V = C-v s m n (w .fits) (w .plain) (w .inside) v u v hv (omega arith) (omega arith)
 
     q10V : corner s v (u + 1) v ≡ pointOf TV v (u + 1)
-    q10V = C-v s m n (w .fits) (w .plain) (w .tame) v (u + 1) v hv (omega arith) (omega arith)
+    q10V = C-v s m n (w .fits) (w .plain) (w .inside) v (u + 1) v hv (omega arith) (omega arith)
 
     q01V : corner s v u (v + 1) ≡ pointOf TV (v + 1) u
-    q01V = C-v s m n (w .fits) (w .plain) (w .tame) v u (v + 1) hv (omega arith) (omega arith)
+    q01V = C-v s m n (w .fits) (w .plain) (w .inside) v u (v + 1) hv (omega arith) (omega arith)
 
     q11V : corner s v (u + 1) (v + 1) ≡ pointOf TV (v + 1) (u + 1)
-    q11V = C-v s m n (w .fits) (w .plain) (w .tame) v (u + 1) (v + 1) hv (omega arith) (omega arith)
+    q11V = C-v s m n (w .fits) (w .plain) (w .inside) v (u + 1) (v + 1) hv (omega arith) (omega arith)
 
     abbrev RawV : Split → Bool → Type 0
     RawV d h = (k : Kind) × (t : Bool) × (halfV d k t ≡ h) × (((dirV d k t ≡ true) × (a ≡ endsOf TV k d t v u .0) × (b ≡ endsOf TV k d t v u .1)) ⊎ ((dirV d k t ≡ false) × (a ≡ endsOf TV k d t v u .1) × (b ≡ endsOf TV k d t v u .0)))
@@ -219,13 +219,13 @@ module _ (s : Shape) (m : 3 ≤ s .M) (n : 3 ≤ s .N) (w : AlongU s) where
   jU i j = J-u s m n (w .fits) (w .plain) i j
 
   to-runsU : (h : Bool) (i j a b : ℕ) → i < s .M → j < s .N → Follows (halfOf s (s .split) (halfNum h) i j) a b → RunsU h i j a b
-  unfolding e0 e1 SU stripU
+  unfolding sideFrom sideTo SU stripU
   to-runsU h i j a b hi hj F = let r = raw-toU s m n w i j a b hi hj (s .split) h F in record { k = r .0; t = r .1; cell = (hi, hj); on = r .2; along = r .3 }
 
   from-runsU : (h : Bool) (i j a b : ℕ) → i < s .M → j < s .N → RunsU h i j a b → Follows (halfOf s (s .split) (halfNum h) i j) a b
-  unfolding e0 e1 SU stripU
+  unfolding sideFrom sideTo SU stripU
   from-runsU h i j a b hi hj r =
-      let e = along-ends ZU (halfU (s .split)) (halfU-diagonal (s .split)) (dirU (s .split)) (dirU-not (s .split)) (dirU (s .split) (r .k) (r .t)) a b (e0 ZU (r .k) (r .t) i j) (e1 ZU (r .k) (r .t) i j) (r .along) in
+      let e = along-ends ZU (halfU (s .split)) (halfU-diagonal (s .split)) (dirU (s .split)) (dirU-not (s .split)) (dirU (s .split) (r .k) (r .t)) a b (sideFrom ZU (r .k) (r .t) i j) (sideTo ZU (r .k) (r .t) i j) (r .along) in
       subst (λ (z : Bool). Follows (halfOf s (s .split) (halfNum z) i j) a b) (r .on) (raw-fromU s m n w i j a b hi hj (s .split) (r .k) (r .t) (e .0) (e .1))
 
   top-M : s .M - 1 + 1 ≡ s .M
@@ -235,7 +235,7 @@ module _ (s : Shape) (m : 3 ≤ s .M) (n : 3 ≤ s .N) (w : AlongU s) where
   top-N = omega arith
 
   rim-toU : (a b : ℕ) → Rim s a b → OnRim ZU (halfU (s .split)) (halfU-diagonal (s .split)) a b
-  unfolding e0 e1 SU stripU
+  unfolding sideFrom sideTo SU stripU
   rim-toU a b (inl r) =
       ⊎-elim
       (λ e. record { k = straight; t = false; x = 0; y = r .1 .0; cell = (omega arith, r .1 .1); rim = (r .0, refl); ends = same-trans e (inl (jU 0 (r .1 .0), jU 0 (r .1 .0 + 1))) })
@@ -248,10 +248,10 @@ module _ (s : Shape) (m : 3 ≤ s .M) (n : 3 ≤ s .N) (w : AlongU s) where
       (r .1 .2)
 
   rim-fromU : (a b : ℕ) → OnRim ZU (halfU (s .split)) (halfU-diagonal (s .split)) a b → Rim s a b
-  unfolding e0 e1 SU stripU
+  unfolding sideFrom sideTo SU stripU
   rim-fromU a b r = go (r .k) (r .t) (r .x) (r .y) (r .cell) (r .rim) (r .ends)
     where
-      go : (k : Kind) (t : Bool) (x y : ℕ) → Cell ZU x y → RimAt ZU k t x y → Same a b (e0 ZU k t x y) (e1 ZU k t x y) → Rim s a b
+      go : (k : Kind) (t : Bool) (x y : ℕ) → Cell ZU x y → RimAt ZU k t x y → Same a b (sideFrom ZU k t x y) (sideTo ZU k t x y) → Rim s a b
       go straight false x y c r e = inl (r .0, (y, c .1, inl (same-trans e (inl (ap (λ (z : ℕ). pointOf ZU z y) (r .1) ∙ sym (jU 0 y), ap (λ (z : ℕ). pointOf ZU z (y + 1)) (r .1) ∙ sym (jU 0 (y + 1)))))))
       go straight true x y c r e = inl (r .0, (y, c .1, inr (same-trans e (inl (ap (λ (z : ℕ). pointOf ZU z y) (r .1) ∙ sym (jU (s .M) y), ap (λ (z : ℕ). pointOf ZU z (y + 1)) (r .1) ∙ sym (jU (s .M) (y + 1)))))))
       go across false x y c r e = inr (plain-open (s .sv) (w .plain) (r .0), (x, c .0, inl (same-trans e (inl (ap (pointOf ZU x) (r .1) ∙ sym (jU x 0), ap (pointOf ZU (x + 1)) (r .1) ∙ sym (jU (x + 1) 0))))))
@@ -259,7 +259,7 @@ module _ (s : Shape) (m : 3 ≤ s .M) (n : 3 ≤ s .N) (w : AlongU s) where
       go diagonal t x y c r e = absurd r
 
   edge-toU : (i j i′ j′ : ℕ) → GridEdge s i j i′ j′ → EdgeAt ZU (J s i j) (J s i′ j′)
-  unfolding e0 e1 SU stripU
+  unfolding sideFrom sideTo SU stripU
   edge-toU i j i′ j′ (along-u {u} {v} hu hv) =
       ⊎-elim
       (λ h. record { k = across; t = false; x = u; y = v; cell = (hu, h); ends = inl (jU u v, jU (u + 1) v) })
@@ -343,16 +343,16 @@ module _ (s : Shape) (m : 3 ≤ s .M) (n : 3 ≤ s .N) (w : AlongV s) where
   RunsV = Runs ZV (halfV (s .split)) (halfV-diagonal (s .split)) (dirV (s .split)) (dirV-not (s .split))
 
   jV : (i j : ℕ) → i ≤ s .M → J s i j ≡ pointOf ZV j i
-  jV i j h = J-v s m n (w .fits) (w .plain) (w .tame) i j h
+  jV i j h = J-v s m n (w .fits) (w .plain) (w .inside) i j h
 
   to-runsV : (h : Bool) (i j a b : ℕ) → i < s .M → j < s .N → Follows (halfOf s (s .split) (halfNum h) i j) a b → RunsV h j i a b
-  unfolding e0 e1 SV stripV
+  unfolding sideFrom sideTo SV stripV
   to-runsV h i j a b hi hj F = let r = raw-toV s m n w i j a b hi hj (s .split) h F in record { k = r .0; t = r .1; cell = (hj, hi); on = r .2; along = r .3 }
 
   from-runsV : (h : Bool) (i j a b : ℕ) → i < s .M → j < s .N → RunsV h j i a b → Follows (halfOf s (s .split) (halfNum h) i j) a b
-  unfolding e0 e1 SV stripV
+  unfolding sideFrom sideTo SV stripV
   from-runsV h i j a b hi hj r =
-      let e = along-ends ZV (halfV (s .split)) (halfV-diagonal (s .split)) (dirV (s .split)) (dirV-not (s .split)) (dirV (s .split) (r .k) (r .t)) a b (e0 ZV (r .k) (r .t) j i) (e1 ZV (r .k) (r .t) j i) (r .along) in
+      let e = along-ends ZV (halfV (s .split)) (halfV-diagonal (s .split)) (dirV (s .split)) (dirV-not (s .split)) (dirV (s .split) (r .k) (r .t)) a b (sideFrom ZV (r .k) (r .t) j i) (sideTo ZV (r .k) (r .t) j i) (r .along) in
       subst (λ (z : Bool). Follows (halfOf s (s .split) (halfNum z) i j) a b) (r .on) (raw-fromV s m n w i j a b hi hj (s .split) (r .k) (r .t) (e .0) (e .1))
 
   top-MV : s .M - 1 + 1 ≡ s .M
@@ -362,7 +362,7 @@ module _ (s : Shape) (m : 3 ≤ s .M) (n : 3 ≤ s .N) (w : AlongV s) where
   top-NV = omega arith
 
   rim-toV : (a b : ℕ) → Rim s a b → OnRim ZV (halfV (s .split)) (halfV-diagonal (s .split)) a b
-  unfolding e0 e1 SV stripV
+  unfolding sideFrom sideTo SV stripV
   rim-toV a b (inl r) =
       ⊎-elim
       (λ e. record { k = across; t = false; x = r .1 .0; y = 0; cell = (r .1 .1, omega arith); rim = (ap joined (r .0), refl); ends = same-trans e (inl (jV 0 (r .1 .0) (omega arith), jV 0 (r .1 .0 + 1) (omega arith))) })
@@ -375,10 +375,10 @@ module _ (s : Shape) (m : 3 ≤ s .M) (n : 3 ≤ s .N) (w : AlongV s) where
       (r .1 .2)
 
   rim-fromV : (a b : ℕ) → OnRim ZV (halfV (s .split)) (halfV-diagonal (s .split)) a b → Rim s a b
-  unfolding e0 e1 SV stripV
+  unfolding sideFrom sideTo SV stripV
   rim-fromV a b r = go (r .k) (r .t) (r .x) (r .y) (r .cell) (r .rim) (r .ends)
     where
-      go : (k : Kind) (t : Bool) (x y : ℕ) → Cell ZV x y → RimAt ZV k t x y → Same a b (e0 ZV k t x y) (e1 ZV k t x y) → Rim s a b
+      go : (k : Kind) (t : Bool) (x y : ℕ) → Cell ZV x y → RimAt ZV k t x y → Same a b (sideFrom ZV k t x y) (sideTo ZV k t x y) → Rim s a b
       go straight false x y c r e = inr (r .0, (y, c .1, inl (same-trans e (inl (ap (λ (z : ℕ). pointOf ZV z y) (r .1) ∙ sym (jV y 0 (omega arith)), ap (λ (z : ℕ). pointOf ZV z (y + 1)) (r .1) ∙ sym (jV (y + 1) 0 (omega arith)))))))
       go straight true x y c r e = inr (r .0, (y, c .1, inr (same-trans e (inl (ap (λ (z : ℕ). pointOf ZV z y) (r .1) ∙ sym (jV y (s .N) (omega arith)), ap (λ (z : ℕ). pointOf ZV z (y + 1)) (r .1) ∙ sym (jV (y + 1) (s .N) (omega arith)))))))
       go across false x y c r e = inl (plain-open (s .su) (w .plain) (r .0), (x, c .0, inl (same-trans e (inl (ap (pointOf ZV x) (r .1) ∙ sym (jV 0 x (omega arith)), ap (pointOf ZV (x + 1)) (r .1) ∙ sym (jV 0 (x + 1) (omega arith)))))))
@@ -386,7 +386,7 @@ module _ (s : Shape) (m : 3 ≤ s .M) (n : 3 ≤ s .N) (w : AlongV s) where
       go diagonal t x y c r e = absurd r
 
   edge-toV : (i j i′ j′ : ℕ) → GridEdge s i j i′ j′ → EdgeAt ZV (J s i j) (J s i′ j′)
-  unfolding e0 e1 SV stripV
+  unfolding sideFrom sideTo SV stripV
   edge-toV i j i′ j′ (along-v {u} {v} hu hv) =
       ⊎-elim
       (λ h. record { k = across; t = false; x = v; y = u; cell = (hv, h); ends = inl (jV u v hu, jV u (v + 1) hu) })
