@@ -68,9 +68,8 @@ module _ (S : Strip) where
       go (forward o) e = refl
       go (reverse o) e = refl
 
--- dir k t says whether its triangle runs along the side from sideFrom to sideTo
-module _ (S : Strip) (half : Kind → Bool → Bool) (half-diagonal : (t : Bool) → half diagonal t ≡ t) (dir : Kind → Bool → Bool) (dir-not : (k : Kind) (t : Bool) → dir k (not t) ≡ not (dir k t)) where
-  open Strip S using (X, Y, seam, fits, X≥3, Y≥3)
+module _ (S : Strip) where
+  open Strip S using (X, Y, seam, fits, X≥3, Y≥3, half, half-diagonal, dir, dir-not)
 
   abbrev pub Along : Bool → ℕ → ℕ → ℕ → ℕ → Type 0
   Along w a b c d = ((w ≡ true) × (a ≡ c) × (b ≡ d)) ⊎ ((w ≡ false) × (a ≡ d) × (b ≡ c))
@@ -86,7 +85,7 @@ module _ (S : Strip) (half : Kind → Bool → Bool) (half-diagonal : (t : Bool)
   along-same (inl e) = inl (e .1, e .2)
   along-same (inr e) = inr (e .1, e .2)
 
-  pub runs-holds : (h : Bool) (x y a b : ℕ) → Runs h x y a b → Holds S half half-diagonal h x y a b
+  pub runs-holds : (h : Bool) (x y a b : ℕ) → Runs h x y a b → Holds S h x y a b
   runs-holds h x y a b r = record { k = r .k; t = r .t; cell = r .cell; on = r .on; ends = along-same (r .along) }
 
   -- the low side of column 0 and the high side of the far column that lies on it the other way round
@@ -110,7 +109,7 @@ module _ (S : Strip) (half : Kind → Bool → Bool) (half-diagonal : (t : Bool)
   begins k t x y a b c (inr e) = ⊎-elim (λ w. inr (inr (e .0, e .1 ∙ w .2))) (λ w. inl (w .0)) (named S k t x y c)
 
   -- two opposite places that are not turned do not begin at one end
-  clash : (k k′ : Kind) (t t′ : Bool) (x y x′ y′ a : ℕ) → Cell S x y → Opposite S half half-diagonal k t x y k′ t′ x′ y′ → Begins k t x y a → Begins k′ t′ x′ y′ a → ⊥
+  clash : (k k′ : Kind) (t t′ : Bool) (x y x′ y′ a : ℕ) → Cell S x y → Opposite S k t x y k′ t′ x′ y′ → Begins k t x y a → Begins k′ t′ x′ y′ a → ⊥
   unfolding Begins
   clash k k′ t t′ x y x′ y′ a c o (inl p) (inl q) = not-self true (cc (o .0, o .1, dir-not k t, p .0, q .0))
   clash k k′ t t′ x y x′ y′ a c o (inl p) (inr q) = names-differ S k (nameX S k t x) (nameY S k t x y) (valid S k t x y c) (cc (o .0, o .1, o .2, o .3, p .1, q .1))
@@ -123,7 +122,7 @@ module _ (S : Strip) (half : Kind → Bool → Bool) (half-diagonal : (t : Bool)
   opposite-low across t x y x′ y′ e f p q = (cc, cc)
   opposite-low diagonal t x y x′ y′ e f p q = (cc, cc)
 
-  turn-of : (h h′ : Bool) (x y x′ y′ a b : ℕ) (p : Runs h x y a b) (q : Runs h′ x′ y′ a b) → Opposite S half half-diagonal (p .k) (p .t) x y (q .k) (q .t) x′ y′ → turnedAt S (p .k) (p .t) x ≡ true → Turn h′ x′ y′ h x y
+  turn-of : (h h′ : Bool) (x y x′ y′ a b : ℕ) (p : Runs h x y a b) (q : Runs h′ x′ y′ a b) → Opposite S (p .k) (p .t) x y (q .k) (q .t) x′ y′ → turnedAt S (p .k) (p .t) x ≡ true → Turn h′ x′ y′ h x y
   turn-of h h′ x y x′ y′ a b p q o e =
       record {
         rev = far .0;
@@ -148,7 +147,7 @@ module _ (S : Strip) (half : Kind → Bool → Bool) (half-diagonal : (t : Bool)
       off = refl
 
   -- two triangles that run along a side the same way are at a turn
-  pub same-way : (h h′ : Bool) (x y x′ y′ a b : ℕ) → Runs h x y a b → Runs h′ x′ y′ a b → (SameTri S half half-diagonal h x y h′ x′ y′ → ⊥) → Turn h x y h′ x′ y′ ⊎ Turn h′ x′ y′ h x y
+  pub same-way : (h h′ : Bool) (x y x′ y′ a b : ℕ) → Runs h x y a b → Runs h′ x′ y′ a b → (SameTri S h x y h′ x′ y′ → ⊥) → Turn h x y h′ x′ y′ ⊎ Turn h′ x′ y′ h x y
   same-way h h′ x y x′ y′ a b p q n =
       ⊎-elim
       (λ w. absurd (n (cc (w .0, w .1, q .on, p .on), w .2, w .3)))
@@ -159,13 +158,13 @@ module _ (S : Strip) (half : Kind → Bool → Bool) (half-diagonal : (t : Bool)
       (λ g. absurd (clash (p .k) (q .k) (p .t) (q .t) x y x′ y′ a (p .cell) o f g))
       (begins (q .k) (q .t) x′ y′ a b (q .cell) (q .along)))
       (begins (p .k) (p .t) x y a b (p .cell) (p .along)))
-      (compare S half half-diagonal a b (p .k) (q .k) (p .t) (q .t) x y x′ y′ (p .cell) (q .cell) (along-same (p .along)) (along-same (q .along)))
+      (compare S a b (p .k) (q .k) (p .t) (q .t) x y x′ y′ (p .cell) (q .cell) (along-same (p .along)) (along-same (q .along)))
     where
       not-not : (t : Bool) → not (not t) ≡ t
       not-not true = refl
       not-not false = refl
 
-      swap : Opposite S half half-diagonal (p .k) (p .t) x y (q .k) (q .t) x′ y′ → Opposite S half half-diagonal (q .k) (q .t) x′ y′ (p .k) (p .t) x y
+      swap : Opposite S (p .k) (p .t) x y (q .k) (q .t) x′ y′ → Opposite S (q .k) (q .t) x′ y′ (p .k) (p .t) x y
       swap o = (sym (o .0), cc (o .1, not-not (p .t)), cc (o .0, o .1, o .2, not-not (p .t)), cc (o .0, o .1, o .3, not-not (p .t)))
 
   pub record Shared (h : Bool) (x y : ℕ) (h′ : Bool) (x′ y′ : ℕ) : Type 0 where
@@ -223,14 +222,14 @@ module _ (S : Strip) (half : Kind → Bool → Bool) (half-diagonal : (t : Bool)
   along-ends w a b c d (inl e) = (e .1 ∙ ap (λ (z : Bool). pick z c d) (sym (e .0)), e .2 ∙ ap (λ (z : Bool). pick z d c) (sym (e .0)))
   along-ends w a b c d (inr e) = (e .1 ∙ ap (λ (z : Bool). pick z c d) (sym (e .0)), e .2 ∙ ap (λ (z : Bool). pick z d c) (sym (e .0)))
 
-  pub holds-flip : (h : Bool) (x y a b : ℕ) → Holds S half half-diagonal h x y a b → Holds S half half-diagonal h x y b a
+  pub holds-flip : (h : Bool) (x y a b : ℕ) → Holds S h x y a b → Holds S h x y b a
   holds-flip h x y a b p = record { k = p .k; t = p .t; cell = p .cell; on = p .on; ends = flip (p .ends) }
     where
       flip : {a b c d : ℕ} → Same a b c d → Same b a c d
       flip (inl e) = inr (e .1, e .0)
       flip (inr e) = inl (e .1, e .0)
 
-  pub holds-runs : (h : Bool) (x y a b : ℕ) → Holds S half half-diagonal h x y a b → Runs h x y a b ⊎ Runs h x y b a
+  pub holds-runs : (h : Bool) (x y a b : ℕ) → Holds S h x y a b → Runs h x y a b ⊎ Runs h x y b a
   holds-runs h x y a b p = go (dir (p .k) (p .t)) refl (p .ends)
     where
       go : (w : Bool) → dir (p .k) (p .t) ≡ w → Same a b (sideFrom S (p .k) (p .t) x y) (sideTo S (p .k) (p .t) x y) → Runs h x y a b ⊎ Runs h x y b a

@@ -33,8 +33,9 @@ kind-cases straight = inr (λ e. let z : _≡_ {A = ℕ} 0 1 = cc in omega arith
 kind-cases across = inr (λ e. let z : _≡_ {A = ℕ} 0 1 = cc in omega arith)
 kind-cases diagonal = inl refl
 
--- half k t is the half of its cell that holds the low (false) or high (true) side of kind k; of a diagonal both hold it
-module _ (S : Strip) (half : Kind → Bool → Bool) (half-diagonal : (t : Bool) → half diagonal t ≡ t) where
+module _ (S : Strip) where
+  open Strip S using (half, half-diagonal)
+
   pub record Holds (h : Bool) (x y a b : ℕ) : Type 0 where
     pub k : Kind
     pub t : Bool

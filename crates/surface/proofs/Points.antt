@@ -8,9 +8,53 @@ use lib.Dec.{eqb}
 use lib.Arith.{digits-div, digits-mod}
 use borrow.Author.Tests.{eqb-true, eqb-false, eq-eqb, ne-eqb}
 use Rattle.cyclic.specs.Mapping.{pick}
-use Rattle.surface.specs.Surface.{Seam, unjoined, forward, reverse, joined, reversed, inverse, Point, at, Rule, once, twice, Split, Shape, uRule, vRule, number, joinedBy, J, cornerBy, corner, Beside, AtZero, Covered, neither, only-u, only-v, both-u, both-v}
+use Rattle.surface.specs.Surface.{Seam, unjoined, forward, reverse, joined, reversed, inverse, Point, at, Rule, once, twice, Split, falling, rising, Shape, uRule, vRule, number, joinedBy, J, cornerBy, corner, Beside, AtZero, Covered, neither, only-u, only-v, both-u, both-v}
 use Rattle.surface.proofs.Steps.{eqb-cases, wrap, wrap-open, wrap-closed, wrap-below, wrap-le, wrap-wrap, Fits, Offset, carried, carried-wrap, inv-forward-0, inv-forward, inv-reverse}
-use Rattle.surface.proofs.Strip.{Strip, colOf, rowOf, pointOf, row-below, col-below}
+use Rattle.surface.proofs.Strip.{Strip, Kind, straight, across, diagonal, colOf, rowOf, pointOf, row-below, col-below}
+
+-- ---- which half holds each side, and which way it runs along it
+
+abbrev pub halfU : Split → Kind → Bool → Bool
+halfU falling k t = t
+halfU rising straight t = not t
+halfU rising across t = t
+halfU rising diagonal t = t
+
+abbrev pub dirU : Split → Kind → Bool → Bool
+dirU d straight t = t
+dirU d across t = not t
+dirU d diagonal t = t
+
+abbrev pub halfV : Split → Kind → Bool → Bool
+halfV falling k t = t
+halfV rising straight t = t
+halfV rising across t = not t
+halfV rising diagonal t = t
+
+abbrev pub dirV : Split → Kind → Bool → Bool
+dirV d straight t = not t
+dirV d across t = t
+dirV falling diagonal t = not t
+dirV rising diagonal t = t
+
+pub halfU-diagonal : (d : Split) (t : Bool) → halfU d diagonal t ≡ t
+halfU-diagonal falling t = refl
+halfU-diagonal rising t = refl
+
+pub halfV-diagonal : (d : Split) (t : Bool) → halfV d diagonal t ≡ t
+halfV-diagonal falling t = refl
+halfV-diagonal rising t = refl
+
+pub dirU-not : (d : Split) (k : Kind) (t : Bool) → dirU d k (not t) ≡ not (dirU d k t)
+dirU-not d straight t = refl
+dirU-not d across t = refl
+dirU-not d diagonal t = refl
+
+pub dirV-not : (d : Split) (k : Kind) (t : Bool) → dirV d k (not t) ≡ not (dirV d k t)
+dirV-not d straight t = refl
+dirV-not d across t = refl
+dirV-not falling diagonal t = refl
+dirV-not rising diagonal t = refl
 
 -- ---- point numbers
 
@@ -33,6 +77,10 @@ stripU s m n f =
       Y≥3 = n;
       fits = f;
       inj = λ x y x′ y′ a b c d e. digits-inj x y x′ y′ (s .N + 1) (omega arith) (omega arith) e;
+      half = halfU (s .split);
+      half-diagonal = halfU-diagonal (s .split);
+      dir = dirU (s .split);
+      dir-not = dirU-not (s .split);
     }
 
 unfoldable pub stripV : (s : Shape) → 3 ≤ s .M → 3 ≤ s .N → Fits (s .sv) (joined (s .su)) (s .M) → Strip
@@ -48,6 +96,10 @@ stripV s m n f =
       Y≥3 = m;
       fits = f;
       inj = λ x y x′ y′ a b c d e. let r = digits-inj y x y′ x′ (s .N + 1) (omega arith) (omega arith) e in (r .1, r .0);
+      half = halfV (s .split);
+      half-diagonal = halfV-diagonal (s .split);
+      dir = dirV (s .split);
+      dir-not = dirV-not (s .split);
     }
 
 -- ---- the two rules

@@ -3,13 +3,17 @@
 use Prim.Native.Nat.{ℕ, zero, suc, _+_, _-_, _*_, _/_, _%_, _≤_, _<_}
 use mathlib.Core.Path.{_≡_, refl, sym, ap, _∙_, subst}
 use mathlib.Core.Logic.{_⊎_, inl, inr, ⊎-elim}
-use mathlib.Core.Bool.{Bool, true, false, _&&_}
+use mathlib.Core.Bool.{Bool, true, false, _&&_, not}
 use native.Mathlib.Omega.{arith}
 use lib.Dec.{eqb, ltb}
 use borrow.Author.Tests.{eqb-true, eqb-false, eq-eqb, ne-eqb}
 use Rattle.cyclic.specs.Mapping.{pick}
 use Rattle.surface.specs.Surface.{Seam, unjoined, forward, reverse, joined, reversed, inverse, Split, falling, rising, Same}
 use Rattle.surface.proofs.Steps.{eqb-cases, lt-or-le, wrap, wrap-open, wrap-closed, wrap-two, wrap-below, wrap-end, wrap-le, wrap-wrap, step-ne, step-two, step-inj, Fits, laidOn, laidBack, on-below, back-below, on-back, on-inj, carried, adj-forward, adj-reverse, carried-ends, carried-le, carried-wrap}
+
+-- a side of a cell goes along a column, across to the next column, or along the cell's diagonal
+pub data Kind : Type 0 where
+  straight across diagonal : Kind
 
 pub record Strip : Type 0 where
   pub X : ℕ
@@ -22,6 +26,12 @@ pub record Strip : Type 0 where
   pub Y≥3 : 3 ≤ Y
   pub fits : Fits seam closed Y
   pub inj : (x y x′ y′ : ℕ) → x ≤ X → y ≤ Y → x′ ≤ X → y′ ≤ Y → num x y ≡ num x′ y′ → (x ≡ x′) × (y ≡ y′)
+  -- which half of its cell has the low (false) or high (true) side of a kind; a diagonal is a side of both
+  pub half : Kind → Bool → Bool
+  pub half-diagonal : (t : Bool) → half diagonal t ≡ t
+  -- whether that half runs along it from its first end to its second; the half beyond the side runs the other way
+  pub dir : Kind → Bool → Bool
+  pub dir-not : (k : Kind) (t : Bool) → dir k (not t) ≡ not (dir k t)
 
 -- column x is the far one, and joined to column 0
 abbrev pub crossing : Strip → ℕ → Bool
@@ -163,9 +173,6 @@ module _ (S : Strip) where
       (adjacent x y h)
 
 -- ---- names of sides
-
-pub data Kind : Type 0 where
-  straight across diagonal : Kind
 
 abbrev pub fromY : Strip → Kind → Split → ℕ → ℕ
 fromY S straight d y = y

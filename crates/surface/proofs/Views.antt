@@ -13,7 +13,7 @@ use Rattle.surface.proofs.CellSides.{Cell, endsOf, sideFrom, sideTo, Ri
 use Rattle.surface.proofs.Owners.{Holds, OnRim, same-trans}
 use Rattle.surface.proofs.Directions.{Along, Runs, along-ends}
 use Rattle.surface.proofs.Triangles.{halfNum, index}
-use Rattle.surface.proofs.Points.{stripU, stripV, SU, SV, J-u, C-u, J-v, C-v, Plain, KeepsInside, AlongU, AlongV}
+use Rattle.surface.proofs.Points.{halfU, halfV, dirU, dirV, stripU, stripV, SU, SV, J-u, C-u, J-v, C-v, Plain, KeepsInside, AlongU, AlongV}
 
 -- the grid edge is a side of some cell
 pub record EdgeAt (S : Strip) (a b : ℕ) : Type 0 where
@@ -27,10 +27,6 @@ pub record EdgeAt (S : Strip) (a b : ℕ) : Type 0 where
 -- A strip that is the surface of s: x, y of a grid point, and back.
 pub record View (s : Shape) : Type 0 where
   pub S : Strip
-  pub half : Kind → Bool → Bool
-  pub half-diagonal : (t : Bool) → half diagonal t ≡ t
-  pub dir : Kind → Bool → Bool
-  pub dir-not : (k : Kind) (t : Bool) → dir k (not t) ≡ not (dir k t)
   pub x : ℕ → ℕ → ℕ
   pub y : ℕ → ℕ → ℕ
   pub u : ℕ → ℕ → ℕ
@@ -39,16 +35,16 @@ pub record View (s : Shape) : Type 0 where
   pub back : (i j : ℕ) → Cell S i j → (u i j < s .M) × (v i j < s .N) × (x (u i j) (v i j) ≡ i) × (y (u i j) (v i j) ≡ j)
   pub u-of : (i j : ℕ) → u (x i j) (y i j) ≡ i
   pub v-of : (i j : ℕ) → v (x i j) (y i j) ≡ j
-  pub to-runs : (h : Bool) (i j a b : ℕ) → i < s .M → j < s .N → Follows (halfOf s (s .split) (halfNum h) i j) a b → Runs S half half-diagonal dir dir-not h (x i j) (y i j) a b
-  pub from-runs : (h : Bool) (i j a b : ℕ) → i < s .M → j < s .N → Runs S half half-diagonal dir dir-not h (x i j) (y i j) a b → Follows (halfOf s (s .split) (halfNum h) i j) a b
-  pub rim-to : (a b : ℕ) → Rim s a b → OnRim S half half-diagonal a b
-  pub rim-from : (a b : ℕ) → OnRim S half half-diagonal a b → Rim s a b
+  pub to-runs : (h : Bool) (i j a b : ℕ) → i < s .M → j < s .N → Follows (halfOf s (s .split) (halfNum h) i j) a b → Runs S h (x i j) (y i j) a b
+  pub from-runs : (h : Bool) (i j a b : ℕ) → i < s .M → j < s .N → Runs S h (x i j) (y i j) a b → Follows (halfOf s (s .split) (halfNum h) i j) a b
+  pub rim-to : (a b : ℕ) → Rim s a b → OnRim S a b
+  pub rim-from : (a b : ℕ) → OnRim S a b → Rim s a b
   pub edge-to : (i j i′ j′ : ℕ) → GridEdge s i j i′ j′ → EdgeAt S (J s i j) (J s i′ j′)
   pub lows : ℕ → ℕ
   pub highs : ℕ → ℕ
   pub flips : flipped s ≡ pick (reversed (S .seam)) (process s (S .seam) (S .Y) lows highs (S .Y) []) []
-  pub low-index : (j : ℕ) → j < S .Y → lows j ≡ index s (half straight false) (u 0 j) (v 0 j)
-  pub high-index : (i j : ℕ) → i + 1 ≡ S .X → j < S .Y → highs j ≡ index s (half straight true) (u i j) (v i j)
+  pub low-index : (j : ℕ) → j < S .Y → lows j ≡ index s (S .half straight false) (u 0 j) (v 0 j)
+  pub high-index : (i j : ℕ) → i + 1 ≡ S .X → j < S .Y → highs j ≡ index s (S .half straight true) (u i j) (v i j)
 
 plain-open : (m : Seam) → Plain m → joined m ≡ false → m ≡ unjoined
 plain-open m (inl e) j = e
@@ -63,50 +59,6 @@ plain-open m (inr e) j = absurd (no-way (sym (ap joined e) ∙ j))
 plain-reversed : (m : Seam) → Plain m → reversed m ≡ false
 plain-reversed m (inl e) = ap reversed e
 plain-reversed m (inr e) = ap reversed e
-
--- ---- which half holds each side, and which way it runs along it
-
-abbrev halfU : Split → Kind → Bool → Bool
-halfU falling k t = t
-halfU rising straight t = not t
-halfU rising across t = t
-halfU rising diagonal t = t
-
-abbrev dirU : Split → Kind → Bool → Bool
-dirU d straight t = t
-dirU d across t = not t
-dirU d diagonal t = t
-
-abbrev halfV : Split → Kind → Bool → Bool
-halfV falling k t = t
-halfV rising straight t = t
-halfV rising across t = not t
-halfV rising diagonal t = t
-
-abbrev dirV : Split → Kind → Bool → Bool
-dirV d straight t = not t
-dirV d across t = t
-dirV falling diagonal t = not t
-dirV rising diagonal t = t
-
-halfU-diagonal : (d : Split) (t : Bool) → halfU d diagonal t ≡ t
-halfU-diagonal falling t = refl
-halfU-diagonal rising t = refl
-
-halfV-diagonal : (d : Split) (t : Bool) → halfV d diagonal t ≡ t
-halfV-diagonal falling t = refl
-halfV-diagonal rising t = refl
-
-dirU-not : (d : Split) (k : Kind) (t : Bool) → dirU d k (not t) ≡ not (dirU d k t)
-dirU-not d straight t = refl
-dirU-not d across t = refl
-dirU-not d diagonal t = refl
-
-dirV-not : (d : Split) (k : Kind) (t : Bool) → dirV d k (not t) ≡ not (dirV d k t)
-dirV-not d straight t = refl
-dirV-not d across t = refl
-dirV-not falling diagonal t = refl
-dirV-not rising diagonal t = refl
 
 module _ (s : Shape) (m : 3 ≤ s .M) (n : 3 ≤ s .N) (w : AlongU s) where
   abbrev TU : Strip
@@ -213,7 +165,7 @@ module _ (s : Shape) (m : 3 ≤ s .M) (n : 3 ≤ s .N) (w : AlongU s) where
   ZU = SU s m n (w .fits) (w .plain)
 
   abbrev RunsU : Bool → ℕ → ℕ → ℕ → ℕ → Type 0
-  RunsU = Runs ZU (halfU (s .split)) (halfU-diagonal (s .split)) (dirU (s .split)) (dirU-not (s .split))
+  RunsU = Runs ZU
 
   jU : (i j : ℕ) → J s i j ≡ pointOf ZU i j
   jU i j = J-u s m n (w .fits) (w .plain) i j
@@ -225,7 +177,7 @@ module _ (s : Shape) (m : 3 ≤ s .M) (n : 3 ≤ s .N) (w : AlongU s) where
   from-runsU : (h : Bool) (i j a b : ℕ) → i < s .M → j < s .N → RunsU h i j a b → Follows (halfOf s (s .split) (halfNum h) i j) a b
   unfolding sideFrom sideTo SU stripU
   from-runsU h i j a b hi hj r =
-      let e = along-ends ZU (halfU (s .split)) (halfU-diagonal (s .split)) (dirU (s .split)) (dirU-not (s .split)) (dirU (s .split) (r .k) (r .t)) a b (sideFrom ZU (r .k) (r .t) i j) (sideTo ZU (r .k) (r .t) i j) (r .along) in
+      let e = along-ends ZU (dirU (s .split) (r .k) (r .t)) a b (sideFrom ZU (r .k) (r .t) i j) (sideTo ZU (r .k) (r .t) i j) (r .along) in
       subst (λ (z : Bool). Follows (halfOf s (s .split) (halfNum z) i j) a b) (r .on) (raw-fromU s m n w i j a b hi hj (s .split) (r .k) (r .t) (e .0) (e .1))
 
   top-M : s .M - 1 + 1 ≡ s .M
@@ -234,7 +186,7 @@ module _ (s : Shape) (m : 3 ≤ s .M) (n : 3 ≤ s .N) (w : AlongU s) where
   top-N : s .N - 1 + 1 ≡ s .N
   top-N = omega arith
 
-  rim-toU : (a b : ℕ) → Rim s a b → OnRim ZU (halfU (s .split)) (halfU-diagonal (s .split)) a b
+  rim-toU : (a b : ℕ) → Rim s a b → OnRim ZU a b
   unfolding sideFrom sideTo SU stripU
   rim-toU a b (inl r) =
       ⊎-elim
@@ -247,7 +199,7 @@ module _ (s : Shape) (m : 3 ≤ s .M) (n : 3 ≤ s .N) (w : AlongU s) where
       (λ e. record { k = across; t = true; x = r .1 .0; y = s .N - 1; cell = (r .1 .1, omega arith); rim = (ap joined (r .0), top-N); ends = same-trans e (inl (jU (r .1 .0) (s .N) ∙ ap (pointOf ZU (r .1 .0)) (sym top-N), jU (r .1 .0 + 1) (s .N) ∙ ap (pointOf ZU (r .1 .0 + 1)) (sym top-N))) })
       (r .1 .2)
 
-  rim-fromU : (a b : ℕ) → OnRim ZU (halfU (s .split)) (halfU-diagonal (s .split)) a b → Rim s a b
+  rim-fromU : (a b : ℕ) → OnRim ZU a b → Rim s a b
   unfolding sideFrom sideTo SU stripU
   rim-fromU a b r = go (r .k) (r .t) (r .x) (r .y) (r .cell) (r .rim) (r .ends)
     where
@@ -311,10 +263,6 @@ module _ (s : Shape) (m : 3 ≤ s .M) (n : 3 ≤ s .N) (w : AlongU s) where
   viewU =
       record {
         S = ZU;
-        half = halfU (s .split);
-        half-diagonal = halfU-diagonal (s .split);
-        dir = dirU (s .split);
-        dir-not = dirU-not (s .split);
         x = λ i j. i;
         y = λ i j. j;
         u = λ i j. i;
@@ -340,7 +288,7 @@ module _ (s : Shape) (m : 3 ≤ s .M) (n : 3 ≤ s .N) (w : AlongV s) where
   ZV = SV s m n (w .fits) (w .plain)
 
   abbrev RunsV : Bool → ℕ → ℕ → ℕ → ℕ → Type 0
-  RunsV = Runs ZV (halfV (s .split)) (halfV-diagonal (s .split)) (dirV (s .split)) (dirV-not (s .split))
+  RunsV = Runs ZV
 
   jV : (i j : ℕ) → i ≤ s .M → J s i j ≡ pointOf ZV j i
   jV i j h = J-v s m n (w .fits) (w .plain) (w .inside) i j h
@@ -352,7 +300,7 @@ module _ (s : Shape) (m : 3 ≤ s .M) (n : 3 ≤ s .N) (w : AlongV s) where
   from-runsV : (h : Bool) (i j a b : ℕ) → i < s .M → j < s .N → RunsV h j i a b → Follows (halfOf s (s .split) (halfNum h) i j) a b
   unfolding sideFrom sideTo SV stripV
   from-runsV h i j a b hi hj r =
-      let e = along-ends ZV (halfV (s .split)) (halfV-diagonal (s .split)) (dirV (s .split)) (dirV-not (s .split)) (dirV (s .split) (r .k) (r .t)) a b (sideFrom ZV (r .k) (r .t) j i) (sideTo ZV (r .k) (r .t) j i) (r .along) in
+      let e = along-ends ZV (dirV (s .split) (r .k) (r .t)) a b (sideFrom ZV (r .k) (r .t) j i) (sideTo ZV (r .k) (r .t) j i) (r .along) in
       subst (λ (z : Bool). Follows (halfOf s (s .split) (halfNum z) i j) a b) (r .on) (raw-fromV s m n w i j a b hi hj (s .split) (r .k) (r .t) (e .0) (e .1))
 
   top-MV : s .M - 1 + 1 ≡ s .M
@@ -361,7 +309,7 @@ module _ (s : Shape) (m : 3 ≤ s .M) (n : 3 ≤ s .N) (w : AlongV s) where
   top-NV : s .N - 1 + 1 ≡ s .N
   top-NV = omega arith
 
-  rim-toV : (a b : ℕ) → Rim s a b → OnRim ZV (halfV (s .split)) (halfV-diagonal (s .split)) a b
+  rim-toV : (a b : ℕ) → Rim s a b → OnRim ZV a b
   unfolding sideFrom sideTo SV stripV
   rim-toV a b (inl r) =
       ⊎-elim
@@ -374,7 +322,7 @@ module _ (s : Shape) (m : 3 ≤ s .M) (n : 3 ≤ s .N) (w : AlongV s) where
       (λ e. record { k = straight; t = true; x = s .N - 1; y = r .1 .0; cell = (omega arith, r .1 .1); rim = (r .0, top-NV); ends = same-trans e (inl (jV (r .1 .0) (s .N) (omega (arith, r .1 .1)) ∙ ap (λ (z : ℕ). pointOf ZV z (r .1 .0)) (sym top-NV), jV (r .1 .0 + 1) (s .N) (omega (arith, r .1 .1)) ∙ ap (λ (z : ℕ). pointOf ZV z (r .1 .0 + 1)) (sym top-NV))) })
       (r .1 .2)
 
-  rim-fromV : (a b : ℕ) → OnRim ZV (halfV (s .split)) (halfV-diagonal (s .split)) a b → Rim s a b
+  rim-fromV : (a b : ℕ) → OnRim ZV a b → Rim s a b
   unfolding sideFrom sideTo SV stripV
   rim-fromV a b r = go (r .k) (r .t) (r .x) (r .y) (r .cell) (r .rim) (r .ends)
     where
@@ -438,10 +386,6 @@ module _ (s : Shape) (m : 3 ≤ s .M) (n : 3 ≤ s .N) (w : AlongV s) where
   viewV =
       record {
         S = ZV;
-        half = halfV (s .split);
-        half-diagonal = halfV-diagonal (s .split);
-        dir = dirV (s .split);
-        dir-not = dirV-not (s .split);
         x = λ i j. j;
         y = λ i j. i;
         u = λ i j. j;
