@@ -9,15 +9,17 @@ use lib.Dec.{eqb}
 use lib.Arith.{digits-div, digits-mod}
 use lib.ListN.{length, getD}
 use borrow.Author.Tests.{ne-eqb}
-use Rattle.surface.specs.Surface.{pick, both, Seam, unjoined, forward, reverse, reversed, Split, Shape, J, Triangle, tri, halfOf, slot, proper, kept, slots, triangles, Pair, ordered, numberOf, stepOn, process, flipped, Follows, HasSide, nth, Owns, OwnedOnce, OwnedTwice, Same, Rim, SameWay, GridEdge, along-u, along-v, fall, riseᵉ, EdgeNumbers, Jₙ, Covered, Meets, Demand3}
+use Rattle.cyclic.specs.Mapping.{pick}
+use Rattle.surface.specs.Surface.{Seam, unjoined, forward, reverse, reversed, Split, Shape, J, Triangle, tri, halfOf, slot, proper, kept, slots, triangles, Pair, pair, ordered, numberOf, stepOn, process, flipped, Follows, HasSide, nth, Owns, OwnedOnce, OwnedTwice, Same, Rim, SameWay, GridEdge, along-u, along-v, EdgeNumbers, Jₙ, Covered, Meets, Demand3, falls, rises}
 use Rattle.surface.proofs.Steps.{lt-or-le, Fits, laidOn, on-below}
 use Rattle.surface.proofs.Strip.{Strip, Kind, straight}
-use Rattle.surface.proofs.Places.{Cell}
+use Rattle.surface.proofs.CellSides.{Cell}
 use Rattle.surface.proofs.Owners.{Holds, OnRim, SameTri, Other, owned}
-use Rattle.surface.proofs.Ways.{Runs, Turn, Shared, runs-holds, holds-flip, holds-runs, runs-differ, same-way, turn-shared}
+use Rattle.surface.proofs.Directions.{Runs, Turn, Shared, runs-holds, holds-flip, holds-runs, runs-differ, same-way, turn-shared}
 use Rattle.surface.proofs.Points.{covered-along}
-use Rattle.surface.proofs.Views.{View, viewU, viewV, EdgeAt, halfNum, index}
-use Rattle.surface.proofs.Lists.{halfAt, uAt, vAt, slot-at, uAt-lt, vAt-lt, index-at, index-lt, uAt-index, vAt-index, halfAt-index, kept-length, kept-at, step-on, pair-eq, mk, mem-in, process-to, process-from}
+use Rattle.surface.proofs.Views.{View, viewU, viewV, EdgeAt}
+use Rattle.surface.proofs.Triangles.{halfNum, index, halfAt, uAt, vAt, slot-at, uAt-lt, vAt-lt, index-at, index-lt, uAt-index, vAt-index, halfAt-index, kept-length, kept-at}
+use Rattle.surface.proofs.Pairs.{step-on, pair-eq, mem-in, process-to, process-from}
 
 proper-of : (t : Triangle) → (t .a ≡ t .b → ⊥) → (t .a ≡ t .c → ⊥) → (t .b ≡ t .c → ⊥) → proper t ≡ true
 proper-of t p q r = rw (ne-eqb (t .a) (t .b) p, ne-eqb (t .a) (t .c) q, ne-eqb (t .b) (t .c) r)
@@ -29,10 +31,10 @@ reversed-step (forward o) c n y h f e k = cc
 
 module _ (s : Shape) (m : 3 ≤ s .M) (n : 3 ≤ s .N) (W : View s) where
   abbrev Run : Bool → ℕ → ℕ → ℕ → ℕ → Type 0
-  Run = Runs (W .S) (W .half) (W .half-diagonal) (W .dir) (W .dir-not)
+  Run = Runs (W .S)
 
   abbrev Hold : Bool → ℕ → ℕ → ℕ → ℕ → Type 0
-  Hold = Holds (W .S) (W .half) (W .half-diagonal)
+  Hold = Holds (W .S)
 
   abbrev xAt : ℕ → ℕ
   xAt i = W .x (uAt s i) (vAt s i)
@@ -60,7 +62,7 @@ module _ (s : Shape) (m : 3 ≤ s .M) (n : 3 ≤ s .N) (W : View s) where
       (differ (slot s i .b) (slot s i .c) (inr (inl (refl, refl))))
     where
       differ : (a b : ℕ) → Follows (slot s i) a b → a ≡ b → ⊥
-      differ a b F = runs-differ (W .S) (W .half) (W .half-diagonal) (W .dir) (W .dir-not) (halfAt i) (xAt i) (yAt i) a b (slot-runs i a b h F)
+      differ a b F = runs-differ (W .S) (halfAt i) (xAt i) (yAt i) a b (slot-runs i a b h F)
 
   count : length (triangles s) ≡ slots s
   unfolding triangles
@@ -88,15 +90,15 @@ module _ (s : Shape) (m : 3 ≤ s .M) (n : 3 ≤ s .N) (W : View s) where
   owns-holds : (a b i : ℕ) → Owns (triangles s) a b i → Hold (halfAt i) (xAt i) (yAt i) a b
   owns-holds a b i o =
       ⊎-elim
-      (λ F. runs-holds (W .S) (W .half) (W .half-diagonal) (W .dir) (W .dir-not) (halfAt i) (xAt i) (yAt i) a b (nth-runs i a b (o .there) F))
-      (λ F. holds-flip (W .S) (W .half) (W .half-diagonal) (W .dir) (W .dir-not) (halfAt i) (xAt i) (yAt i) b a (runs-holds (W .S) (W .half) (W .half-diagonal) (W .dir) (W .dir-not) (halfAt i) (xAt i) (yAt i) b a (nth-runs i b a (o .there) F)))
+      (λ F. runs-holds (W .S) (halfAt i) (xAt i) (yAt i) a b (nth-runs i a b (o .there) F))
+      (λ F. holds-flip (W .S) (halfAt i) (xAt i) (yAt i) b a (runs-holds (W .S) (halfAt i) (xAt i) (yAt i) b a (nth-runs i b a (o .there) F)))
       (o .has)
 
   holds-owns : (a b i : ℕ) → i < slots s → Hold (halfAt i) (xAt i) (yAt i) a b → Owns (triangles s) a b i
   holds-owns a b i h p =
       record {
         there = omega (arith, count);
-        has = ⊎-elim (λ r. inl (runs-nth i a b h r)) (λ r. inr (runs-nth i b a h r)) (holds-runs (W .S) (W .half) (W .half-diagonal) (W .dir) (W .dir-not) (halfAt i) (xAt i) (yAt i) a b p);
+        has = ⊎-elim (λ r. inl (runs-nth i a b h r)) (λ r. inr (runs-nth i b a h r)) (holds-runs (W .S) (halfAt i) (xAt i) (yAt i) a b p);
       }
 
   -- the number of the triangle of half h of cell (x, y) of the strip
@@ -131,7 +133,7 @@ module _ (s : Shape) (m : 3 ≤ s .M) (n : 3 ≤ s .N) (W : View s) where
 
   -- ---- sides
 
-  once-case : (a b i : ℕ) → Owns (triangles s) a b i → ((h′ : Bool) (x′ y′ : ℕ) → Hold h′ x′ y′ a b → SameTri (W .S) (W .half) (W .half-diagonal) (halfAt i) (xAt i) (yAt i) h′ x′ y′) → OwnedOnce (triangles s) a b
+  once-case : (a b i : ℕ) → Owns (triangles s) a b i → ((h′ : Bool) (x′ y′ : ℕ) → Hold h′ x′ y′ a b → SameTri (W .S) (halfAt i) (xAt i) (yAt i) h′ x′ y′) → OwnedOnce (triangles s) a b
   once-case a b i o f =
       record {
         first = i;
@@ -140,7 +142,7 @@ module _ (s : Shape) (m : 3 ≤ s .M) (n : 3 ≤ s .N) (W : View s) where
             is-indexOf k (halfAt i) (xAt i) (yAt i) (e .0) (e .1) (e .2) ∙ indexOf-at i;
       }
 
-  twice-case : (a b i : ℕ) → Owns (triangles s) a b i → Other (W .S) (W .half) (W .half-diagonal) (halfAt i) (xAt i) (yAt i) a b → OwnedTwice (triangles s) a b
+  twice-case : (a b i : ℕ) → Owns (triangles s) a b i → Other (W .S) (halfAt i) (xAt i) (yAt i) a b → OwnedTwice (triangles s) a b
   twice-case a b i o t = ⊎-elim (λ h. in-order h) (λ h. out-of-order h) (lt-or-le i j)
     where
       j : ℕ
@@ -173,12 +175,12 @@ module _ (s : Shape) (m : 3 ≤ s .M) (n : 3 ≤ s .N) (W : View s) where
       ⊎-elim
       (λ w. inl (W .rim-from a b (w .0), once-case a b i o (w .1)))
       (λ w. inr (λ r. w .0 (W .rim-to a b r), twice-case a b i o (w .1)))
-      (owned (W .S) (W .half) (W .half-diagonal) (halfAt i) (xAt i) (yAt i) a b (owns-holds a b i o))
+      (owned (W .S) (halfAt i) (xAt i) (yAt i) a b (owns-holds a b i o))
 
   edge-case : (u v u′ v′ : ℕ) → GridEdge s u v u′ v′ → (i : ℕ) × Owns (triangles s) (J s u v) (J s u′ v′) i
   edge-case u v u′ v′ g =
       let e = W .edge-to u v u′ v′ g in
-      let h = W .half (e .k) (e .t) in
+      let h = W .S .half (e .k) (e .t) in
       let p : Hold h (e .x) (e .y) (J s u v) (J s u′ v′) = record { k = e .k; t = e .t; cell = e .cell; on = refl; ends = e .ends } in
       (indexOf h (e .x) (e .y), holds-owns (J s u v) (J s u′ v′) (indexOf h (e .x) (e .y)) (indexOf-lt h (e .x) (e .y) (e .cell)) (at-index (λ h x y. Hold h x y (J s u v) (J s u′ v′)) h (e .x) (e .y) (e .cell) p))
 
@@ -188,16 +190,16 @@ module _ (s : Shape) (m : 3 ≤ s .M) (n : 3 ≤ s .N) (W : View s) where
   Z = W .S
 
   abbrev TurnW : Bool → ℕ → ℕ → Bool → ℕ → ℕ → Type 0
-  TurnW = Turn Z (W .half) (W .half-diagonal) (W .dir) (W .dir-not)
+  TurnW = Turn Z
 
   abbrev on : ℕ → ℕ
   on y = laidOn (Z .seam) (Z .Y) y
 
   low-half : Bool
-  low-half = W .half straight false
+  low-half = W .S .half straight false
 
   high-half : Bool
-  high-half = W .half straight true
+  high-half = W .S .half straight true
 
   far : ℕ
   far = Z .X - 1
@@ -254,14 +256,14 @@ module _ (s : Shape) (m : 3 ≤ s .M) (n : 3 ≤ s .N) (W : View s) where
       (Memᴰ·cast (cc (turn-low i j t, turn-high i j t))
       (process-from s (Z .seam) (Z .Y) (W .lows) (W .highs) on (λ y h. reversed-step (Z .seam) (Z .closed) (Z .Y) y (Z .Y≥3) (Z .fits) (t .rev) h) on-lt low-ok high-ok (Z .Y) (omega arith) (yAt j) (t .below)))
 
-  flip-case : (i j : ℕ) → i < j → SameWay (triangles s) i j → List·Memᴰ (mk i j) (flipped s)
+  flip-case : (i j : ℕ) → i < j → SameWay (triangles s) i j → List·Memᴰ (pair i j) (flipped s)
   flip-case i j h w =
       ⊎-elim
-      (λ t. Memᴰ·cast (pair-eq (mk i j) (ordered i j) (omega arith) (omega arith)) (listed i j t))
-      (λ t. Memᴰ·cast (pair-eq (mk i j) (ordered j i) (omega arith) (omega arith)) (listed j i t))
-      (same-way Z (W .half) (W .half-diagonal) (W .dir) (W .dir-not) (halfAt i) (halfAt j) (xAt i) (yAt i) (xAt j) (yAt j) (w .a) (w .b) (nth-runs i (w .a) (w .b) (w .there-i) (w .along-i)) (nth-runs j (w .a) (w .b) (w .there-j) (w .along-j)) apart)
+      (λ t. Memᴰ·cast (pair-eq (pair i j) (ordered i j) (omega arith) (omega arith)) (listed i j t))
+      (λ t. Memᴰ·cast (pair-eq (pair i j) (ordered j i) (omega arith) (omega arith)) (listed j i t))
+      (same-way Z (halfAt i) (halfAt j) (xAt i) (yAt i) (xAt j) (yAt j) (w .a) (w .b) (nth-runs i (w .a) (w .b) (w .there-i) (w .along-i)) (nth-runs j (w .a) (w .b) (w .there-j) (w .along-j)) apart)
     where
-      apart : SameTri Z (W .half) (W .half-diagonal) (halfAt i) (xAt i) (yAt i) (halfAt j) (xAt j) (yAt j) → ⊥
+      apart : SameTri Z (halfAt i) (xAt i) (yAt i) (halfAt j) (xAt j) (yAt j) → ⊥
       apart e = let q : j ≡ i = is-indexOf j (halfAt i) (xAt i) (yAt i) (e .0) (e .1) (e .2) ∙ indexOf-at i in omega arith
 
   way-swap : (i j : ℕ) → SameWay (triangles s) i j → SameWay (triangles s) j i
@@ -271,7 +273,7 @@ module _ (s : Shape) (m : 3 ≤ s .M) (n : 3 ≤ s .N) (W : View s) where
   unfolding low-half high-half
   shared-way y h e =
       let t : TurnW low-half 0 (on y) high-half far y = record { rev = e; below = h; low-half = refl; low-x = refl; low-y = refl; high-half = refl; high-x = far-is } in
-      let r = turn-shared Z (W .half) (W .half-diagonal) (W .dir) (W .dir-not) low-half high-half 0 (on y) far y t in
+      let r = turn-shared Z low-half high-half 0 (on y) far y t in
       let cl = low-cell (on y) (on-lt y h) in
       let ch = high-cell y h in
       let i = indexOf low-half 0 (on y) in
@@ -317,7 +319,7 @@ module _ (s : Shape) (m : 3 ≤ s .M) (n : 3 ≤ s .N) (W : View s) where
           ordered-way p (indexOf low-half 0 (on y)) (indexOf high-half far y) f (turn-apart y (t .1)) (shared-way y (t .1) e)
 
   pub meets : Meets s
-  meets = record { sides = side-case; flip = flip-case; flop = flop-case; edges = edge-case }
+  meets = record { sides = side-case; flipped-if = flip-case; flipped-only-if = flop-case; edges = edge-case }
 
 pub demand3 : Demand3
 demand3 s m n c = ⊎-elim (λ w. meets s m n (viewU s m n w)) (λ w. meets s m n (viewV s m n w)) (covered-along s c)
@@ -339,5 +341,5 @@ traced s m p q e =
     bounds : (u v u′ v′ : ℕ) → GridEdge s u v u′ v′ → (v ≤ s .N) × (v′ ≤ s .N)
     bounds u v u′ v′ (along-u h k) = (k, k)
     bounds u v u′ v′ (along-v h k) = omega arith
-    bounds u v u′ v′ (fall h k d) = omega arith
-    bounds u v u′ v′ (riseᵉ h k d) = omega arith
+    bounds u v u′ v′ (falls h k d) = omega arith
+    bounds u v u′ v′ (rises h k d) = omega arith

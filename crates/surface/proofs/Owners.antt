@@ -5,8 +5,8 @@ use mathlib.Core.Logic.{_⊎_, inl, inr, ⊎-elim}
 use mathlib.Core.Bool.{Bool, true, false, not}
 use native.Mathlib.Omega.{arith}
 use Rattle.surface.specs.Surface.{Split, falling, rising, Same}
-use Rattle.surface.proofs.Strip.{Strip, Kind, straight, across, diagonal, n0, n1, Valid, one-name, Agree, turned}
-use Rattle.surface.proofs.Places.{Cell, e0, e1, nx, ny, RimAt, turnedAt, valid, Named, named, one-place, Mate, mate, rim-alone, mate-apart}
+use Rattle.surface.proofs.Strip.{Strip, Kind, straight, across, diagonal, nameFrom, nameTo, Valid, one-name, Agree, turned}
+use Rattle.surface.proofs.CellSides.{Cell, sideFrom, sideTo, nameX, nameY, RimAt, turnedAt, valid, Named, named, one-place, Partner, partner, rim-alone, partner-apart}
 
 pub same-sym : {a b c d : ℕ} → Same a b c d → Same c d a b
 same-sym (inl e) = inl (sym (e .0), sym (e .1))
@@ -33,14 +33,15 @@ kind-cases straight = inr (λ e. let z : _≡_ {A = ℕ} 0 1 = cc in omega arith
 kind-cases across = inr (λ e. let z : _≡_ {A = ℕ} 0 1 = cc in omega arith)
 kind-cases diagonal = inl refl
 
--- half k t is the half of its cell that holds the low (false) or high (true) side of kind k; of a diagonal both hold it
-module _ (S : Strip) (half : Kind → Bool → Bool) (half-diagonal : (t : Bool) → half diagonal t ≡ t) where
+module _ (S : Strip) where
+  open Strip S using (half, half-diagonal)
+
   pub record Holds (h : Bool) (x y a b : ℕ) : Type 0 where
     pub k : Kind
     pub t : Bool
     pub cell : Cell S x y
     pub on : half k t ≡ h
-    pub ends : Same a b (e0 S k t x y) (e1 S k t x y)
+    pub ends : Same a b (sideFrom S k t x y) (sideTo S k t x y)
 
   pub record OnRim (a b : ℕ) : Type 0 where
     pub k : Kind
@@ -49,50 +50,50 @@ module _ (S : Strip) (half : Kind → Bool → Bool) (half-diagonal : (t : Bool)
     pub y : ℕ
     pub cell : Cell S x y
     pub rim : RimAt S k t x y
-    pub ends : Same a b (e0 S k t x y) (e1 S k t x y)
+    pub ends : Same a b (sideFrom S k t x y) (sideTo S k t x y)
 
   abbrev pub SameTri : Bool → ℕ → ℕ → Bool → ℕ → ℕ → Type 0
   SameTri h x y h′ x′ y′ = (h′ ≡ h) × (x′ ≡ x) × (y′ ≡ y)
 
-  named-same : (k : Kind) (t : Bool) (x y : ℕ) → Cell S x y → Same (e0 S k t x y) (e1 S k t x y) (n0 S k (nx S k t x) (ny S k t x y)) (n1 S k (nx S k t x) (ny S k t x y))
+  named-same : (k : Kind) (t : Bool) (x y : ℕ) → Cell S x y → Same (sideFrom S k t x y) (sideTo S k t x y) (nameFrom S k (nameX S k t x) (nameY S k t x y)) (nameTo S k (nameX S k t x) (nameY S k t x y))
   named-same k t x y c = ⊎-elim (λ w. inl (w .1, w .2)) (λ w. inr (w .1, w .2)) (named S k t x y c)
 
   -- two places of one side have one name
   agree : (a b : ℕ) (k k′ : Kind) (t t′ : Bool) (x y x′ y′ : ℕ) → Cell S x y → Cell S x′ y′ →
-      Same a b (e0 S k t x y) (e1 S k t x y) → Same a b (e0 S k′ t′ x′ y′) (e1 S k′ t′ x′ y′) →
-      Agree S k k′ (nx S k t x) (ny S k t x y) (nx S k′ t′ x′) (ny S k′ t′ x′ y′)
+      Same a b (sideFrom S k t x y) (sideTo S k t x y) → Same a b (sideFrom S k′ t′ x′ y′) (sideTo S k′ t′ x′ y′) →
+      Agree S k k′ (nameX S k t x) (nameY S k t x y) (nameX S k′ t′ x′) (nameY S k′ t′ x′ y′)
   agree a b k k′ t t′ x y x′ y′ c c′ p q =
-      one-name S k k′ (nx S k t x) (ny S k t x y) (nx S k′ t′ x′) (ny S k′ t′ x′ y′) (valid S k t x y c) (valid S k′ t′ x′ y′ c′)
+      one-name S k k′ (nameX S k t x) (nameY S k t x y) (nameX S k′ t′ x′) (nameY S k′ t′ x′ y′) (valid S k t x y c) (valid S k′ t′ x′ y′ c′)
       (same-trans (same-sym (same-trans p (named-same k t x y c))) (same-trans q (named-same k′ t′ x′ y′ c′)))
 
   -- so they are one place, or the two places of the name
   abbrev pub Opposite : Kind → Bool → ℕ → ℕ → Kind → Bool → ℕ → ℕ → Type 0
-  Opposite k t x y k′ t′ x′ y′ = (k′ ≡ k) × (t′ ≡ not t) × (nx S k (not t) x′ ≡ nx S k t x) × (ny S k (not t) x′ y′ ≡ ny S k t x y)
+  Opposite k t x y k′ t′ x′ y′ = (k′ ≡ k) × (t′ ≡ not t) × (nameX S k (not t) x′ ≡ nameX S k t x) × (nameY S k (not t) x′ y′ ≡ nameY S k t x y)
 
   pub compare : (a b : ℕ) (k k′ : Kind) (t t′ : Bool) (x y x′ y′ : ℕ) → Cell S x y → Cell S x′ y′ →
-      Same a b (e0 S k t x y) (e1 S k t x y) → Same a b (e0 S k′ t′ x′ y′) (e1 S k′ t′ x′ y′) →
+      Same a b (sideFrom S k t x y) (sideTo S k t x y) → Same a b (sideFrom S k′ t′ x′ y′) (sideTo S k′ t′ x′ y′) →
       ((k′ ≡ k) × (t′ ≡ t) × (x′ ≡ x) × (y′ ≡ y)) ⊎ Opposite k t x y k′ t′ x′ y′
   compare a b k k′ t t′ x y x′ y′ c c′ p q =
       let e = agree a b k k′ t t′ x y x′ y′ c c′ p q in
       ⊎-elim
-      (λ f. let o = one-place S k t x′ y′ x y c′ c (same-nx e f) (same-ny e f) in inl (sym (e .0), f, o .0, o .1))
-      (λ f. inr (sym (e .0), f, opp-nx e f, opp-ny e f))
+      (λ f. let o = one-place S k t x′ y′ x y c′ c (same-nameX e f) (same-nameY e f) in inl (sym (e .0), f, o .0, o .1))
+      (λ f. inr (sym (e .0), f, opp-nameX e f, opp-nameY e f))
       (same-or-not t t′)
     where
       Ag : Type 0
-      Ag = Agree S k k′ (nx S k t x) (ny S k t x y) (nx S k′ t′ x′) (ny S k′ t′ x′ y′)
+      Ag = Agree S k k′ (nameX S k t x) (nameY S k t x y) (nameX S k′ t′ x′) (nameY S k′ t′ x′ y′)
 
-      same-nx : Ag → t′ ≡ t → nx S k t x′ ≡ nx S k t x
-      same-nx e f = cc (e .0, e .1)
+      same-nameX : Ag → t′ ≡ t → nameX S k t x′ ≡ nameX S k t x
+      same-nameX e f = cc (e .0, e .1)
 
-      same-ny : Ag → t′ ≡ t → ny S k t x′ y′ ≡ ny S k t x y
-      same-ny e f = cc (e .0, e .2)
+      same-nameY : Ag → t′ ≡ t → nameY S k t x′ y′ ≡ nameY S k t x y
+      same-nameY e f = cc (e .0, e .2)
 
-      opp-nx : Ag → t′ ≡ not t → nx S k (not t) x′ ≡ nx S k t x
-      opp-nx e f = cc (e .0, e .1)
+      opp-nameX : Ag → t′ ≡ not t → nameX S k (not t) x′ ≡ nameX S k t x
+      opp-nameX e f = cc (e .0, e .1)
 
-      opp-ny : Ag → t′ ≡ not t → ny S k (not t) x′ y′ ≡ ny S k t x y
-      opp-ny e f = cc (e .0, e .2)
+      opp-nameY : Ag → t′ ≡ not t → nameY S k (not t) x′ y′ ≡ nameY S k t x y
+      opp-nameY e f = cc (e .0, e .2)
 
   -- the side of a place on the rim is on no other triangle
   pub alone : (h h′ : Bool) (x y x′ y′ a b : ℕ) (p : Holds h x y a b) → RimAt S (p .k) (p .t) x y → Holds h′ x′ y′ a b → SameTri h x y h′ x′ y′
@@ -114,25 +115,25 @@ module _ (S : Strip) (half : Kind → Bool → Bool) (half-diagonal : (t : Bool)
     pub apart : SameTri h x y h₂ x₂ y₂ → ⊥
     pub only : (h′ : Bool) (x′ y′ : ℕ) → Holds h′ x′ y′ a b → SameTri h x y h′ x′ y′ ⊎ SameTri h₂ x₂ y₂ h′ x′ y′
 
-  pub other : (h : Bool) (x y a b : ℕ) (p : Holds h x y a b) → Mate S (p .k) (p .t) x y → Other h x y a b
+  pub other : (h : Bool) (x y a b : ℕ) (p : Holds h x y a b) → Partner S (p .k) (p .t) x y → Other h x y a b
   other h x y a b p m =
       record {
         h₂ = half (p .k) (not (p .t));
         x₂ = m .x′;
         y₂ = m .y′;
-        holds = record { k = p .k; t = not (p .t); cell = m .cell; on = refl; ends = mate-ends };
+        holds = record { k = p .k; t = not (p .t); cell = m .cell; on = refl; ends = partner-ends };
         apart = apart-case (kind-cases (p .k));
         only = only-case;
       }
     where
-      names-0 : n0 S (p .k) (nx S (p .k) (not (p .t)) (m .x′)) (ny S (p .k) (not (p .t)) (m .x′) (m .y′)) ≡ n0 S (p .k) (nx S (p .k) (p .t) x) (ny S (p .k) (p .t) x y)
+      names-0 : nameFrom S (p .k) (nameX S (p .k) (not (p .t)) (m .x′)) (nameY S (p .k) (not (p .t)) (m .x′) (m .y′)) ≡ nameFrom S (p .k) (nameX S (p .k) (p .t) x) (nameY S (p .k) (p .t) x y)
       names-0 = cc (m .same-x, m .same-y)
 
-      names-1 : n1 S (p .k) (nx S (p .k) (not (p .t)) (m .x′)) (ny S (p .k) (not (p .t)) (m .x′) (m .y′)) ≡ n1 S (p .k) (nx S (p .k) (p .t) x) (ny S (p .k) (p .t) x y)
+      names-1 : nameTo S (p .k) (nameX S (p .k) (not (p .t)) (m .x′)) (nameY S (p .k) (not (p .t)) (m .x′) (m .y′)) ≡ nameTo S (p .k) (nameX S (p .k) (p .t) x) (nameY S (p .k) (p .t) x y)
       names-1 = cc (m .same-x, m .same-y)
 
-      mate-ends : Same a b (e0 S (p .k) (not (p .t)) (m .x′) (m .y′)) (e1 S (p .k) (not (p .t)) (m .x′) (m .y′))
-      mate-ends =
+      partner-ends : Same a b (sideFrom S (p .k) (not (p .t)) (m .x′) (m .y′)) (sideTo S (p .k) (not (p .t)) (m .x′) (m .y′))
+      partner-ends =
           same-trans (same-trans (p .ends) (named-same (p .k) (p .t) x y (p .cell)))
           (same-sym (same-trans (named-same (p .k) (not (p .t)) (m .x′) (m .y′) (m .cell)) (inl (names-0, names-1))))
 
@@ -141,7 +142,7 @@ module _ (S : Strip) (half : Kind → Bool → Bool) (half-diagonal : (t : Bool)
 
       apart-case : ((p .k ≡ diagonal) ⊎ (p .k ≡ diagonal → ⊥)) → SameTri h x y (half (p .k) (not (p .t))) (m .x′) (m .y′) → ⊥
       apart-case (inl e) s = not-self (p .t) (turn e (s .0))
-      apart-case (inr n) s = mate-apart S (p .k) (p .t) x y (p .cell) n (cc (m .same-x, s .1)) (cc (m .same-y, s .1, s .2))
+      apart-case (inr n) s = partner-apart S (p .k) (p .t) x y (p .cell) n (cc (m .same-x, s .1)) (cc (m .same-y, s .1, s .2))
 
       only-case : (h′ : Bool) (x′ y′ : ℕ) → Holds h′ x′ y′ a b → SameTri h x y h′ x′ y′ ⊎ SameTri (half (p .k) (not (p .t))) (m .x′) (m .y′) h′ x′ y′
       only-case h′ x′ y′ q =
@@ -166,4 +167,4 @@ module _ (S : Strip) (half : Kind → Bool → Bool) (half-diagonal : (t : Bool)
       ⊎-elim
       (λ r. inl (record { k = p .k; t = p .t; x = x; y = y; cell = p .cell; rim = r; ends = p .ends }, λ h′ x′ y′ q. alone h h′ x y x′ y′ a b p r q))
       (λ m. inr (λ o. rim-alone S (p .k) (p .t) x y (m .x′) (m .y′) (m .cell) (on-rim h x y a b p o) (m .same-x) (m .same-y), other h x y a b p m))
-      (mate S (p .k) (p .t) x y (p .cell))
+      (partner S (p .k) (p .t) x y (p .cell))

@@ -2,12 +2,14 @@
 use Prim.Native.Nat.{ℕ, zero, suc, _+_, _-_, _*_, _/_, _%_, _≤_, _<_}
 use mathlib.Core.Path.{_≡_, refl, sym, ap, _∙_, subst}
 use mathlib.Core.Logic.{_⊎_, inl, inr, ⊎-elim}
-use mathlib.Core.Bool.{Bool, true, false}
+use mathlib.Core.Bool.{Bool, true, false, _&&_}
 use native.Mathlib.Nat.{mod-eq-of-lt, mod-eq-sub-mod, mod-self}
 use native.Mathlib.Omega.{arith}
 use lib.Dec.{eqb, ltb}
 use borrow.Author.Tests.{eqb-true, eqb-false, eq-eqb, ne-eqb, ltb-true, ltb-false, lt-ltb, le-ltb}
-use Rattle.surface.specs.Surface.{pick, both, Seam, unjoined, forward, reverse, joined, reversed, inverse}
+use Rattle.cyclic.specs.Mapping.{pick}
+use Rattle.cyclic.specs.Mapping as mapping
+use Rattle.surface.specs.Surface.{Seam, unjoined, forward, reverse, joined, reversed, inverse}
 
 -- a test with what it says
 pub eqb-cases : (a b : ℕ) → ((eqb a b ≡ true) × (a ≡ b)) ⊎ ((eqb a b ≡ false) × (a ≡ b → ⊥))
@@ -25,61 +27,70 @@ lt-or-le a b = go (ltb a b) refl
     go false e = inr (ltb-false a b e)
 
 -- i, with n read as 0 on a closed row
-unfoldable pub nf : Bool → ℕ → ℕ → ℕ
-nf c n i = pick (both c (eqb i n)) 0 i
+unfoldable pub wrap : Bool → ℕ → ℕ → ℕ
+wrap c n i = pick (c && eqb i n) 0 i
 
-pub nf-open : (n i : ℕ) → nf false n i ≡ i
-unfolding nf
-nf-open n i = refl
+pub wrap-open : (n i : ℕ) → wrap false n i ≡ i
+unfolding wrap
+wrap-open n i = refl
 
-pub nf-closed : (n i : ℕ) → ((nf true n i ≡ 0) × (i ≡ n)) ⊎ ((nf true n i ≡ i) × (i ≡ n → ⊥))
-unfolding nf
-nf-closed n i = ⊎-elim (λ h. inl (ap (λ (t : Bool). pick t 0 i) (h .0), h .1)) (λ h. inr (ap (λ (t : Bool). pick t 0 i) (h .0), h .1)) (eqb-cases i n)
+pub wrap-closed : (n i : ℕ) → ((wrap true n i ≡ 0) × (i ≡ n)) ⊎ ((wrap true n i ≡ i) × (i ≡ n → ⊥))
+unfolding wrap
+wrap-closed n i = ⊎-elim (λ h. inl (ap (λ (t : Bool). pick t 0 i) (h .0), h .1)) (λ h. inr (ap (λ (t : Bool). pick t 0 i) (h .0), h .1)) (eqb-cases i n)
 
-pub nf-two : (c : Bool) (n i : ℕ) → ((nf c n i ≡ 0) × (i ≡ n)) ⊎ (nf c n i ≡ i)
-nf-two false n i = inr (nf-open n i)
-nf-two true n i = ⊎-elim (λ h. inl h) (λ h. inr (h .0)) (nf-closed n i)
+pub wrap-two : (c : Bool) (n i : ℕ) → ((wrap c n i ≡ 0) × (i ≡ n)) ⊎ (wrap c n i ≡ i)
+wrap-two false n i = inr (wrap-open n i)
+wrap-two true n i = ⊎-elim (λ h. inl h) (λ h. inr (h .0)) (wrap-closed n i)
 
-pub nf-below : (c : Bool) (n i : ℕ) → i < n → nf c n i ≡ i
-nf-below c n i h = ⊎-elim (λ w. omega arith) (λ w. w) (nf-two c n i)
+pub wrap-below : (c : Bool) (n i : ℕ) → i < n → wrap c n i ≡ i
+wrap-below c n i h = ⊎-elim (λ w. omega arith) (λ w. w) (wrap-two c n i)
 
-pub nf-end : (n : ℕ) → nf true n n ≡ 0
-nf-end n = ⊎-elim (λ w. w .0) (λ w. absurd (w .1 refl)) (nf-closed n n)
+pub wrap-end : (n : ℕ) → wrap true n n ≡ 0
+wrap-end n = ⊎-elim (λ w. w .0) (λ w. absurd (w .1 refl)) (wrap-closed n n)
 
-pub nf-le : (c : Bool) (n i : ℕ) → i ≤ n → nf c n i ≤ n
-nf-le c n i h = ⊎-elim (λ w. omega arith) (λ w. omega arith) (nf-two c n i)
+pub wrap-le : (c : Bool) (n i : ℕ) → i ≤ n → wrap c n i ≤ n
+wrap-le c n i h = ⊎-elim (λ w. omega arith) (λ w. omega arith) (wrap-two c n i)
 
-pub nf-nf : (c : Bool) (n i : ℕ) → 0 < n → nf c n (nf c n i) ≡ nf c n i
-nf-nf false n i h = nf-open n (nf false n i)
-nf-nf true n i h =
-    ⊎-elim (λ w. nf-below true n (nf true n i) (omega arith)) (λ w. ap (nf true n) (w .0)) (nf-closed n i)
+pub wrap-wrap : (c : Bool) (n i : ℕ) → 0 < n → wrap c n (wrap c n i) ≡ wrap c n i
+wrap-wrap false n i h = wrap-open n (wrap false n i)
+wrap-wrap true n i h =
+    ⊎-elim (λ w. wrap-below true n (wrap true n i) (omega arith)) (λ w. ap (wrap true n) (w .0)) (wrap-closed n i)
 
 -- one step on
-pub step-ne : (c : Bool) (n i : ℕ) → 3 ≤ n → i < n → nf c n (i + 1) ≡ i → ⊥
-step-ne c n i h k e = ⊎-elim (λ w. omega arith) (λ w. omega arith) (nf-two c n (i + 1))
+pub step-ne : (c : Bool) (n i : ℕ) → 3 ≤ n → i < n → wrap c n (i + 1) ≡ i → ⊥
+step-ne c n i h k e = ⊎-elim (λ w. omega arith) (λ w. omega arith) (wrap-two c n (i + 1))
 
-pub step-two : (c : Bool) (n i j : ℕ) → 3 ≤ n → i < n → j < n → nf c n (i + 1) ≡ j → nf c n (j + 1) ≡ i → ⊥
+pub step-two : (c : Bool) (n i j : ℕ) → 3 ≤ n → i < n → j < n → wrap c n (i + 1) ≡ j → wrap c n (j + 1) ≡ i → ⊥
 step-two c n i j h k l e f =
     ⊎-elim
-    (λ w. ⊎-elim (λ z. omega arith) (λ z. omega arith) (nf-two c n (j + 1)))
-    (λ w. ⊎-elim (λ z. omega arith) (λ z. omega arith) (nf-two c n (j + 1)))
-    (nf-two c n (i + 1))
+    (λ w. ⊎-elim (λ z. omega arith) (λ z. omega arith) (wrap-two c n (j + 1)))
+    (λ w. ⊎-elim (λ z. omega arith) (λ z. omega arith) (wrap-two c n (j + 1)))
+    (wrap-two c n (i + 1))
 
-pub step-inj : (c : Bool) (n i j : ℕ) → i < n → j < n → nf c n (i + 1) ≡ nf c n (j + 1) → i ≡ j
+pub step-inj : (c : Bool) (n i j : ℕ) → i < n → j < n → wrap c n (i + 1) ≡ wrap c n (j + 1) → i ≡ j
 step-inj c n i j k l e =
     ⊎-elim
-    (λ w. ⊎-elim (λ z. omega arith) (λ z. omega arith) (nf-two c n (j + 1)))
-    (λ w. ⊎-elim (λ z. omega arith) (λ z. omega arith) (nf-two c n (j + 1)))
-    (nf-two c n (i + 1))
+    (λ w. ⊎-elim (λ z. omega arith) (λ z. omega arith) (wrap-two c n (j + 1)))
+    (λ w. ⊎-elim (λ z. omega arith) (λ z. omega arith) (wrap-two c n (j + 1)))
+    (wrap-two c n (i + 1))
 
 -- ---- remainders of numbers below twice the divisor
 
 pub mod-once : (x n : ℕ) → n ≤ x → x < n + n → x % n ≡ x - n
 mod-once x n h k = mod-eq-sub-mod h ∙ mod-eq-of-lt (omega arith)
 
--- ---- a seam's inverse by cases
+-- ---- the inverse image by cases, so that nothing below looks into its definition
+
+pub inv-forward-0 : (n b : ℕ) → inverse (forward 0) n b ≡ b
+unfolding mapping.inverse
+inv-forward-0 n b = refl
+
+pub inv-reverse-0 : (n b : ℕ) → inverse (reverse 0) n b ≡ n - b
+unfolding mapping.inverse
+inv-reverse-0 n b = refl
 
 pub inv-forward : (o n b : ℕ) → 0 < o → o < n → b ≤ n → ((b < o) × (inverse (forward o) n b ≡ b + n - o)) ⊎ ((o ≤ b) × (inverse (forward o) n b ≡ b - o))
+unfolding mapping.inverse
 inv-forward o n b p q r =
     ⊎-elim
     (λ h. inl (h, unfolded ∙ mod-eq-of-lt (omega arith)))
@@ -90,6 +101,7 @@ inv-forward o n b p q r =
     unfolded = rw (ne-eqb o 0 (λ e. omega arith), mod-eq-of-lt q)
 
 pub inv-reverse : (o n b : ℕ) → 0 < o → o < n → b ≤ n → ((b ≤ o) × (inverse (reverse o) n b ≡ o - b)) ⊎ (((o < b) × (b < n) × (inverse (reverse o) n b ≡ o + n - b)) ⊎ ((b ≡ n) × (inverse (reverse o) n b ≡ o)))
+unfolding mapping.inverse
 inv-reverse o n b p q r =
     ⊎-elim
     (λ h. ⊎-elim
@@ -198,32 +210,32 @@ on-inj (reverse o) c n y z f h k e =
     (λ w. ⊎-elim (λ x. omega arith) (λ x. omega arith) (on-reverse o n z))
     (on-reverse o n y)
 
-nf-is : (c : Bool) (n i e : ℕ) → i ≡ e → e < n → nf c n i ≡ e
-nf-is c n i e p h = ap (nf c n) p ∙ nf-below c n e h
+wrap-is : (c : Bool) (n i e : ℕ) → i ≡ e → e < n → wrap c n i ≡ e
+wrap-is c n i e p h = ap (wrap c n) p ∙ wrap-below c n e h
 
-nf-eq : (n i e : ℕ) → (i ≡ e) ⊎ ((i ≡ 0) × (e ≡ n)) → 0 < n → nf true n i ≡ nf true n e
-nf-eq n i e (inl p) h = ap (nf true n) p
-nf-eq n i e (inr p) h = nf-is true n i 0 (p .0) h ∙ sym (ap (nf true n) (p .1) ∙ nf-end n)
+wrap-eq : (n i e : ℕ) → (i ≡ e) ⊎ ((i ≡ 0) × (e ≡ n)) → 0 < n → wrap true n i ≡ wrap true n e
+wrap-eq n i e (inl p) h = ap (wrap true n) p
+wrap-eq n i e (inr p) h = wrap-is true n i 0 (p .0) h ∙ sym (ap (wrap true n) (p .1) ∙ wrap-end n)
 
--- Row b's point y, brought to row a.
-unfoldable pub brought : Seam → Bool → ℕ → ℕ → ℕ
-brought m c n y = nf c n (inverse m n y)
+-- Row b's point y, carried to row a.
+unfoldable pub carried : Seam → Bool → ℕ → ℕ → ℕ
+carried m c n y = wrap c n (inverse m n y)
 
 -- A forward seam lays step y on step `laidOn`, the same way round.
-pub adj-forward : (o : ℕ) (c : Bool) (n y : ℕ) → Offset o c n → y < n → (brought (forward o) c n y ≡ laidOn (forward o) n y) × (brought (forward o) c n (y + 1) ≡ nf c n (laidOn (forward o) n y + 1))
-unfolding brought
+pub adj-forward : (o : ℕ) (c : Bool) (n y : ℕ) → Offset o c n → y < n → (carried (forward o) c n y ≡ laidOn (forward o) n y) × (carried (forward o) c n (y + 1) ≡ wrap c n (laidOn (forward o) n y + 1))
+unfolding carried
 adj-forward zero c n y f h =
     let e : laidOn (forward 0) n y ≡ y = ⊎-elim (λ w. omega arith) (λ w. omega arith) (on-forward 0 n y) in
-    (nf-is c n y (laidOn (forward 0) n y) (sym e) (omega arith), ap (λ (x : ℕ). nf c n (x + 1)) (sym e))
+    (wrap-is c n (inverse (forward 0) n y) (laidOn (forward 0) n y) (inv-forward-0 n y ∙ sym e) (omega arith), ap (wrap c n) (inv-forward-0 n (y + 1) ∙ ap (λ (x : ℕ). x + 1) (sym e)))
 adj-forward (suc o) true n y f h =
     let b = on-below (forward (suc o)) true n y f h in (
-      nf-is true n (inverse (forward (suc o)) n y) (laidOn (forward (suc o)) n y)
+      wrap-is true n (inverse (forward (suc o)) n y) (laidOn (forward (suc o)) n y)
           (⊎-elim
           (λ w. ⊎-elim (λ z. omega arith) (λ z. omega arith) (on-forward (suc o) n y))
           (λ w. ⊎-elim (λ z. omega arith) (λ z. omega arith) (on-forward (suc o) n y))
           (inv-forward (suc o) n y (omega arith) f (omega arith)))
           b,
-      nf-eq n (inverse (forward (suc o)) n (y + 1)) (laidOn (forward (suc o)) n y + 1)
+      wrap-eq n (inverse (forward (suc o)) n (y + 1)) (laidOn (forward (suc o)) n y + 1)
           (⊎-elim
           (λ w. ⊎-elim (λ z. inl (omega arith)) (λ z. inl (omega arith)) (on-forward (suc o) n y))
           (λ w. ⊎-elim (λ z. inr (omega arith, omega arith)) (λ z. inl (omega arith)) (on-forward (suc o) n y))
@@ -233,11 +245,11 @@ adj-forward (suc o) true n y f h =
 adj-forward (suc o) false n y f h = absurd f
 
 -- A reversed seam's two points of a step, before the ends of a closed row are made one.
-pub raw-reverse : (o : ℕ) (c : Bool) (n y : ℕ) → Offset o c n → y < n → (inverse (reverse o) n (y + 1) ≡ laidOn (reverse o) n y) × ((inverse (reverse o) n y ≡ laidOn (reverse o) n y + 1) ⊎ ((inverse (reverse o) n y ≡ 0) × (laidOn (reverse o) n y + 1 ≡ n)))
-raw-reverse zero c n y f h =
+pub reverse-step : (o : ℕ) (c : Bool) (n y : ℕ) → Offset o c n → y < n → (inverse (reverse o) n (y + 1) ≡ laidOn (reverse o) n y) × ((inverse (reverse o) n y ≡ laidOn (reverse o) n y + 1) ⊎ ((inverse (reverse o) n y ≡ 0) × (laidOn (reverse o) n y + 1 ≡ n)))
+reverse-step zero c n y f h =
     let e : laidOn (reverse 0) n y ≡ n - 1 - y = ⊎-elim (λ w. omega arith) (λ w. omega arith) (on-reverse 0 n y) in
-    (omega arith, inl (omega arith))
-raw-reverse (suc o) true n y f h = (
+    (omega (arith, inv-reverse-0 n (y + 1)), inl (omega (arith, inv-reverse-0 n y)))
+reverse-step (suc o) true n y f h = (
   ⊎-elim
       (λ w. ⊎-elim (λ z. omega arith) (λ z. omega arith) (on-reverse (suc o) n y))
       (λ v. ⊎-elim
@@ -253,34 +265,36 @@ raw-reverse (suc o) true n y f h = (
       v)
       (inv-reverse (suc o) n y (omega arith) f (omega arith)),
 )
-raw-reverse (suc o) false n y f h = absurd f
+reverse-step (suc o) false n y f h = absurd f
 
 -- A reversed seam lays step y on step `laidOn`, the other way round.
-pub adj-reverse : (o : ℕ) (c : Bool) (n y : ℕ) → Offset o c n → y < n → (brought (reverse o) c n (y + 1) ≡ laidOn (reverse o) n y) × (brought (reverse o) c n y ≡ nf c n (laidOn (reverse o) n y + 1))
-unfolding brought
+pub adj-reverse : (o : ℕ) (c : Bool) (n y : ℕ) → Offset o c n → y < n → (carried (reverse o) c n (y + 1) ≡ laidOn (reverse o) n y) × (carried (reverse o) c n y ≡ wrap c n (laidOn (reverse o) n y + 1))
+unfolding carried
 adj-reverse zero c n y f h =
     let e : laidOn (reverse 0) n y ≡ n - 1 - y = ⊎-elim (λ w. omega arith) (λ w. omega arith) (on-reverse 0 n y) in
-    (nf-is c n (n - (y + 1)) (laidOn (reverse 0) n y) (omega arith) (omega arith), ap (nf c n) (omega arith))
+    (wrap-is c n (inverse (reverse 0) n (y + 1)) (laidOn (reverse 0) n y) (omega (arith, inv-reverse-0 n (y + 1))) (omega arith), ap (wrap c n) (omega (arith, inv-reverse-0 n y)))
 adj-reverse (suc o) true n y f h =
-    let r = raw-reverse (suc o) true n y f h in (
-      nf-is true n (inverse (reverse (suc o)) n (y + 1)) (laidOn (reverse (suc o)) n y) (r .0) (on-below (reverse (suc o)) true n y f h),
-      nf-eq n (inverse (reverse (suc o)) n y) (laidOn (reverse (suc o)) n y + 1) (r .1) (omega arith),
+    let r = reverse-step (suc o) true n y f h in (
+      wrap-is true n (inverse (reverse (suc o)) n (y + 1)) (laidOn (reverse (suc o)) n y) (r .0) (on-below (reverse (suc o)) true n y f h),
+      wrap-eq n (inverse (reverse (suc o)) n y) (laidOn (reverse (suc o)) n y + 1) (r .1) (omega arith),
     )
 adj-reverse (suc o) false n y f h = absurd f
 
--- on a closed row the two ends are brought to one point
-pub brought-ends : (m : Seam) (n : ℕ) → 0 < n → Fits m true n → brought m true n n ≡ brought m true n 0
-unfolding brought
-brought-ends unjoined n h f = nf-end n ∙ sym (nf-below true n 0 h)
-brought-ends (forward zero) n h f = nf-end n ∙ sym (nf-below true n 0 h)
-brought-ends (forward (suc o)) n h f =
-    ap (nf true n)
+-- on a closed row the two ends are carried to one point
+pub carried-ends : (m : Seam) (n : ℕ) → 0 < n → Fits m true n → carried m true n n ≡ carried m true n 0
+unfolding carried
+carried-ends unjoined n h f = wrap-end n ∙ sym (wrap-below true n 0 h)
+carried-ends (forward zero) n h f = ap (wrap true n) (inv-forward-0 n n) ∙ wrap-end n ∙ sym (wrap-is true n (inverse (forward 0) n 0) 0 (inv-forward-0 n 0) h)
+carried-ends (forward (suc o)) n h f =
+    ap (wrap true n)
     (⊎-elim
     (λ w. ⊎-elim (λ z. omega arith) (λ z. omega arith) (inv-forward (suc o) n 0 (omega arith) f (omega arith)))
     (λ w. ⊎-elim (λ z. omega arith) (λ z. omega arith) (inv-forward (suc o) n 0 (omega arith) f (omega arith)))
     (inv-forward (suc o) n n (omega arith) f (omega arith)))
-brought-ends (reverse zero) n h f = nf-is true n (n - n) 0 (omega arith) h ∙ sym (nf-eq n (n - 0) n (inl (omega arith)) h ∙ nf-end n)
-brought-ends (reverse (suc o)) n h f = ap (nf true n) (at-n ∙ sym at-0)
+carried-ends (reverse zero) n h f =
+    wrap-is true n (inverse (reverse 0) n n) 0 (omega (arith, inv-reverse-0 n n)) h
+    ∙ sym (wrap-eq n (inverse (reverse 0) n 0) n (inl (omega (arith, inv-reverse-0 n 0))) h ∙ wrap-end n)
+carried-ends (reverse (suc o)) n h f = ap (wrap true n) (at-n ∙ sym at-0)
   where
     at-n : inverse (reverse (suc o)) n n ≡ suc o
     at-n = ⊎-elim (λ w. omega arith) (λ v. ⊎-elim (λ w. omega arith) (λ w. omega arith) v) (inv-reverse (suc o) n n (omega arith) f (omega arith))
@@ -290,21 +304,21 @@ brought-ends (reverse (suc o)) n h f = ap (nf true n) (at-n ∙ sym at-0)
 
 pub inverse-le : (m : Seam) (c : Bool) (n b : ℕ) → 0 < n → Fits m c n → b ≤ n → inverse m n b ≤ n
 inverse-le unjoined c n b z f h = h
-inverse-le (forward zero) c n b z f h = h
+inverse-le (forward zero) c n b z f h = omega (arith, inv-forward-0 n b)
 inverse-le (forward (suc o)) true n b z f h = ⊎-elim (λ w. omega arith) (λ w. omega arith) (inv-forward (suc o) n b (omega arith) f h)
 inverse-le (forward (suc o)) false n b z f h = absurd f
-inverse-le (reverse zero) c n b z f h = omega arith
+inverse-le (reverse zero) c n b z f h = omega (arith, inv-reverse-0 n b)
 inverse-le (reverse (suc o)) true n b z f h = ⊎-elim (λ w. omega arith) (λ v. ⊎-elim (λ w. omega arith) (λ w. omega arith) v) (inv-reverse (suc o) n b (omega arith) f h)
 inverse-le (reverse (suc o)) false n b z f h = absurd f
 
-pub brought-le : (m : Seam) (c : Bool) (n b : ℕ) → 0 < n → Fits m c n → b ≤ n → brought m c n b ≤ n
-unfolding brought
-brought-le m c n b z f h = nf-le c n (inverse m n b) (inverse-le m c n b z f h)
+pub carried-le : (m : Seam) (c : Bool) (n b : ℕ) → 0 < n → Fits m c n → b ≤ n → carried m c n b ≤ n
+unfolding carried
+carried-le m c n b z f h = wrap-le c n (inverse m n b) (inverse-le m c n b z f h)
 
-pub brought-nf : (m : Seam) (c : Bool) (n y : ℕ) → 0 < n → Fits m c n → brought m c n (nf c n y) ≡ brought m c n y
-brought-nf m false n y z f = ap (brought m false n) (nf-open n y)
-brought-nf m true n y z f =
+pub carried-wrap : (m : Seam) (c : Bool) (n y : ℕ) → 0 < n → Fits m c n → carried m c n (wrap c n y) ≡ carried m c n y
+carried-wrap m false n y z f = ap (carried m false n) (wrap-open n y)
+carried-wrap m true n y z f =
     ⊎-elim
-    (λ w. ap (brought m true n) (w .0) ∙ sym (brought-ends m n z f) ∙ ap (brought m true n) (sym (w .1)))
-    (λ w. ap (brought m true n) (w .0))
-    (nf-closed n y)
+    (λ w. ap (carried m true n) (w .0) ∙ sym (carried-ends m n z f) ∙ ap (carried m true n) (sym (w .1)))
+    (λ w. ap (carried m true n) (w .0))
+    (wrap-closed n y)

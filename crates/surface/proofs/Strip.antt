@@ -3,12 +3,17 @@
 use Prim.Native.Nat.{ℕ, zero, suc, _+_, _-_, _*_, _/_, _%_, _≤_, _<_}
 use mathlib.Core.Path.{_≡_, refl, sym, ap, _∙_, subst}
 use mathlib.Core.Logic.{_⊎_, inl, inr, ⊎-elim}
-use mathlib.Core.Bool.{Bool, true, false}
+use mathlib.Core.Bool.{Bool, true, false, _&&_, not}
 use native.Mathlib.Omega.{arith}
 use lib.Dec.{eqb, ltb}
 use borrow.Author.Tests.{eqb-true, eqb-false, eq-eqb, ne-eqb}
-use Rattle.surface.specs.Surface.{pick, both, Seam, unjoined, forward, reverse, joined, reversed, inverse, Split, falling, rising, Same}
-use Rattle.surface.proofs.Steps.{eqb-cases, lt-or-le, nf, nf-open, nf-closed, nf-two, nf-below, nf-end, nf-le, nf-nf, step-ne, step-two, step-inj, Fits, laidOn, laidBack, on-below, back-below, on-back, on-inj, brought, adj-forward, adj-reverse, brought-ends, brought-le, brought-nf}
+use Rattle.cyclic.specs.Mapping.{pick}
+use Rattle.surface.specs.Surface.{Seam, unjoined, forward, reverse, joined, reversed, inverse, Split, falling, rising, Same}
+use Rattle.surface.proofs.Steps.{eqb-cases, lt-or-le, wrap, wrap-open, wrap-closed, wrap-two, wrap-below, wrap-end, wrap-le, wrap-wrap, step-ne, step-two, step-inj, Fits, laidOn, laidBack, on-below, back-below, on-back, on-inj, carried, adj-forward, adj-reverse, carried-ends, carried-le, carried-wrap}
+
+-- a side of a cell goes along a column, across to the next column, or along the cell's diagonal
+pub data Kind : Type 0 where
+  straight across diagonal : Kind
 
 pub record Strip : Type 0 where
   pub X : ℕ
@@ -16,25 +21,31 @@ pub record Strip : Type 0 where
   pub closed : Bool
   pub seam : Seam
   pub split : Split
-  pub enc : ℕ → ℕ → ℕ
+  pub num : ℕ → ℕ → ℕ
   pub X≥3 : 3 ≤ X
   pub Y≥3 : 3 ≤ Y
   pub fits : Fits seam closed Y
-  pub inj : (x y x′ y′ : ℕ) → x ≤ X → y ≤ Y → x′ ≤ X → y′ ≤ Y → enc x y ≡ enc x′ y′ → (x ≡ x′) × (y ≡ y′)
+  pub inj : (x y x′ y′ : ℕ) → x ≤ X → y ≤ Y → x′ ≤ X → y′ ≤ Y → num x y ≡ num x′ y′ → (x ≡ x′) × (y ≡ y′)
+  -- which half of its cell has the low (false) or high (true) side of a kind; a diagonal is a side of both
+  pub half : Kind → Bool → Bool
+  pub half-diagonal : (t : Bool) → half diagonal t ≡ t
+  -- whether that half runs along it from its first end to its second; the half beyond the side runs the other way
+  pub dir : Kind → Bool → Bool
+  pub dir-not : (k : Kind) (t : Bool) → dir k (not t) ≡ not (dir k t)
 
 -- column x is the far one, and joined to column 0
 abbrev pub crossing : Strip → ℕ → Bool
-crossing S x = both (joined (S .seam)) (eqb x (S .X))
+crossing S x = joined (S .seam) && eqb x (S .X)
 
 unfoldable pub colOf : Strip → ℕ → ℕ
-colOf S x = nf (joined (S .seam)) (S .X) x
+colOf S x = wrap (joined (S .seam)) (S .X) x
 
 unfoldable pub rowOf : Strip → ℕ → ℕ → ℕ
-rowOf S x y = pick (crossing S x) (brought (S .seam) (S .closed) (S .Y) y) (nf (S .closed) (S .Y) y)
+rowOf S x y = pick (crossing S x) (carried (S .seam) (S .closed) (S .Y) y) (wrap (S .closed) (S .Y) y)
 
 -- the point that grid point (x, y) is joined to
 unfoldable pub pointOf : Strip → ℕ → ℕ → ℕ
-pointOf S x y = S .enc (colOf S x) (rowOf S x y)
+pointOf S x y = S .num (colOf S x) (rowOf S x y)
 
 -- the step of its column on which step y of column x lies
 unfoldable pub stepAt : Strip → ℕ → ℕ → ℕ
@@ -42,30 +53,30 @@ stepAt S x y = pick (crossing S x) (laidOn (S .seam) (S .Y) y) y
 
 -- whether it lies there the other way round
 unfoldable pub turned : Strip → ℕ → Bool
-turned S x = both (reversed (S .seam)) (eqb x (S .X))
+turned S x = reversed (S .seam) && eqb x (S .X)
 
 unfoldable pub next : Strip → ℕ → ℕ
-next S y = nf (S .closed) (S .Y) (y + 1)
+next S y = wrap (S .closed) (S .Y) (y + 1)
 
 module _ (S : Strip) where
-  open Strip S using (X, Y, closed, seam, split, enc, X≥3, Y≥3, fits, inj)
+  open Strip S using (X, Y, closed, seam, split, num, X≥3, Y≥3, fits, inj)
 
   -- ---- columns
 
   pub crossing-below : (x : ℕ) → x < X → crossing S x ≡ false
   crossing-below x h = go (joined seam)
     where
-      go : (t : Bool) → both t (eqb x X) ≡ false
+      go : (t : Bool) → (t && eqb x X) ≡ false
       go true = ne-eqb x X (λ e. omega arith)
       go false = refl
 
-  pub row-below : (x y : ℕ) → x < X → rowOf S x y ≡ nf closed Y y
+  pub row-below : (x y : ℕ) → x < X → rowOf S x y ≡ wrap closed Y y
   unfolding rowOf
-  row-below x y h = ap (λ (t : Bool). pick t (brought seam closed Y y) (nf closed Y y)) (crossing-below x h)
+  row-below x y h = ap (λ (t : Bool). pick t (carried seam closed Y y) (wrap closed Y y)) (crossing-below x h)
 
   pub col-below : (x : ℕ) → x < X → colOf S x ≡ x
   unfolding colOf
-  col-below x h = nf-below (joined seam) X x h
+  col-below x h = wrap-below (joined seam) X x h
 
   pub step-below : (x y : ℕ) → x < X → stepAt S x y ≡ y
   unfolding stepAt
@@ -85,25 +96,25 @@ module _ (S : Strip) where
   unfolding rowOf
   row-le x y h = go (crossing S x)
     where
-      go : (t : Bool) → pick t (brought seam closed Y y) (nf closed Y y) ≤ Y
-      go true = brought-le seam closed Y y (omega arith) fits h
-      go false = nf-le closed Y y h
+      go : (t : Bool) → pick t (carried seam closed Y y) (wrap closed Y y) ≤ Y
+      go true = carried-le seam closed Y y (omega arith) fits h
+      go false = wrap-le closed Y y h
 
   pub col-le : (x : ℕ) → x ≤ X → colOf S x ≤ X
   unfolding colOf
-  col-le x h = nf-le (joined seam) X x h
+  col-le x h = wrap-le (joined seam) X x h
 
   pub next-le : (y : ℕ) → y < Y → next S y ≤ Y
   unfolding next
-  next-le y h = nf-le closed Y (y + 1) (omega arith)
+  next-le y h = wrap-le closed Y (y + 1) (omega arith)
 
   pub row-next : (x y : ℕ) → rowOf S x (next S y) ≡ rowOf S x (y + 1)
   unfolding rowOf next
   row-next x y = go (crossing S x)
     where
-      go : (t : Bool) → pick t (brought seam closed Y (nf closed Y (y + 1))) (nf closed Y (nf closed Y (y + 1))) ≡ pick t (brought seam closed Y (y + 1)) (nf closed Y (y + 1))
-      go true = brought-nf seam closed Y (y + 1) (omega arith) fits
-      go false = nf-nf closed Y (y + 1) (omega arith)
+      go : (t : Bool) → pick t (carried seam closed Y (wrap closed Y (y + 1))) (wrap closed Y (wrap closed Y (y + 1))) ≡ pick t (carried seam closed Y (y + 1)) (wrap closed Y (y + 1))
+      go true = carried-wrap seam closed Y (y + 1) (omega arith) fits
+      go false = wrap-wrap closed Y (y + 1) (omega arith)
 
   pub next-ne : (y : ℕ) → y < Y → next S y ≡ y → ⊥
   unfolding next
@@ -140,19 +151,19 @@ module _ (S : Strip) where
   adjacent x y h = go seam (eqb x X) fits
     where
       row : Seam → Bool → ℕ → ℕ
-      row m t z = pick (both (joined m) t) (brought m closed Y z) (nf closed Y z)
+      row m t z = pick (joined m && t) (carried m closed Y z) (wrap closed Y z)
 
       on : Seam → Bool → ℕ
-      on m t = pick (both (joined m) t) (laidOn m Y y) y
+      on m t = pick (joined m && t) (laidOn m Y y) y
 
       go : (m : Seam) (t : Bool) → Fits m closed Y →
-          ((both (reversed m) t ≡ false) × (row m t y ≡ on m t) × (row m t (y + 1) ≡ nf closed Y (on m t + 1)))
-          ⊎ ((both (reversed m) t ≡ true) × (row m t (y + 1) ≡ on m t) × (row m t y ≡ nf closed Y (on m t + 1)))
-      go unjoined t f = inl (refl, nf-below closed Y y h, refl)
+          (((reversed m && t) ≡ false) × (row m t y ≡ on m t) × (row m t (y + 1) ≡ wrap closed Y (on m t + 1)))
+          ⊎ (((reversed m && t) ≡ true) × (row m t (y + 1) ≡ on m t) × (row m t y ≡ wrap closed Y (on m t + 1)))
+      go unjoined t f = inl (refl, wrap-below closed Y y h, refl)
       go (forward o) true f = let a = adj-forward o closed Y y f h in inl (refl, a .0, a .1)
-      go (forward o) false f = inl (refl, nf-below closed Y y h, refl)
+      go (forward o) false f = inl (refl, wrap-below closed Y y h, refl)
       go (reverse o) true f = let a = adj-reverse o closed Y y f h in inr (refl, a .0, a .1)
-      go (reverse o) false f = inl (refl, nf-below closed Y y h, refl)
+      go (reverse o) false f = inl (refl, wrap-below closed Y y h, refl)
 
   pub row-ne : (x y : ℕ) → y < Y → rowOf S x y ≡ rowOf S x (y + 1) → ⊥
   row-ne x y h e =
@@ -163,32 +174,29 @@ module _ (S : Strip) where
 
 -- ---- names of sides
 
-pub data Kind : Type 0 where
-  straight across diagonal : Kind
+abbrev pub fromY : Strip → Kind → Split → ℕ → ℕ
+fromY S straight d y = y
+fromY S across d y = y
+fromY S diagonal falling y = next S y
+fromY S diagonal rising y = y
 
-abbrev pub y0 : Strip → Kind → Split → ℕ → ℕ
-y0 S straight d y = y
-y0 S across d y = y
-y0 S diagonal falling y = next S y
-y0 S diagonal rising y = y
+abbrev pub toX : Strip → Kind → ℕ → ℕ
+toX S straight x = x
+toX S across x = colOf S (x + 1)
+toX S diagonal x = colOf S (x + 1)
 
-abbrev pub x1 : Strip → Kind → ℕ → ℕ
-x1 S straight x = x
-x1 S across x = colOf S (x + 1)
-x1 S diagonal x = colOf S (x + 1)
-
-abbrev pub y1 : Strip → Kind → Split → ℕ → ℕ → ℕ
-y1 S straight d x y = next S y
-y1 S across d x y = rowOf S (x + 1) y
-y1 S diagonal falling x y = rowOf S (x + 1) y
-y1 S diagonal rising x y = rowOf S (x + 1) (y + 1)
+abbrev pub toY : Strip → Kind → Split → ℕ → ℕ → ℕ
+toY S straight d x y = next S y
+toY S across d x y = rowOf S (x + 1) y
+toY S diagonal falling x y = rowOf S (x + 1) y
+toY S diagonal rising x y = rowOf S (x + 1) (y + 1)
 
 -- the two ends of the side that a name stands for
-unfoldable pub n0 : Strip → Kind → ℕ → ℕ → ℕ
-n0 S k x y = S .enc x (y0 S k (S .split) y)
+unfoldable pub nameFrom : Strip → Kind → ℕ → ℕ → ℕ
+nameFrom S k x y = S .num x (fromY S k (S .split) y)
 
-unfoldable pub n1 : Strip → Kind → ℕ → ℕ → ℕ
-n1 S k x y = S .enc (x1 S k x) (y1 S k (S .split) x y)
+unfoldable pub nameTo : Strip → Kind → ℕ → ℕ → ℕ
+nameTo S k x y = S .num (toX S k x) (toY S k (S .split) x y)
 
 abbrev pub Valid : Strip → Kind → ℕ → ℕ → Type 0
 Valid S straight x y = (x ≤ S .X) × (y < S .Y)
@@ -196,36 +204,36 @@ Valid S across x y = (x < S .X) × (y ≤ S .Y)
 Valid S diagonal x y = (x < S .X) × (y < S .Y)
 
 module _ (S : Strip) where
-  open Strip S using (X, Y, closed, seam, split, enc, X≥3, Y≥3, fits, inj)
+  open Strip S using (X, Y, closed, seam, split, num, X≥3, Y≥3, fits, inj)
 
   pub x-le : (k : Kind) (x y : ℕ) → Valid S k x y → x ≤ X
   x-le straight x y v = v .0
   x-le across x y v = omega arith
   x-le diagonal x y v = omega arith
 
-  pub x1-le : (k : Kind) (x y : ℕ) → Valid S k x y → x1 S k x ≤ X
-  x1-le straight x y v = v .0
-  x1-le across x y v = col-le S (x + 1) (omega arith)
-  x1-le diagonal x y v = col-le S (x + 1) (omega arith)
+  pub toX-le : (k : Kind) (x y : ℕ) → Valid S k x y → toX S k x ≤ X
+  toX-le straight x y v = v .0
+  toX-le across x y v = col-le S (x + 1) (omega arith)
+  toX-le diagonal x y v = col-le S (x + 1) (omega arith)
 
-  pub y0-le : (k : Kind) (d : Split) (x y : ℕ) → Valid S k x y → y0 S k d y ≤ Y
-  y0-le straight d x y v = omega arith
-  y0-le across d x y v = omega arith
-  y0-le diagonal falling x y v = next-le S y (v .1)
-  y0-le diagonal rising x y v = omega arith
+  pub fromY-le : (k : Kind) (d : Split) (x y : ℕ) → Valid S k x y → fromY S k d y ≤ Y
+  fromY-le straight d x y v = omega arith
+  fromY-le across d x y v = omega arith
+  fromY-le diagonal falling x y v = next-le S y (v .1)
+  fromY-le diagonal rising x y v = omega arith
 
-  pub y1-le : (k : Kind) (d : Split) (x y : ℕ) → Valid S k x y → y1 S k d x y ≤ Y
-  y1-le straight d x y v = next-le S y (v .1)
-  y1-le across d x y v = row-le S (x + 1) y (v .1)
-  y1-le diagonal falling x y v = row-le S (x + 1) y (omega arith)
-  y1-le diagonal rising x y v = row-le S (x + 1) (y + 1) (omega arith)
+  pub toY-le : (k : Kind) (d : Split) (x y : ℕ) → Valid S k x y → toY S k d x y ≤ Y
+  toY-le straight d x y v = next-le S y (v .1)
+  toY-le across d x y v = row-le S (x + 1) y (v .1)
+  toY-le diagonal falling x y v = row-le S (x + 1) y (omega arith)
+  toY-le diagonal rising x y v = row-le S (x + 1) (y + 1) (omega arith)
 
   abbrev pub Agree : Kind → Kind → ℕ → ℕ → ℕ → ℕ → Type 0
   Agree k k′ x y x′ y′ = (k ≡ k′) × (x ≡ x′) × (y ≡ y′)
 
   -- two names whose ends agree in order are one
   in-order : (k k′ : Kind) (d : Split) (x y x′ y′ : ℕ) → Valid S k x y → Valid S k′ x′ y′ →
-      x ≡ x′ → y0 S k d y ≡ y0 S k′ d y′ → x1 S k x ≡ x1 S k′ x′ → y1 S k d x y ≡ y1 S k′ d x′ y′ → Agree k k′ x y x′ y′
+      x ≡ x′ → fromY S k d y ≡ fromY S k′ d y′ → toX S k x ≡ toX S k′ x′ → toY S k d x y ≡ toY S k′ d x′ y′ → Agree k k′ x y x′ y′
   in-order straight straight d x y x′ y′ v v′ p q r s = (refl, p, q)
   in-order straight across d x y x′ y′ v v′ p q r s = absurd (col-ne S x′ (v′ .0) (sym r ∙ p))
   in-order straight diagonal d x y x′ y′ v v′ p q r s = absurd (col-ne S x′ (v′ .0) (sym r ∙ p))
@@ -245,7 +253,7 @@ module _ (S : Strip) where
 
   -- the ends of two names never agree the other way round
   in-turn : (k k′ : Kind) (d : Split) (x y x′ y′ : ℕ) → Valid S k x y → Valid S k′ x′ y′ →
-      x ≡ x1 S k′ x′ → y0 S k d y ≡ y1 S k′ d x′ y′ → x1 S k x ≡ x′ → y1 S k d x y ≡ y0 S k′ d y′ → ⊥
+      x ≡ toX S k′ x′ → fromY S k d y ≡ toY S k′ d x′ y′ → toX S k x ≡ x′ → toY S k d x y ≡ fromY S k′ d y′ → ⊥
   in-turn straight straight d x y x′ y′ v v′ p q r s = next-two S y y′ (v .1) (v′ .1) s (sym q)
   in-turn straight across d x y x′ y′ v v′ p q r s = col-ne S x′ (v′ .0) (sym p ∙ r)
   in-turn straight diagonal d x y x′ y′ v v′ p q r s = col-ne S x′ (v′ .0) (sym p ∙ r)
@@ -258,13 +266,13 @@ module _ (S : Strip) where
 
   -- a side has one name
   pub one-name : (k k′ : Kind) (x y x′ y′ : ℕ) → Valid S k x y → Valid S k′ x′ y′ →
-      Same (n0 S k x y) (n1 S k x y) (n0 S k′ x′ y′) (n1 S k′ x′ y′) → Agree k k′ x y x′ y′
-  unfolding n0 n1
+      Same (nameFrom S k x y) (nameTo S k x y) (nameFrom S k′ x′ y′) (nameTo S k′ x′ y′) → Agree k k′ x y x′ y′
+  unfolding nameFrom nameTo
   one-name k k′ x y x′ y′ v v′ (inl e) =
-      let p = inj x (y0 S k split y) x′ (y0 S k′ split y′) (x-le k x y v) (y0-le k split x y v) (x-le k′ x′ y′ v′) (y0-le k′ split x′ y′ v′) (e .0) in
-      let q = inj (x1 S k x) (y1 S k split x y) (x1 S k′ x′) (y1 S k′ split x′ y′) (x1-le k x y v) (y1-le k split x y v) (x1-le k′ x′ y′ v′) (y1-le k′ split x′ y′ v′) (e .1) in
+      let p = inj x (fromY S k split y) x′ (fromY S k′ split y′) (x-le k x y v) (fromY-le k split x y v) (x-le k′ x′ y′ v′) (fromY-le k′ split x′ y′ v′) (e .0) in
+      let q = inj (toX S k x) (toY S k split x y) (toX S k′ x′) (toY S k′ split x′ y′) (toX-le k x y v) (toY-le k split x y v) (toX-le k′ x′ y′ v′) (toY-le k′ split x′ y′ v′) (e .1) in
       in-order k k′ split x y x′ y′ v v′ (p .0) (p .1) (q .0) (q .1)
   one-name k k′ x y x′ y′ v v′ (inr e) =
-      let p = inj x (y0 S k split y) (x1 S k′ x′) (y1 S k′ split x′ y′) (x-le k x y v) (y0-le k split x y v) (x1-le k′ x′ y′ v′) (y1-le k′ split x′ y′ v′) (e .0) in
-      let q = inj (x1 S k x) (y1 S k split x y) x′ (y0 S k′ split y′) (x1-le k x y v) (y1-le k split x y v) (x-le k′ x′ y′ v′) (y0-le k′ split x′ y′ v′) (e .1) in
+      let p = inj x (fromY S k split y) (toX S k′ x′) (toY S k′ split x′ y′) (x-le k x y v) (fromY-le k split x y v) (toX-le k′ x′ y′ v′) (toY-le k′ split x′ y′ v′) (e .0) in
+      let q = inj (toX S k x) (toY S k split x y) x′ (fromY S k′ split y′) (toX-le k x y v) (toY-le k split x y v) (x-le k′ x′ y′ v′) (fromY-le k′ split x′ y′ v′) (e .1) in
       absurd (in-turn k k′ split x y x′ y′ v v′ (p .0) (p .1) (q .0) (q .1))

@@ -5,21 +5,15 @@ use mathlib.Core.Logic.{_⊎_, inl, inr, ⊎-elim}
 use mathlib.Core.Bool.{Bool, true, false, not}
 use mathlib.Core.List.{List, []}
 use native.Mathlib.Omega.{arith}
-use Rattle.surface.specs.Surface.{pick, both, Seam, unjoined, forward, reverse, joined, reversed, inverse, Rule, Split, falling, rising, Shape, J, corner, Triangle, halfOf, Follows, Same, Rim, RimU, RimV, GridEdge, along-u, along-v, fall, riseᵉ, Pair, process, flipped, lowU, highU, lowV, highV, rise}
+use Rattle.cyclic.specs.Mapping.{pick}
+use Rattle.surface.specs.Surface.{Seam, unjoined, forward, reverse, joined, reversed, inverse, Rule, Split, falling, rising, Shape, J, corner, Triangle, halfOf, Follows, Same, Rim, RimU, RimV, GridEdge, along-u, along-v, Pair, process, flipped, lowU, highU, lowV, highV, bySplit, falls, rises}
 use Rattle.surface.proofs.Steps.{lt-or-le}
 use Rattle.surface.proofs.Strip.{Strip, Kind, straight, across, diagonal, pointOf}
-use Rattle.surface.proofs.Places.{Cell, endsOf, e0, e1, RimAt}
+use Rattle.surface.proofs.CellSides.{Cell, endsOf, sideFrom, sideTo, RimAt}
 use Rattle.surface.proofs.Owners.{Holds, OnRim, same-trans}
-use Rattle.surface.proofs.Ways.{Along, Runs, along-ends}
-use Rattle.surface.proofs.Points.{stripU, stripV, SU, SV, J-u, C-u, J-v, C-v, Plain, Tame, AlongU, AlongV}
-
-abbrev pub halfNum : Bool → ℕ
-halfNum false = 0
-halfNum true = 1
-
--- the number of the triangle of half h of cell (u, v)
-unfoldable pub index : Shape → Bool → ℕ → ℕ → ℕ
-index s h u v = 2 * (u * s .N + v) + halfNum h
+use Rattle.surface.proofs.Directions.{Along, Runs, along-ends}
+use Rattle.surface.proofs.Triangles.{halfNum, index}
+use Rattle.surface.proofs.Points.{halfU, halfV, dirU, dirV, stripU, stripV, SU, SV, J-u, C-u, J-v, C-v, Plain, KeepsInside, AlongU, AlongV}
 
 -- the grid edge is a side of some cell
 pub record EdgeAt (S : Strip) (a b : ℕ) : Type 0 where
@@ -28,15 +22,11 @@ pub record EdgeAt (S : Strip) (a b : ℕ) : Type 0 where
   pub x : ℕ
   pub y : ℕ
   pub cell : Cell S x y
-  pub ends : Same a b (e0 S k t x y) (e1 S k t x y)
+  pub ends : Same a b (sideFrom S k t x y) (sideTo S k t x y)
 
 -- A strip that is the surface of s: x, y of a grid point, and back.
 pub record View (s : Shape) : Type 0 where
   pub S : Strip
-  pub half : Kind → Bool → Bool
-  pub half-diagonal : (t : Bool) → half diagonal t ≡ t
-  pub dir : Kind → Bool → Bool
-  pub dir-not : (k : Kind) (t : Bool) → dir k (not t) ≡ not (dir k t)
   pub x : ℕ → ℕ → ℕ
   pub y : ℕ → ℕ → ℕ
   pub u : ℕ → ℕ → ℕ
@@ -45,16 +35,16 @@ pub record View (s : Shape) : Type 0 where
   pub back : (i j : ℕ) → Cell S i j → (u i j < s .M) × (v i j < s .N) × (x (u i j) (v i j) ≡ i) × (y (u i j) (v i j) ≡ j)
   pub u-of : (i j : ℕ) → u (x i j) (y i j) ≡ i
   pub v-of : (i j : ℕ) → v (x i j) (y i j) ≡ j
-  pub to-runs : (h : Bool) (i j a b : ℕ) → i < s .M → j < s .N → Follows (halfOf s (s .split) (halfNum h) i j) a b → Runs S half half-diagonal dir dir-not h (x i j) (y i j) a b
-  pub from-runs : (h : Bool) (i j a b : ℕ) → i < s .M → j < s .N → Runs S half half-diagonal dir dir-not h (x i j) (y i j) a b → Follows (halfOf s (s .split) (halfNum h) i j) a b
-  pub rim-to : (a b : ℕ) → Rim s a b → OnRim S half half-diagonal a b
-  pub rim-from : (a b : ℕ) → OnRim S half half-diagonal a b → Rim s a b
+  pub to-runs : (h : Bool) (i j a b : ℕ) → i < s .M → j < s .N → Follows (halfOf s (s .split) (halfNum h) i j) a b → Runs S h (x i j) (y i j) a b
+  pub from-runs : (h : Bool) (i j a b : ℕ) → i < s .M → j < s .N → Runs S h (x i j) (y i j) a b → Follows (halfOf s (s .split) (halfNum h) i j) a b
+  pub rim-to : (a b : ℕ) → Rim s a b → OnRim S a b
+  pub rim-from : (a b : ℕ) → OnRim S a b → Rim s a b
   pub edge-to : (i j i′ j′ : ℕ) → GridEdge s i j i′ j′ → EdgeAt S (J s i j) (J s i′ j′)
   pub lows : ℕ → ℕ
   pub highs : ℕ → ℕ
   pub flips : flipped s ≡ pick (reversed (S .seam)) (process s (S .seam) (S .Y) lows highs (S .Y) []) []
-  pub low-index : (j : ℕ) → j < S .Y → lows j ≡ index s (half straight false) (u 0 j) (v 0 j)
-  pub high-index : (i j : ℕ) → i + 1 ≡ S .X → j < S .Y → highs j ≡ index s (half straight true) (u i j) (v i j)
+  pub low-index : (j : ℕ) → j < S .Y → lows j ≡ index s (S .half straight false) (u 0 j) (v 0 j)
+  pub high-index : (i j : ℕ) → i + 1 ≡ S .X → j < S .Y → highs j ≡ index s (S .half straight true) (u i j) (v i j)
 
 plain-open : (m : Seam) → Plain m → joined m ≡ false → m ≡ unjoined
 plain-open m (inl e) j = e
@@ -70,66 +60,22 @@ plain-reversed : (m : Seam) → Plain m → reversed m ≡ false
 plain-reversed m (inl e) = ap reversed e
 plain-reversed m (inr e) = ap reversed e
 
--- ---- which half holds each side, and which way it runs along it
-
-abbrev halfU : Split → Kind → Bool → Bool
-halfU falling k t = t
-halfU rising straight t = not t
-halfU rising across t = t
-halfU rising diagonal t = t
-
-abbrev dirU : Split → Kind → Bool → Bool
-dirU d straight t = t
-dirU d across t = not t
-dirU d diagonal t = t
-
-abbrev halfV : Split → Kind → Bool → Bool
-halfV falling k t = t
-halfV rising straight t = t
-halfV rising across t = not t
-halfV rising diagonal t = t
-
-abbrev dirV : Split → Kind → Bool → Bool
-dirV d straight t = not t
-dirV d across t = t
-dirV falling diagonal t = not t
-dirV rising diagonal t = t
-
-halfU-diagonal : (d : Split) (t : Bool) → halfU d diagonal t ≡ t
-halfU-diagonal falling t = refl
-halfU-diagonal rising t = refl
-
-halfV-diagonal : (d : Split) (t : Bool) → halfV d diagonal t ≡ t
-halfV-diagonal falling t = refl
-halfV-diagonal rising t = refl
-
-dirU-not : (d : Split) (k : Kind) (t : Bool) → dirU d k (not t) ≡ not (dirU d k t)
-dirU-not d straight t = refl
-dirU-not d across t = refl
-dirU-not d diagonal t = refl
-
-dirV-not : (d : Split) (k : Kind) (t : Bool) → dirV d k (not t) ≡ not (dirV d k t)
-dirV-not d straight t = refl
-dirV-not d across t = refl
-dirV-not falling diagonal t = refl
-dirV-not rising diagonal t = refl
-
 module _ (s : Shape) (m : 3 ≤ s .M) (n : 3 ≤ s .N) (w : AlongU s) where
   abbrev TU : Strip
   TU = SU s m n (w .fits) (w .plain)
 
   module _ (u v a b : ℕ) (hu : u < s .M) (hv : v < s .N) where
     q00U : corner s v u v ≡ pointOf TU u v
-    q00U = C-u s m n (w .fits) (w .plain) (w .tame) v u v hv (omega arith)
+    q00U = C-u s m n (w .fits) (w .plain) (w .inside) v u v hv (omega arith)
 
     q10U : corner s v (u + 1) v ≡ pointOf TU (u + 1) v
-    q10U = C-u s m n (w .fits) (w .plain) (w .tame) v (u + 1) v hv (omega arith)
+    q10U = C-u s m n (w .fits) (w .plain) (w .inside) v (u + 1) v hv (omega arith)
 
     q01U : corner s v u (v + 1) ≡ pointOf TU u (v + 1)
-    q01U = C-u s m n (w .fits) (w .plain) (w .tame) v u (v + 1) hv (omega arith)
+    q01U = C-u s m n (w .fits) (w .plain) (w .inside) v u (v + 1) hv (omega arith)
 
     q11U : corner s v (u + 1) (v + 1) ≡ pointOf TU (u + 1) (v + 1)
-    q11U = C-u s m n (w .fits) (w .plain) (w .tame) v (u + 1) (v + 1) hv (omega arith)
+    q11U = C-u s m n (w .fits) (w .plain) (w .inside) v (u + 1) (v + 1) hv (omega arith)
 
     abbrev RawU : Split → Bool → Type 0
     RawU d h = (k : Kind) × (t : Bool) × (halfU d k t ≡ h) × (((dirU d k t ≡ true) × (a ≡ endsOf TU k d t u v .0) × (b ≡ endsOf TU k d t u v .1)) ⊎ ((dirU d k t ≡ false) × (a ≡ endsOf TU k d t u v .1) × (b ≡ endsOf TU k d t u v .0)))
@@ -170,16 +116,16 @@ module _ (s : Shape) (m : 3 ≤ s .M) (n : 3 ≤ s .N) (w : AlongV s) where
 
   module _ (u v a b : ℕ) (hu : u < s .M) (hv : v < s .N) where
     q00V : corner s v u v ≡ pointOf TV v u
-    q00V = C-v s m n (w .fits) (w .plain) (w .tame) v u v hv (omega arith) (omega arith)
+    q00V = C-v s m n (w .fits) (w .plain) (w .inside) v u v hv (omega arith) (omega arith)
 
     q10V : corner s v (u + 1) v ≡ pointOf TV v (u + 1)
-    q10V = C-v s m n (w .fits) (w .plain) (w .tame) v (u + 1) v hv (omega arith) (omega arith)
+    q10V = C-v s m n (w .fits) (w .plain) (w .inside) v (u + 1) v hv (omega arith) (omega arith)
 
     q01V : corner s v u (v + 1) ≡ pointOf TV (v + 1) u
-    q01V = C-v s m n (w .fits) (w .plain) (w .tame) v u (v + 1) hv (omega arith) (omega arith)
+    q01V = C-v s m n (w .fits) (w .plain) (w .inside) v u (v + 1) hv (omega arith) (omega arith)
 
     q11V : corner s v (u + 1) (v + 1) ≡ pointOf TV (v + 1) (u + 1)
-    q11V = C-v s m n (w .fits) (w .plain) (w .tame) v (u + 1) (v + 1) hv (omega arith) (omega arith)
+    q11V = C-v s m n (w .fits) (w .plain) (w .inside) v (u + 1) (v + 1) hv (omega arith) (omega arith)
 
     abbrev RawV : Split → Bool → Type 0
     RawV d h = (k : Kind) × (t : Bool) × (halfV d k t ≡ h) × (((dirV d k t ≡ true) × (a ≡ endsOf TV k d t v u .0) × (b ≡ endsOf TV k d t v u .1)) ⊎ ((dirV d k t ≡ false) × (a ≡ endsOf TV k d t v u .1) × (b ≡ endsOf TV k d t v u .0)))
@@ -219,19 +165,19 @@ module _ (s : Shape) (m : 3 ≤ s .M) (n : 3 ≤ s .N) (w : AlongU s) where
   ZU = SU s m n (w .fits) (w .plain)
 
   abbrev RunsU : Bool → ℕ → ℕ → ℕ → ℕ → Type 0
-  RunsU = Runs ZU (halfU (s .split)) (halfU-diagonal (s .split)) (dirU (s .split)) (dirU-not (s .split))
+  RunsU = Runs ZU
 
   jU : (i j : ℕ) → J s i j ≡ pointOf ZU i j
   jU i j = J-u s m n (w .fits) (w .plain) i j
 
   to-runsU : (h : Bool) (i j a b : ℕ) → i < s .M → j < s .N → Follows (halfOf s (s .split) (halfNum h) i j) a b → RunsU h i j a b
-  unfolding e0 e1 SU stripU
+  unfolding sideFrom sideTo SU stripU
   to-runsU h i j a b hi hj F = let r = raw-toU s m n w i j a b hi hj (s .split) h F in record { k = r .0; t = r .1; cell = (hi, hj); on = r .2; along = r .3 }
 
   from-runsU : (h : Bool) (i j a b : ℕ) → i < s .M → j < s .N → RunsU h i j a b → Follows (halfOf s (s .split) (halfNum h) i j) a b
-  unfolding e0 e1 SU stripU
+  unfolding sideFrom sideTo SU stripU
   from-runsU h i j a b hi hj r =
-      let e = along-ends ZU (halfU (s .split)) (halfU-diagonal (s .split)) (dirU (s .split)) (dirU-not (s .split)) (dirU (s .split) (r .k) (r .t)) a b (e0 ZU (r .k) (r .t) i j) (e1 ZU (r .k) (r .t) i j) (r .along) in
+      let e = along-ends ZU (dirU (s .split) (r .k) (r .t)) a b (sideFrom ZU (r .k) (r .t) i j) (sideTo ZU (r .k) (r .t) i j) (r .along) in
       subst (λ (z : Bool). Follows (halfOf s (s .split) (halfNum z) i j) a b) (r .on) (raw-fromU s m n w i j a b hi hj (s .split) (r .k) (r .t) (e .0) (e .1))
 
   top-M : s .M - 1 + 1 ≡ s .M
@@ -240,8 +186,8 @@ module _ (s : Shape) (m : 3 ≤ s .M) (n : 3 ≤ s .N) (w : AlongU s) where
   top-N : s .N - 1 + 1 ≡ s .N
   top-N = omega arith
 
-  rim-toU : (a b : ℕ) → Rim s a b → OnRim ZU (halfU (s .split)) (halfU-diagonal (s .split)) a b
-  unfolding e0 e1 SU stripU
+  rim-toU : (a b : ℕ) → Rim s a b → OnRim ZU a b
+  unfolding sideFrom sideTo SU stripU
   rim-toU a b (inl r) =
       ⊎-elim
       (λ e. record { k = straight; t = false; x = 0; y = r .1 .0; cell = (omega arith, r .1 .1); rim = (r .0, refl); ends = same-trans e (inl (jU 0 (r .1 .0), jU 0 (r .1 .0 + 1))) })
@@ -253,11 +199,11 @@ module _ (s : Shape) (m : 3 ≤ s .M) (n : 3 ≤ s .N) (w : AlongU s) where
       (λ e. record { k = across; t = true; x = r .1 .0; y = s .N - 1; cell = (r .1 .1, omega arith); rim = (ap joined (r .0), top-N); ends = same-trans e (inl (jU (r .1 .0) (s .N) ∙ ap (pointOf ZU (r .1 .0)) (sym top-N), jU (r .1 .0 + 1) (s .N) ∙ ap (pointOf ZU (r .1 .0 + 1)) (sym top-N))) })
       (r .1 .2)
 
-  rim-fromU : (a b : ℕ) → OnRim ZU (halfU (s .split)) (halfU-diagonal (s .split)) a b → Rim s a b
-  unfolding e0 e1 SU stripU
+  rim-fromU : (a b : ℕ) → OnRim ZU a b → Rim s a b
+  unfolding sideFrom sideTo SU stripU
   rim-fromU a b r = go (r .k) (r .t) (r .x) (r .y) (r .cell) (r .rim) (r .ends)
     where
-      go : (k : Kind) (t : Bool) (x y : ℕ) → Cell ZU x y → RimAt ZU k t x y → Same a b (e0 ZU k t x y) (e1 ZU k t x y) → Rim s a b
+      go : (k : Kind) (t : Bool) (x y : ℕ) → Cell ZU x y → RimAt ZU k t x y → Same a b (sideFrom ZU k t x y) (sideTo ZU k t x y) → Rim s a b
       go straight false x y c r e = inl (r .0, (y, c .1, inl (same-trans e (inl (ap (λ (z : ℕ). pointOf ZU z y) (r .1) ∙ sym (jU 0 y), ap (λ (z : ℕ). pointOf ZU z (y + 1)) (r .1) ∙ sym (jU 0 (y + 1)))))))
       go straight true x y c r e = inl (r .0, (y, c .1, inr (same-trans e (inl (ap (λ (z : ℕ). pointOf ZU z y) (r .1) ∙ sym (jU (s .M) y), ap (λ (z : ℕ). pointOf ZU z (y + 1)) (r .1) ∙ sym (jU (s .M) (y + 1)))))))
       go across false x y c r e = inr (plain-open (s .sv) (w .plain) (r .0), (x, c .0, inl (same-trans e (inl (ap (pointOf ZU x) (r .1) ∙ sym (jU x 0), ap (pointOf ZU (x + 1)) (r .1) ∙ sym (jU (x + 1) 0))))))
@@ -265,7 +211,7 @@ module _ (s : Shape) (m : 3 ≤ s .M) (n : 3 ≤ s .N) (w : AlongU s) where
       go diagonal t x y c r e = absurd r
 
   edge-toU : (i j i′ j′ : ℕ) → GridEdge s i j i′ j′ → EdgeAt ZU (J s i j) (J s i′ j′)
-  unfolding e0 e1 SU stripU
+  unfolding sideFrom sideTo SU stripU
   edge-toU i j i′ j′ (along-u {u} {v} hu hv) =
       ⊎-elim
       (λ h. record { k = across; t = false; x = u; y = v; cell = (hu, h); ends = inl (jU u v, jU (u + 1) v) })
@@ -282,9 +228,9 @@ module _ (s : Shape) (m : 3 ≤ s .M) (n : 3 ≤ s .N) (w : AlongU s) where
     where
       last : s .M ≤ u → u ≡ s .M - 1 + 1
       last h = omega arith
-  edge-toU i j i′ j′ (fall {u} {v} hu hv e) =
+  edge-toU i j i′ j′ (falls {u} {v} hu hv e) =
       record { k = diagonal; t = false; x = u; y = v; cell = (hu, hv); ends = subst (λ (d : Split). Same (J s (u + 1) v) (J s u (v + 1)) (endsOf ZU diagonal d false u v .0) (endsOf ZU diagonal d false u v .1)) (sym e) (inr (jU (u + 1) v, jU u (v + 1))) }
-  edge-toU i j i′ j′ (riseᵉ {u} {v} hu hv e) =
+  edge-toU i j i′ j′ (rises {u} {v} hu hv e) =
       record { k = diagonal; t = false; x = u; y = v; cell = (hu, hv); ends = subst (λ (d : Split). Same (J s u v) (J s (u + 1) (v + 1)) (endsOf ZU diagonal d false u v .0) (endsOf ZU diagonal d false u v .1)) (sym e) (inl (jU u v, jU (u + 1) (v + 1))) }
 
   flipsU : flipped s ≡ pick (reversed (s .su)) (process s (s .su) (s .N) (lowU s) (highU s) (s .N) []) []
@@ -297,18 +243,18 @@ module _ (s : Shape) (m : 3 ≤ s .M) (n : 3 ≤ s .N) (w : AlongU s) where
   unfolding lowU index
   low-indexU j = go (s .split)
     where
-      go : (d : Split) → 2 * j + rise d 0 1 ≡ 2 * (0 * s .N + j) + halfNum (halfU d straight false)
+      go : (d : Split) → 2 * j + bySplit d 0 1 ≡ 2 * (0 * s .N + j) + halfNum (halfU d straight false)
       go falling = omega arith
       go rising = omega arith
 
   high-indexU : (i j : ℕ) → i + 1 ≡ s .M → highU s j ≡ index s (halfU (s .split) straight true) i j
   unfolding highU index
-  high-indexU i j h = ap (λ (z : ℕ). 2 * (z * s .N + j) + rise (s .split) 1 0) before ∙ go (s .split)
+  high-indexU i j h = ap (λ (z : ℕ). 2 * (z * s .N + j) + bySplit (s .split) 1 0) before ∙ go (s .split)
     where
       before : s .M - 1 ≡ i
       before = omega arith
 
-      go : (d : Split) → 2 * (i * s .N + j) + rise d 1 0 ≡ 2 * (i * s .N + j) + halfNum (halfU d straight true)
+      go : (d : Split) → 2 * (i * s .N + j) + bySplit d 1 0 ≡ 2 * (i * s .N + j) + halfNum (halfU d straight true)
       go falling = refl
       go rising = refl
 
@@ -317,10 +263,6 @@ module _ (s : Shape) (m : 3 ≤ s .M) (n : 3 ≤ s .N) (w : AlongU s) where
   viewU =
       record {
         S = ZU;
-        half = halfU (s .split);
-        half-diagonal = halfU-diagonal (s .split);
-        dir = dirU (s .split);
-        dir-not = dirU-not (s .split);
         x = λ i j. i;
         y = λ i j. j;
         u = λ i j. i;
@@ -346,19 +288,19 @@ module _ (s : Shape) (m : 3 ≤ s .M) (n : 3 ≤ s .N) (w : AlongV s) where
   ZV = SV s m n (w .fits) (w .plain)
 
   abbrev RunsV : Bool → ℕ → ℕ → ℕ → ℕ → Type 0
-  RunsV = Runs ZV (halfV (s .split)) (halfV-diagonal (s .split)) (dirV (s .split)) (dirV-not (s .split))
+  RunsV = Runs ZV
 
   jV : (i j : ℕ) → i ≤ s .M → J s i j ≡ pointOf ZV j i
-  jV i j h = J-v s m n (w .fits) (w .plain) (w .tame) i j h
+  jV i j h = J-v s m n (w .fits) (w .plain) (w .inside) i j h
 
   to-runsV : (h : Bool) (i j a b : ℕ) → i < s .M → j < s .N → Follows (halfOf s (s .split) (halfNum h) i j) a b → RunsV h j i a b
-  unfolding e0 e1 SV stripV
+  unfolding sideFrom sideTo SV stripV
   to-runsV h i j a b hi hj F = let r = raw-toV s m n w i j a b hi hj (s .split) h F in record { k = r .0; t = r .1; cell = (hj, hi); on = r .2; along = r .3 }
 
   from-runsV : (h : Bool) (i j a b : ℕ) → i < s .M → j < s .N → RunsV h j i a b → Follows (halfOf s (s .split) (halfNum h) i j) a b
-  unfolding e0 e1 SV stripV
+  unfolding sideFrom sideTo SV stripV
   from-runsV h i j a b hi hj r =
-      let e = along-ends ZV (halfV (s .split)) (halfV-diagonal (s .split)) (dirV (s .split)) (dirV-not (s .split)) (dirV (s .split) (r .k) (r .t)) a b (e0 ZV (r .k) (r .t) j i) (e1 ZV (r .k) (r .t) j i) (r .along) in
+      let e = along-ends ZV (dirV (s .split) (r .k) (r .t)) a b (sideFrom ZV (r .k) (r .t) j i) (sideTo ZV (r .k) (r .t) j i) (r .along) in
       subst (λ (z : Bool). Follows (halfOf s (s .split) (halfNum z) i j) a b) (r .on) (raw-fromV s m n w i j a b hi hj (s .split) (r .k) (r .t) (e .0) (e .1))
 
   top-MV : s .M - 1 + 1 ≡ s .M
@@ -367,8 +309,8 @@ module _ (s : Shape) (m : 3 ≤ s .M) (n : 3 ≤ s .N) (w : AlongV s) where
   top-NV : s .N - 1 + 1 ≡ s .N
   top-NV = omega arith
 
-  rim-toV : (a b : ℕ) → Rim s a b → OnRim ZV (halfV (s .split)) (halfV-diagonal (s .split)) a b
-  unfolding e0 e1 SV stripV
+  rim-toV : (a b : ℕ) → Rim s a b → OnRim ZV a b
+  unfolding sideFrom sideTo SV stripV
   rim-toV a b (inl r) =
       ⊎-elim
       (λ e. record { k = across; t = false; x = r .1 .0; y = 0; cell = (r .1 .1, omega arith); rim = (ap joined (r .0), refl); ends = same-trans e (inl (jV 0 (r .1 .0) (omega arith), jV 0 (r .1 .0 + 1) (omega arith))) })
@@ -380,11 +322,11 @@ module _ (s : Shape) (m : 3 ≤ s .M) (n : 3 ≤ s .N) (w : AlongV s) where
       (λ e. record { k = straight; t = true; x = s .N - 1; y = r .1 .0; cell = (omega arith, r .1 .1); rim = (r .0, top-NV); ends = same-trans e (inl (jV (r .1 .0) (s .N) (omega (arith, r .1 .1)) ∙ ap (λ (z : ℕ). pointOf ZV z (r .1 .0)) (sym top-NV), jV (r .1 .0 + 1) (s .N) (omega (arith, r .1 .1)) ∙ ap (λ (z : ℕ). pointOf ZV z (r .1 .0 + 1)) (sym top-NV))) })
       (r .1 .2)
 
-  rim-fromV : (a b : ℕ) → OnRim ZV (halfV (s .split)) (halfV-diagonal (s .split)) a b → Rim s a b
-  unfolding e0 e1 SV stripV
+  rim-fromV : (a b : ℕ) → OnRim ZV a b → Rim s a b
+  unfolding sideFrom sideTo SV stripV
   rim-fromV a b r = go (r .k) (r .t) (r .x) (r .y) (r .cell) (r .rim) (r .ends)
     where
-      go : (k : Kind) (t : Bool) (x y : ℕ) → Cell ZV x y → RimAt ZV k t x y → Same a b (e0 ZV k t x y) (e1 ZV k t x y) → Rim s a b
+      go : (k : Kind) (t : Bool) (x y : ℕ) → Cell ZV x y → RimAt ZV k t x y → Same a b (sideFrom ZV k t x y) (sideTo ZV k t x y) → Rim s a b
       go straight false x y c r e = inr (r .0, (y, c .1, inl (same-trans e (inl (ap (λ (z : ℕ). pointOf ZV z y) (r .1) ∙ sym (jV y 0 (omega arith)), ap (λ (z : ℕ). pointOf ZV z (y + 1)) (r .1) ∙ sym (jV (y + 1) 0 (omega arith)))))))
       go straight true x y c r e = inr (r .0, (y, c .1, inr (same-trans e (inl (ap (λ (z : ℕ). pointOf ZV z y) (r .1) ∙ sym (jV y (s .N) (omega arith)), ap (λ (z : ℕ). pointOf ZV z (y + 1)) (r .1) ∙ sym (jV (y + 1) (s .N) (omega arith)))))))
       go across false x y c r e = inl (plain-open (s .su) (w .plain) (r .0), (x, c .0, inl (same-trans e (inl (ap (pointOf ZV x) (r .1) ∙ sym (jV 0 x (omega arith)), ap (pointOf ZV (x + 1)) (r .1) ∙ sym (jV 0 (x + 1) (omega arith)))))))
@@ -392,7 +334,7 @@ module _ (s : Shape) (m : 3 ≤ s .M) (n : 3 ≤ s .N) (w : AlongV s) where
       go diagonal t x y c r e = absurd r
 
   edge-toV : (i j i′ j′ : ℕ) → GridEdge s i j i′ j′ → EdgeAt ZV (J s i j) (J s i′ j′)
-  unfolding e0 e1 SV stripV
+  unfolding sideFrom sideTo SV stripV
   edge-toV i j i′ j′ (along-v {u} {v} hu hv) =
       ⊎-elim
       (λ h. record { k = across; t = false; x = v; y = u; cell = (hv, h); ends = inl (jV u v hu, jV u (v + 1) hu) })
@@ -409,9 +351,9 @@ module _ (s : Shape) (m : 3 ≤ s .M) (n : 3 ≤ s .N) (w : AlongV s) where
     where
       last : s .N ≤ v → v ≡ s .N - 1 + 1
       last h = omega arith
-  edge-toV i j i′ j′ (fall {u} {v} hu hv e) =
+  edge-toV i j i′ j′ (falls {u} {v} hu hv e) =
       record { k = diagonal; t = false; x = v; y = u; cell = (hv, hu); ends = subst (λ (d : Split). Same (J s (u + 1) v) (J s u (v + 1)) (endsOf ZV diagonal d false v u .0) (endsOf ZV diagonal d false v u .1)) (sym e) (inl (jV (u + 1) v (omega arith), jV u (v + 1) (omega arith))) }
-  edge-toV i j i′ j′ (riseᵉ {u} {v} hu hv e) =
+  edge-toV i j i′ j′ (rises {u} {v} hu hv e) =
       record { k = diagonal; t = false; x = v; y = u; cell = (hv, hu); ends = subst (λ (d : Split). Same (J s u v) (J s (u + 1) (v + 1)) (endsOf ZV diagonal d false v u .0) (endsOf ZV diagonal d false v u .1)) (sym e) (inl (jV u v (omega arith), jV (u + 1) (v + 1) (omega arith))) }
 
   flipsV : flipped s ≡ pick (reversed (s .sv)) (process s (s .sv) (s .M) (lowV s) (highV s) (s .M) []) []
@@ -444,10 +386,6 @@ module _ (s : Shape) (m : 3 ≤ s .M) (n : 3 ≤ s .N) (w : AlongV s) where
   viewV =
       record {
         S = ZV;
-        half = halfV (s .split);
-        half-diagonal = halfV-diagonal (s .split);
-        dir = dirV (s .split);
-        dir-not = dirV-not (s .split);
         x = λ i j. j;
         y = λ i j. i;
         u = λ i j. j;

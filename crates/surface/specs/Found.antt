@@ -1,5 +1,8 @@
--- The surface of a grid: the seams that the search finds in it, and the joined surface that they make (01, "Joining and triangles"). Assumes nothing.
+-- The surface of a grid: the seams that the search finds in it, the joined surface that they make, and demand 3 of its lists (01, "Joining and
+-- triangles", "Joinings that demand 3 covers"). Assumes nothing.
 use Prim.Native.Nat.{ℕ, _+_, _*_, _≤_}
+use mathlib.Core.Path.{_≡_}
+use mathlib.Core.Logic.{_⊎_}
 use mathlib.Core.List.{List}
 use lib.Ieee.{Float}
 use Rattle.vector.specs.Vectors.{allClose}
@@ -9,6 +12,7 @@ use Rattle.cyclic.specs.declared.mapping.CyclicMapping.the-variants.{Forward, R
 use Rattle.cyclic.specs.declared.seam.Seam.{Seam}
 use Rattle.cyclic.specs.declared.seam.Seam.the-variants.{Joined, Unjoined}
 use Rattle.cyclic.specs.declared.seam.SeamSearch.{SeamSearch}
+use Rattle.cyclic.specs.Mapping.{offsetOf}
 use Rattle.cyclic.specs.Search.{Row, search}
 use Rattle.surface.specs.Surface as surface
 
@@ -26,14 +30,14 @@ uSearch g m n = search allClose (column g n 0) (column g n m) (n + 1) (n + 1)
 unfoldable pub vSearch : List Float → ℕ → ℕ → SeamSearch
 vSearch g m n = search allClose (row g n 0) (row g n n) (m + 1) (m + 1)
 
--- a search's answer as a surface holds it: the steps of a mapping are its row's
+-- a seam's answer as a surface holds it: without the steps, which are its row's
 abbrev pub ofMapping : CyclicMapping → surface.Seam
 ofMapping (Forward o steps) = surface.forward o
 ofMapping (Reverse o steps) = surface.reverse o
 
 abbrev pub seamOf : Seam → surface.Seam
 seamOf Unjoined = surface.unjoined
-seamOf (Joined m) = ofMapping m
+seamOf (Joined k) = ofMapping k
 
 -- the surface that two seam answers make of a grid with M and N steps
 abbrev pub surfaceWith : ℕ → ℕ → Seam → Seam → surface.Shape
@@ -43,6 +47,28 @@ surfaceWith m n su sv = record { M = m; N = n; su = seamOf su; sv = seamOf sv; r
 abbrev pub surfaceOf : List Float → ℕ → ℕ → surface.Shape
 surfaceOf g m n = surfaceWith m n (uSearch g m n .seam) (vSearch g m n .seam)
 
--- Demand 3 of a grid's triangles and flipped pairs, where its seams are a covered joining
+-- "forward at offset 0"
+abbrev pub ForwardAtZero : CyclicMapping → Type 0
+ForwardAtZero (Forward o steps) = o ≡ 0
+ForwardAtZero (Reverse o steps) = ⊥
+
+-- "forward at any offset or reverse at an offset other than 0"
+abbrev pub ForwardOrOffZero : CyclicMapping → Type 0
+ForwardOrOffZero (Forward o steps) = Unit {0}
+ForwardOrOffZero (Reverse o steps) = o ≡ 0 → ⊥
+
+-- "neither seam found; one found, at offset 0, forward or reverse; both found, one forward at offset 0 and the other forward at any offset or
+-- reverse at an offset other than 0"
+abbrev pub CoveredJoining : Seam → Seam → Type 0
+CoveredJoining Unjoined Unjoined = Unit {0}
+CoveredJoining (Joined j) Unjoined = offsetOf j ≡ 0
+CoveredJoining Unjoined (Joined k) = offsetOf k ≡ 0
+CoveredJoining (Joined j) (Joined k) = (ForwardAtZero j × ForwardOrOffZero k) ⊎ (ForwardOrOffZero j × ForwardAtZero k)
+
+-- the seams that are found in a grid are a covered joining
+abbrev pub CoveredGrid : List Float → ℕ → ℕ → Type 0
+CoveredGrid g m n = CoveredJoining (uSearch g m n .seam) (vSearch g m n .seam)
+
+-- Demand 3 of a grid's triangles and flipped pairs
 abbrev pub SurfaceMeets : List Float → ℕ → ℕ → Type 0
-SurfaceMeets g m n = Accepted g m n → 3 ≤ m → 3 ≤ n → surface.Covered (surfaceOf g m n) → surface.Meets (surfaceOf g m n)
+SurfaceMeets g m n = Accepted g m n → 3 ≤ m → 3 ≤ n → CoveredGrid g m n → surface.Meets (surfaceOf g m n)

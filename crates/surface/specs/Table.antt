@@ -1,39 +1,52 @@
--- 01's starred results on mappings, triangles and flipped pairs. Assumes nothing.
+-- 01's starred results on triangles and flipped pairs, by computation, and one that tells the corner rule from J. Assumes nothing.
 use Prim.Native.Nat.{ℕ}
 use mathlib.Core.Path.{_≡_, refl}
+use mathlib.Core.Bool.{Bool, true}
 use mathlib.Core.List.{List, [], _∷_}
-use Rattle.surface.specs.Surface.{Seam, unjoined, forward, reverse, inverse, image, Shape, Rule, once, twice, Split, falling, rising, joinedBy, J, cornerBy, corner, Triangle, tri, halfOf, slot, kept, slots, triangles, Pair, numberOf, stepOn, lowU, highU, lowV, highV, process, flipped}
+use Rattle.cyclic.specs.Mapping as mapping
+use Rattle.surface.specs.Surface.{Seam, unjoined, forward, reverse, Shape, Rule, once, twice, Split, falling, rising, cornerBy, corner, Triangle, tri, halfOf, slot, slots, kept, triangles, numberOf, Pair, pair, stepOn, lowU, highU, lowV, highV, process, flipped, joinedBy, J, nth}
 
-fwd-image : image (forward 1) 4 4 ≡ 1
-fwd-image = refl
-
-fwd-inverse : inverse (forward 1) 4 0 ≡ 3
-fwd-inverse = refl
-
-rev0 : inverse (reverse 0) 4 1 ≡ 3
-rev0 = refl
-
-rev1 : inverse (reverse 1) 4 2 ≡ 3
-rev1 = refl
-
-rev1′ : inverse (reverse 1) 4 4 ≡ 1
-rev1′ = refl
+-- all that a closed result computes through
+unfoldable computed : Bool
+unfolding mapping.inverse cornerBy corner halfOf slot slots kept triangles numberOf stepOn lowU highU lowV highV process flipped joinedBy J
+computed = true
 
 abbrev shape : ℕ → ℕ → Seam → Seam → Rule → Split → Shape
-shape M N su sv r d = record { M = M; N = N; su = su; sv = sv; rule = r; split = d }
+shape M N su sv rule split = record { M = M; N = N; su = su; sv = sv; rule = rule; split = split }
 
-abbrev pr : ℕ → ℕ → Pair
-pr i j = record { low = i; high = j }
+-- "M=N=1, no seam: triangles 0,2,1 and 2,3,1."
+no-seam : triangles (shape 1 1 unjoined unjoined once falling) ≡ tri 0 2 1 ∷ tri 2 3 1 ∷ []
+unfolding computed
+no-seam = refl
 
-plain : triangles (shape 1 1 unjoined unjoined once falling) ≡ tri 0 2 1 ∷ tri 2 3 1 ∷ []
-unfolding triangles kept slot halfOf corner cornerBy slots
-plain = refl
+-- "M=N=3, u seam Reverse(0), v unjoined: flipped (0,17), (2,15), (4,13)."
+reversed-u : flipped (shape 3 3 (reverse 0) unjoined once falling) ≡ pair 0 17 ∷ pair 2 15 ∷ pair 4 13 ∷ []
+unfolding computed
+reversed-u = refl
 
-mobius : flipped (shape 3 3 (reverse 0) unjoined once falling) ≡ pr 0 17 ∷ pr 2 15 ∷ pr 4 13 ∷ []
-unfolding flipped process stepOn numberOf kept slot halfOf corner cornerBy slots lowU highU
-mobius = refl
+-- "joining a corner's v in every row .. differs from the Rust for a reversed seam at offset 0": where M=N=3, the u seam is Reverse(0) and the
+-- v seam Forward(0), corner (3,0) of row 0 goes to (0,3), number 3, and stays there; J takes it on to (0,0), number 0.
+abbrev cracked : Shape
+cracked = shape 3 3 (reverse 0) (forward 0) once falling
 
--- the Klein bottle of the second triangulation
-klein : flipped (shape 3 3 (forward 0) (reverse 0) twice rising) ≡ pr 0 17 ∷ pr 5 12 ∷ pr 6 11 ∷ []
-unfolding flipped process stepOn numberOf kept slot halfOf corner cornerBy joinedBy slots lowV highV
+corner-of-row-0 : corner cracked 0 3 0 ≡ 3
+unfolding computed
+corner-of-row-0 = refl
+
+J-of-it : J cracked 3 0 ≡ 0
+unfolding computed
+J-of-it = refl
+
+-- so the triangles of cell (2,0) have 3 where J would give 0
+triangle-12 : nth (triangles cracked) 12 ≡ tri 8 3 9
+unfolding computed
+triangle-12 = refl
+
+triangle-13 : nth (triangles cracked) 13 ≡ tri 3 2 9
+unfolding computed
+triangle-13 = refl
+
+-- a Klein bottle of request 8, whose cells are split as in request 12
+klein : flipped (shape 3 3 (forward 0) (reverse 0) twice rising) ≡ pair 0 17 ∷ pair 5 12 ∷ pair 6 11 ∷ []
+unfolding computed
 klein = refl

@@ -2,13 +2,14 @@
 use Prim.Native.Nat.{ℕ, zero, suc, _+_, _-_, _≤_, _<_}
 use mathlib.Core.Path.{_≡_, refl, sym, ap, _∙_, subst}
 use mathlib.Core.Logic.{_⊎_, inl, inr, ⊎-elim}
-use mathlib.Core.Bool.{Bool, true, false, not}
+use mathlib.Core.Bool.{Bool, true, false, _&&_, not}
 use native.Mathlib.Omega.{arith}
 use lib.Dec.{eqb, ltb}
 use borrow.Author.Tests.{eqb-true, eqb-false, eq-eqb, ne-eqb}
-use Rattle.surface.specs.Surface.{pick, both, Seam, unjoined, forward, reverse, joined, reversed, inverse, Split, falling, rising, Same}
-use Rattle.surface.proofs.Steps.{eqb-cases, lt-or-le, nf, nf-open, nf-closed, nf-two, nf-below, nf-end, nf-le, laidOn, laidBack, on-below, back-below, on-back, on-inj, Fits}
-use Rattle.surface.proofs.Strip.{Strip, crossing, colOf, rowOf, pointOf, stepAt, turned, next, Kind, straight, across, diagonal, n0, n1, y0, x1, y1, Valid, one-name, row-below, col-below, step-below, stepAt-lt, col-le, next-le, next-ne, next-inj, col-ne, col-inj, row-next, adjacent, crossing-below}
+use Rattle.cyclic.specs.Mapping.{pick}
+use Rattle.surface.specs.Surface.{Seam, unjoined, forward, reverse, joined, reversed, inverse, Split, falling, rising, Same}
+use Rattle.surface.proofs.Steps.{eqb-cases, lt-or-le, wrap, wrap-open, wrap-closed, wrap-two, wrap-below, wrap-end, wrap-le, laidOn, laidBack, on-below, back-below, on-back, on-inj, Fits}
+use Rattle.surface.proofs.Strip.{Strip, crossing, colOf, rowOf, pointOf, stepAt, turned, next, Kind, straight, across, diagonal, nameFrom, nameTo, fromY, toX, toY, Valid, one-name, row-below, col-below, step-below, stepAt-lt, col-le, next-le, next-ne, next-inj, col-ne, col-inj, row-next, adjacent, crossing-below}
 
 abbrev pub Cell : Strip → ℕ → ℕ → Type 0
 Cell S x y = (x < S .X) × (y < S .Y)
@@ -22,25 +23,25 @@ endsOf S across d true x y = (pointOf S x (y + 1), pointOf S (x + 1) (y + 1))
 endsOf S diagonal falling t x y = (pointOf S x (y + 1), pointOf S (x + 1) y)
 endsOf S diagonal rising t x y = (pointOf S x y, pointOf S (x + 1) (y + 1))
 
-unfoldable pub e0 : Strip → Kind → Bool → ℕ → ℕ → ℕ
-e0 S k t x y = endsOf S k (S .split) t x y .0
+unfoldable pub sideFrom : Strip → Kind → Bool → ℕ → ℕ → ℕ
+sideFrom S k t x y = endsOf S k (S .split) t x y .0
 
-unfoldable pub e1 : Strip → Kind → Bool → ℕ → ℕ → ℕ
-e1 S k t x y = endsOf S k (S .split) t x y .1
+unfoldable pub sideTo : Strip → Kind → Bool → ℕ → ℕ → ℕ
+sideTo S k t x y = endsOf S k (S .split) t x y .1
 
 -- its name
-abbrev pub nx : Strip → Kind → Bool → ℕ → ℕ
-nx S straight false x = x
-nx S straight true x = colOf S (x + 1)
-nx S across t x = x
-nx S diagonal t x = x
+abbrev pub nameX : Strip → Kind → Bool → ℕ → ℕ
+nameX S straight false x = x
+nameX S straight true x = colOf S (x + 1)
+nameX S across t x = x
+nameX S diagonal t x = x
 
-abbrev pub ny : Strip → Kind → Bool → ℕ → ℕ → ℕ
-ny S straight false x y = y
-ny S straight true x y = stepAt S (x + 1) y
-ny S across false x y = y
-ny S across true x y = next S y
-ny S diagonal t x y = y
+abbrev pub nameY : Strip → Kind → Bool → ℕ → ℕ → ℕ
+nameY S straight false x y = y
+nameY S straight true x y = stepAt S (x + 1) y
+nameY S across false x y = y
+nameY S across true x y = next S y
+nameY S diagonal t x y = y
 
 abbrev pub turnedAt : Strip → Kind → Bool → ℕ → Bool
 turnedAt S straight false x = false
@@ -57,36 +58,36 @@ RimAt S across true x y = (S .closed ≡ false) × (y + 1 ≡ S .Y)
 RimAt S diagonal t x y = ⊥
 
 module _ (S : Strip) where
-  open Strip S using (X, Y, closed, seam, split, enc, X≥3, Y≥3, fits, inj)
+  open Strip S using (X, Y, closed, seam, split, num, X≥3, Y≥3, fits, inj)
 
-  pub valid : (k : Kind) (t : Bool) (x y : ℕ) → Cell S x y → Valid S k (nx S k t x) (ny S k t x y)
+  pub valid : (k : Kind) (t : Bool) (x y : ℕ) → Cell S x y → Valid S k (nameX S k t x) (nameY S k t x y)
   valid straight false x y c = (omega arith, c .1)
   valid straight true x y c = (col-le S (x + 1) (omega arith), stepAt-lt S (x + 1) y (c .1))
   valid across false x y c = (c .0, omega arith)
   valid across true x y c = (c .0, next-le S y (c .1))
   valid diagonal t x y c = c
 
-  pt : (x y a b : ℕ) → colOf S x ≡ a → rowOf S x y ≡ b → pointOf S x y ≡ enc a b
+  pt : (x y a b : ℕ) → colOf S x ≡ a → rowOf S x y ≡ b → pointOf S x y ≡ num a b
   unfolding pointOf
-  pt x y a b p q = ap (λ (z : ℕ). enc z (rowOf S x y)) p ∙ ap (enc a) q
+  pt x y a b p q = ap (λ (z : ℕ). num z (rowOf S x y)) p ∙ ap (num a) q
 
-  low : (x y : ℕ) → x < X → y < Y → pointOf S x y ≡ enc x y
-  low x y h k = pt x y x y (col-below S x h) (row-below S x y h ∙ nf-below closed Y y k)
+  low : (x y : ℕ) → x < X → y < Y → pointOf S x y ≡ num x y
+  low x y h k = pt x y x y (col-below S x h) (row-below S x y h ∙ wrap-below closed Y y k)
 
-  up : (x y : ℕ) → x < X → pointOf S x (y + 1) ≡ enc x (next S y)
+  up : (x y : ℕ) → x < X → pointOf S x (y + 1) ≡ num x (next S y)
   unfolding next
   up x y h = pt x (y + 1) x (next S y) (col-below S x h) (row-below S x (y + 1) h)
 
   abbrev pub Named : Kind → Bool → ℕ → ℕ → Type 0
   Named k t x y =
-      ((turnedAt S k t x ≡ false) × (e0 S k t x y ≡ n0 S k (nx S k t x) (ny S k t x y)) × (e1 S k t x y ≡ n1 S k (nx S k t x) (ny S k t x y)))
-      ⊎ ((turnedAt S k t x ≡ true) × (e0 S k t x y ≡ n1 S k (nx S k t x) (ny S k t x y)) × (e1 S k t x y ≡ n0 S k (nx S k t x) (ny S k t x y)))
+      ((turnedAt S k t x ≡ false) × (sideFrom S k t x y ≡ nameFrom S k (nameX S k t x) (nameY S k t x y)) × (sideTo S k t x y ≡ nameTo S k (nameX S k t x) (nameY S k t x y)))
+      ⊎ ((turnedAt S k t x ≡ true) × (sideFrom S k t x y ≡ nameTo S k (nameX S k t x) (nameY S k t x y)) × (sideTo S k t x y ≡ nameFrom S k (nameX S k t x) (nameY S k t x y)))
 
-  named-across-high : (x y : ℕ) → pointOf S (x + 1) (y + 1) ≡ enc (colOf S (x + 1)) (rowOf S (x + 1) (next S y))
+  named-across-high : (x y : ℕ) → pointOf S (x + 1) (y + 1) ≡ num (colOf S (x + 1)) (rowOf S (x + 1) (next S y))
   named-across-high x y = pt (x + 1) (y + 1) (colOf S (x + 1)) (rowOf S (x + 1) (next S y)) refl (sym (row-next S (x + 1) y))
 
   pub named : (k : Kind) (t : Bool) (x y : ℕ) → Cell S x y → Named k t x y
-  unfolding e0 e1 n0 n1
+  unfolding sideFrom sideTo nameFrom nameTo
   named straight false x y c = inl (refl, low x y (c .0) (c .1), up x y (c .0))
   named straight true x y c =
       ⊎-elim
@@ -98,8 +99,8 @@ module _ (S : Strip) where
   named diagonal t x y c = go split
     where
       go : (d : Split) →
-          ((false ≡ false) × (endsOf S diagonal d t x y .0 ≡ enc x (y0 S diagonal d y)) × (endsOf S diagonal d t x y .1 ≡ enc (colOf S (x + 1)) (y1 S diagonal d x y)))
-          ⊎ ((false ≡ true) × (endsOf S diagonal d t x y .0 ≡ enc (colOf S (x + 1)) (y1 S diagonal d x y)) × (endsOf S diagonal d t x y .1 ≡ enc x (y0 S diagonal d y)))
+          ((false ≡ false) × (endsOf S diagonal d t x y .0 ≡ num x (fromY S diagonal d y)) × (endsOf S diagonal d t x y .1 ≡ num (colOf S (x + 1)) (toY S diagonal d x y)))
+          ⊎ ((false ≡ true) × (endsOf S diagonal d t x y .0 ≡ num (colOf S (x + 1)) (toY S diagonal d x y)) × (endsOf S diagonal d t x y .1 ≡ num x (fromY S diagonal d y)))
       go falling = inl (refl, up x y (c .0), pt (x + 1) y (colOf S (x + 1)) (rowOf S (x + 1) y) refl refl)
       go rising = inl (refl, low x y (c .0) (c .1), pt (x + 1) (y + 1) (colOf S (x + 1)) (rowOf S (x + 1) (y + 1)) refl refl)
 
@@ -114,7 +115,7 @@ module _ (S : Strip) where
       go false e = e
 
   pub one-place : (k : Kind) (t : Bool) (x y x′ y′ : ℕ) → Cell S x y → Cell S x′ y′ →
-      nx S k t x ≡ nx S k t x′ → ny S k t x y ≡ ny S k t x′ y′ → (x ≡ x′) × (y ≡ y′)
+      nameX S k t x ≡ nameX S k t x′ → nameY S k t x y ≡ nameY S k t x′ y′ → (x ≡ x′) × (y ≡ y′)
   one-place straight false x y x′ y′ c c′ p q = (p, q)
   one-place straight true x y x′ y′ c c′ p q =
       let e : x ≡ x′ = col-inj S x x′ (c .0) (c′ .0) p in
@@ -142,37 +143,37 @@ module _ (S : Strip) where
 
   pub far-col : joined seam ≡ true → colOf S X ≡ 0
   unfolding colOf
-  far-col j = ap (λ (t : Bool). nf t X X) j ∙ nf-end X
+  far-col j = ap (λ (t : Bool). wrap t X X) j ∙ wrap-end X
 
   pub far-step : (y : ℕ) → joined seam ≡ true → stepAt S X y ≡ laidOn seam Y y
   unfolding stepAt
-  far-step y j = ap (λ (t : Bool). pick t (laidOn seam Y y) y) (ap (λ (t : Bool). both t (eqb X X)) j ∙ eq-eqb X X refl)
+  far-step y j = ap (λ (t : Bool). pick t (laidOn seam Y y) y) (ap (λ (t : Bool). t && eqb X X) j ∙ eq-eqb X X refl)
 
   col-unjoined : (x : ℕ) → seam ≡ unjoined → colOf S x ≡ x
   unfolding colOf
-  col-unjoined x e = ap (λ (m : Seam). nf (joined m) X x) e ∙ nf-open X x
+  col-unjoined x e = ap (λ (m : Seam). wrap (joined m) X x) e ∙ wrap-open X x
 
   next-open : (y : ℕ) → closed ≡ false → next S y ≡ y + 1
   unfolding next
-  next-open y e = ap (λ (c : Bool). nf c Y (y + 1)) e ∙ nf-open Y (y + 1)
+  next-open y e = ap (λ (c : Bool). wrap c Y (y + 1)) e ∙ wrap-open Y (y + 1)
 
   next-below : (y : ℕ) → y + 1 < Y → next S y ≡ y + 1
   unfolding next
-  next-below y h = nf-below closed Y (y + 1) h
+  next-below y h = wrap-below closed Y (y + 1) h
 
   next-last : (y : ℕ) → closed ≡ true → y + 1 ≡ Y → next S y ≡ 0
   unfolding next
-  next-last y e h = ap (λ (c : Bool). nf c Y (y + 1)) e ∙ ap (nf true Y) h ∙ nf-end Y
+  next-last y e h = ap (λ (c : Bool). wrap c Y (y + 1)) e ∙ ap (wrap true Y) h ∙ wrap-end Y
 
-  pub record Mate (k : Kind) (t : Bool) (x y : ℕ) : Type 0 where
+  pub record Partner (k : Kind) (t : Bool) (x y : ℕ) : Type 0 where
     pub x′ : ℕ
     pub y′ : ℕ
     pub cell : Cell S x′ y′
-    pub same-x : nx S k (not t) x′ ≡ nx S k t x
-    pub same-y : ny S k (not t) x′ y′ ≡ ny S k t x y
+    pub same-x : nameX S k (not t) x′ ≡ nameX S k t x
+    pub same-y : nameY S k (not t) x′ y′ ≡ nameY S k t x y
 
-  pub mate : (k : Kind) (t : Bool) (x y : ℕ) → Cell S x y → RimAt S k t x y ⊎ Mate k t x y
-  mate straight false x y c =
+  pub partner : (k : Kind) (t : Bool) (x y : ℕ) → Cell S x y → RimAt S k t x y ⊎ Partner k t x y
+  partner straight false x y c =
       ⊎-elim
       (λ h. inr (record { x′ = x - 1; y′ = y; cell = (omega arith, c .1); same-x = ap (colOf S) (back h) ∙ col-below S x (c .0); same-y = step-below S (x - 1 + 1) y (omega arith) }))
       (λ h. ⊎-elim
@@ -186,7 +187,7 @@ module _ (S : Strip) where
 
       back : 0 < x → x - 1 + 1 ≡ x
       back h = omega arith
-  mate straight true x y c =
+  partner straight true x y c =
       ⊎-elim
       (λ h. inr (found (omega (arith, col-below S (x + 1) h))))
       (λ h. ⊎-elim
@@ -198,9 +199,9 @@ module _ (S : Strip) where
       last : X ≤ x + 1 → x + 1 ≡ X
       last h = omega arith
 
-      found : colOf S (x + 1) < X → Mate straight true x y
+      found : colOf S (x + 1) < X → Partner straight true x y
       found h = record { x′ = colOf S (x + 1); y′ = stepAt S (x + 1) y; cell = (h, stepAt-lt S (x + 1) y (c .1)); same-x = refl; same-y = refl }
-  mate across false x y c =
+  partner across false x y c =
       ⊎-elim
       (λ h. inr (record { x′ = x; y′ = y - 1; cell = (c .0, omega arith); same-x = refl; same-y = next-below (y - 1) (omega arith) ∙ omega arith }))
       (λ h. ⊎-elim
@@ -208,7 +209,7 @@ module _ (S : Strip) where
       (λ j. inr (record { x′ = x; y′ = Y - 1; cell = (c .0, omega arith); same-x = refl; same-y = next-last (Y - 1) j (omega arith) ∙ omega arith }))
       closed-cases)
       (lt-or-le 0 y)
-  mate across true x y c =
+  partner across true x y c =
       ⊎-elim
       (λ h. inr (found (omega (arith, next-below y h))))
       (λ h. ⊎-elim
@@ -217,13 +218,13 @@ module _ (S : Strip) where
       closed-cases)
       (lt-or-le (y + 1) Y)
     where
-      found : next S y < Y → Mate across true x y
+      found : next S y < Y → Partner across true x y
       found h = record { x′ = x; y′ = next S y; cell = (c .0, h); same-x = refl; same-y = refl }
-  mate diagonal t x y c = inr (record { x′ = x; y′ = y; cell = c; same-x = refl; same-y = refl })
+  partner diagonal t x y c = inr (record { x′ = x; y′ = y; cell = c; same-x = refl; same-y = refl })
 
   -- a side on the rim has no other place
   pub rim-alone : (k : Kind) (t : Bool) (x y x′ y′ : ℕ) → Cell S x′ y′ → RimAt S k t x y →
-      nx S k (not t) x′ ≡ nx S k t x → ny S k (not t) x′ y′ ≡ ny S k t x y → ⊥
+      nameX S k (not t) x′ ≡ nameX S k t x → nameY S k (not t) x′ y′ ≡ nameY S k t x y → ⊥
   rim-alone straight false x y x′ y′ c r p q = omega (arith, col-unjoined (x′ + 1) (r .0))
   rim-alone straight true x y x′ y′ c r p q = omega (arith, col-unjoined (x + 1) (r .0))
   rim-alone across false x y x′ y′ c r p q = omega (arith, next-open y′ (r .0))
@@ -231,10 +232,10 @@ module _ (S : Strip) where
   rim-alone diagonal t x y x′ y′ c r p q = r
 
   -- the two places of a name that is no diagonal are in different cells
-  pub mate-apart : (k : Kind) (t : Bool) (x y : ℕ) → Cell S x y → (k ≡ diagonal → ⊥) →
-      nx S k (not t) x ≡ nx S k t x → ny S k (not t) x y ≡ ny S k t x y → ⊥
-  mate-apart straight false x y c n p q = col-ne S x (c .0) p
-  mate-apart straight true x y c n p q = col-ne S x (c .0) (sym p)
-  mate-apart across false x y c n p q = next-ne S y (c .1) q
-  mate-apart across true x y c n p q = next-ne S y (c .1) (sym q)
-  mate-apart diagonal t x y c n p q = n refl
+  pub partner-apart : (k : Kind) (t : Bool) (x y : ℕ) → Cell S x y → (k ≡ diagonal → ⊥) →
+      nameX S k (not t) x ≡ nameX S k t x → nameY S k (not t) x y ≡ nameY S k t x y → ⊥
+  partner-apart straight false x y c n p q = col-ne S x (c .0) p
+  partner-apart straight true x y c n p q = col-ne S x (c .0) (sym p)
+  partner-apart across false x y c n p q = next-ne S y (c .1) q
+  partner-apart across true x y c n p q = next-ne S y (c .1) (sym q)
+  partner-apart diagonal t x y c n p q = n refl

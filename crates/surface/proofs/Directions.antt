@@ -2,34 +2,35 @@
 use Prim.Native.Nat.{ℕ, zero, suc, _+_, _-_, _≤_, _<_}
 use mathlib.Core.Path.{_≡_, refl, sym, ap, _∙_, subst}
 use mathlib.Core.Logic.{_⊎_, inl, inr, ⊎-elim}
-use mathlib.Core.Bool.{Bool, true, false, not}
+use mathlib.Core.Bool.{Bool, true, false, _&&_, not}
 use native.Mathlib.Omega.{arith}
 use lib.Dec.{eqb}
 use borrow.Author.Tests.{eqb-true, eq-eqb}
-use Rattle.surface.specs.Surface.{pick, both, Seam, unjoined, forward, reverse, joined, reversed, Split, falling, rising, Same}
+use Rattle.cyclic.specs.Mapping.{pick}
+use Rattle.surface.specs.Surface.{Seam, unjoined, forward, reverse, joined, reversed, Split, falling, rising, Same}
 use Rattle.surface.proofs.Steps.{laidOn, on-below}
-use Rattle.surface.proofs.Strip.{Strip, Kind, straight, across, diagonal, n0, n1, y0, x1, y1, Valid, x-le, x1-le, y0-le, y1-le, turned, colOf, stepAt, col-ne, next-ne}
-use Rattle.surface.proofs.Places.{Cell, e0, e1, nx, ny, turnedAt, valid, Named, named, far-col, far-step}
+use Rattle.surface.proofs.Strip.{Strip, Kind, straight, across, diagonal, nameFrom, nameTo, fromY, toX, toY, Valid, x-le, toX-le, fromY-le, toY-le, turned, colOf, stepAt, col-ne, next-ne}
+use Rattle.surface.proofs.CellSides.{Cell, sideFrom, sideTo, nameX, nameY, turnedAt, valid, Named, named, far-col, far-step}
 use Rattle.surface.proofs.Owners.{same-or-not, not-self, Holds, compare, SameTri, Opposite}
 
 module _ (S : Strip) where
-  open Strip S using (X, Y, closed, seam, split, enc, X≥3, Y≥3, fits, inj)
+  open Strip S using (X, Y, closed, seam, split, num, X≥3, Y≥3, fits, inj)
 
   -- the two ends of a side differ
-  names-differ : (k : Kind) (x y : ℕ) → Valid S k x y → n0 S k x y ≡ n1 S k x y → ⊥
-  unfolding n0 n1
-  names-differ k x y v e = go k v (inj x (y0 S k split y) (x1 S k x) (y1 S k split x y) (x-le S k x y v) (y0-le S k split x y v) (x1-le S k x y v) (y1-le S k split x y v) e)
+  names-differ : (k : Kind) (x y : ℕ) → Valid S k x y → nameFrom S k x y ≡ nameTo S k x y → ⊥
+  unfolding nameFrom nameTo
+  names-differ k x y v e = go k v (inj x (fromY S k split y) (toX S k x) (toY S k split x y) (x-le S k x y v) (fromY-le S k split x y v) (toX-le S k x y v) (toY-le S k split x y v) e)
     where
-      go : (k : Kind) → Valid S k x y → (x ≡ x1 S k x) × (y0 S k split y ≡ y1 S k split x y) → ⊥
+      go : (k : Kind) → Valid S k x y → (x ≡ toX S k x) × (fromY S k split y ≡ toY S k split x y) → ⊥
       go straight v p = next-ne S y (v .1) (sym (p .1))
       go across v p = col-ne S x (v .0) (sym (p .0))
       go diagonal v p = col-ne S x (v .0) (sym (p .0))
 
-  pub ends-differ : (k : Kind) (t : Bool) (x y : ℕ) → Cell S x y → e0 S k t x y ≡ e1 S k t x y → ⊥
+  pub ends-differ : (k : Kind) (t : Bool) (x y : ℕ) → Cell S x y → sideFrom S k t x y ≡ sideTo S k t x y → ⊥
   ends-differ k t x y c e =
       ⊎-elim
-      (λ w. names-differ k (nx S k t x) (ny S k t x y) (valid S k t x y c) (sym (w .1) ∙ e ∙ w .2))
-      (λ w. names-differ k (nx S k t x) (ny S k t x y) (valid S k t x y c) (sym (w .2) ∙ sym e ∙ w .1))
+      (λ w. names-differ k (nameX S k t x) (nameY S k t x y) (valid S k t x y c) (sym (w .1) ∙ e ∙ w .2))
+      (λ w. names-differ k (nameX S k t x) (nameY S k t x y) (valid S k t x y c) (sym (w .2) ∙ sym e ∙ w .1))
       (named S k t x y c)
 
   turned-straight : (k : Kind) (t : Bool) (x : ℕ) → turnedAt S k t x ≡ true → (k ≡ straight) × (t ≡ true) × (turned S (x + 1) ≡ true)
@@ -47,7 +48,7 @@ module _ (S : Strip) where
       nope : _≡_ {A = ℕ} 0 1 → ⊥
       nope z = omega arith
 
-  both-true : (a b : Bool) → both a b ≡ true → (a ≡ true) × (b ≡ true)
+  both-true : (a b : Bool) → (a && b) ≡ true → (a ≡ true) × (b ≡ true)
   both-true true b e = (refl, e)
   both-true false b e = (e, cc)
 
@@ -57,7 +58,7 @@ module _ (S : Strip) where
 
   far-turned : reversed seam ≡ true → turned S X ≡ true
   unfolding turned
-  far-turned r = ap (λ (b : Bool). both b (eqb X X)) r ∙ eq-eqb X X refl
+  far-turned r = ap (λ (b : Bool). b && eqb X X) r ∙ eq-eqb X X refl
 
   reversed-joined : reversed seam ≡ true → joined seam ≡ true
   reversed-joined r = go seam r
@@ -67,9 +68,8 @@ module _ (S : Strip) where
       go (forward o) e = refl
       go (reverse o) e = refl
 
--- dir k t says whether its triangle runs along the side from e0 to e1
-module _ (S : Strip) (half : Kind → Bool → Bool) (half-diagonal : (t : Bool) → half diagonal t ≡ t) (dir : Kind → Bool → Bool) (dir-not : (k : Kind) (t : Bool) → dir k (not t) ≡ not (dir k t)) where
-  open Strip S using (X, Y, seam, fits, X≥3, Y≥3)
+module _ (S : Strip) where
+  open Strip S using (X, Y, seam, fits, X≥3, Y≥3, half, half-diagonal, dir, dir-not)
 
   abbrev pub Along : Bool → ℕ → ℕ → ℕ → ℕ → Type 0
   Along w a b c d = ((w ≡ true) × (a ≡ c) × (b ≡ d)) ⊎ ((w ≡ false) × (a ≡ d) × (b ≡ c))
@@ -79,13 +79,13 @@ module _ (S : Strip) (half : Kind → Bool → Bool) (half-diagonal : (t : Bool)
     pub t : Bool
     pub cell : Cell S x y
     pub on : half k t ≡ h
-    pub along : Along (dir k t) a b (e0 S k t x y) (e1 S k t x y)
+    pub along : Along (dir k t) a b (sideFrom S k t x y) (sideTo S k t x y)
 
   along-same : {w : Bool} {a b c d : ℕ} → Along w a b c d → Same a b c d
   along-same (inl e) = inl (e .1, e .2)
   along-same (inr e) = inr (e .1, e .2)
 
-  pub runs-holds : (h : Bool) (x y a b : ℕ) → Runs h x y a b → Holds S half half-diagonal h x y a b
+  pub runs-holds : (h : Bool) (x y a b : ℕ) → Runs h x y a b → Holds S h x y a b
   runs-holds h x y a b r = record { k = r .k; t = r .t; cell = r .cell; on = r .on; ends = along-same (r .along) }
 
   -- the low side of column 0 and the high side of the far column that lies on it the other way round
@@ -101,28 +101,28 @@ module _ (S : Strip) (half : Kind → Bool → Bool) (half-diagonal : (t : Bool)
   -- at which end of its name a place that is not turned begins
   Begins : Kind → Bool → ℕ → ℕ → ℕ → Type 0
   Begins k t x y a =
-      ((dir k t ≡ true) × (a ≡ n0 S k (nx S k t x) (ny S k t x y))) ⊎ ((dir k t ≡ false) × (a ≡ n1 S k (nx S k t x) (ny S k t x y)))
+      ((dir k t ≡ true) × (a ≡ nameFrom S k (nameX S k t x) (nameY S k t x y))) ⊎ ((dir k t ≡ false) × (a ≡ nameTo S k (nameX S k t x) (nameY S k t x y)))
 
-  begins : (k : Kind) (t : Bool) (x y a b : ℕ) → Cell S x y → Along (dir k t) a b (e0 S k t x y) (e1 S k t x y) → (turnedAt S k t x ≡ true) ⊎ Begins k t x y a
+  begins : (k : Kind) (t : Bool) (x y a b : ℕ) → Cell S x y → Along (dir k t) a b (sideFrom S k t x y) (sideTo S k t x y) → (turnedAt S k t x ≡ true) ⊎ Begins k t x y a
   unfolding Begins
   begins k t x y a b c (inl e) = ⊎-elim (λ w. inr (inl (e .0, e .1 ∙ w .1))) (λ w. inl (w .0)) (named S k t x y c)
   begins k t x y a b c (inr e) = ⊎-elim (λ w. inr (inr (e .0, e .1 ∙ w .2))) (λ w. inl (w .0)) (named S k t x y c)
 
   -- two opposite places that are not turned do not begin at one end
-  clash : (k k′ : Kind) (t t′ : Bool) (x y x′ y′ a : ℕ) → Cell S x y → Opposite S half half-diagonal k t x y k′ t′ x′ y′ → Begins k t x y a → Begins k′ t′ x′ y′ a → ⊥
+  clash : (k k′ : Kind) (t t′ : Bool) (x y x′ y′ a : ℕ) → Cell S x y → Opposite S k t x y k′ t′ x′ y′ → Begins k t x y a → Begins k′ t′ x′ y′ a → ⊥
   unfolding Begins
   clash k k′ t t′ x y x′ y′ a c o (inl p) (inl q) = not-self true (cc (o .0, o .1, dir-not k t, p .0, q .0))
-  clash k k′ t t′ x y x′ y′ a c o (inl p) (inr q) = names-differ S k (nx S k t x) (ny S k t x y) (valid S k t x y c) (cc (o .0, o .1, o .2, o .3, p .1, q .1))
-  clash k k′ t t′ x y x′ y′ a c o (inr p) (inl q) = names-differ S k (nx S k t x) (ny S k t x y) (valid S k t x y c) (cc (o .0, o .1, o .2, o .3, p .1, q .1))
+  clash k k′ t t′ x y x′ y′ a c o (inl p) (inr q) = names-differ S k (nameX S k t x) (nameY S k t x y) (valid S k t x y c) (cc (o .0, o .1, o .2, o .3, p .1, q .1))
+  clash k k′ t t′ x y x′ y′ a c o (inr p) (inl q) = names-differ S k (nameX S k t x) (nameY S k t x y) (valid S k t x y c) (cc (o .0, o .1, o .2, o .3, p .1, q .1))
   clash k k′ t t′ x y x′ y′ a c o (inr p) (inr q) = not-self false (cc (o .0, o .1, dir-not k t, p .0, q .0))
 
-  opposite-low : (k : Kind) (t : Bool) (x y x′ y′ : ℕ) → k ≡ straight → t ≡ true → nx S k (not t) x′ ≡ nx S k t x → ny S k (not t) x′ y′ ≡ ny S k t x y → (x′ ≡ colOf S (x + 1)) × (y′ ≡ stepAt S (x + 1) y)
+  opposite-low : (k : Kind) (t : Bool) (x y x′ y′ : ℕ) → k ≡ straight → t ≡ true → nameX S k (not t) x′ ≡ nameX S k t x → nameY S k (not t) x′ y′ ≡ nameY S k t x y → (x′ ≡ colOf S (x + 1)) × (y′ ≡ stepAt S (x + 1) y)
   opposite-low straight true x y x′ y′ e f p q = (p, q)
   opposite-low straight false x y x′ y′ e f p q = (cc, cc)
   opposite-low across t x y x′ y′ e f p q = (cc, cc)
   opposite-low diagonal t x y x′ y′ e f p q = (cc, cc)
 
-  turn-of : (h h′ : Bool) (x y x′ y′ a b : ℕ) (p : Runs h x y a b) (q : Runs h′ x′ y′ a b) → Opposite S half half-diagonal (p .k) (p .t) x y (q .k) (q .t) x′ y′ → turnedAt S (p .k) (p .t) x ≡ true → Turn h′ x′ y′ h x y
+  turn-of : (h h′ : Bool) (x y x′ y′ a b : ℕ) (p : Runs h x y a b) (q : Runs h′ x′ y′ a b) → Opposite S (p .k) (p .t) x y (q .k) (q .t) x′ y′ → turnedAt S (p .k) (p .t) x ≡ true → Turn h′ x′ y′ h x y
   turn-of h h′ x y x′ y′ a b p q o e =
       record {
         rev = far .0;
@@ -147,7 +147,7 @@ module _ (S : Strip) (half : Kind → Bool → Bool) (half-diagonal : (t : Bool)
       off = refl
 
   -- two triangles that run along a side the same way are at a turn
-  pub same-way : (h h′ : Bool) (x y x′ y′ a b : ℕ) → Runs h x y a b → Runs h′ x′ y′ a b → (SameTri S half half-diagonal h x y h′ x′ y′ → ⊥) → Turn h x y h′ x′ y′ ⊎ Turn h′ x′ y′ h x y
+  pub same-way : (h h′ : Bool) (x y x′ y′ a b : ℕ) → Runs h x y a b → Runs h′ x′ y′ a b → (SameTri S h x y h′ x′ y′ → ⊥) → Turn h x y h′ x′ y′ ⊎ Turn h′ x′ y′ h x y
   same-way h h′ x y x′ y′ a b p q n =
       ⊎-elim
       (λ w. absurd (n (cc (w .0, w .1, q .on, p .on), w .2, w .3)))
@@ -158,13 +158,13 @@ module _ (S : Strip) (half : Kind → Bool → Bool) (half-diagonal : (t : Bool)
       (λ g. absurd (clash (p .k) (q .k) (p .t) (q .t) x y x′ y′ a (p .cell) o f g))
       (begins (q .k) (q .t) x′ y′ a b (q .cell) (q .along)))
       (begins (p .k) (p .t) x y a b (p .cell) (p .along)))
-      (compare S half half-diagonal a b (p .k) (q .k) (p .t) (q .t) x y x′ y′ (p .cell) (q .cell) (along-same (p .along)) (along-same (q .along)))
+      (compare S a b (p .k) (q .k) (p .t) (q .t) x y x′ y′ (p .cell) (q .cell) (along-same (p .along)) (along-same (q .along)))
     where
       not-not : (t : Bool) → not (not t) ≡ t
       not-not true = refl
       not-not false = refl
 
-      swap : Opposite S half half-diagonal (p .k) (p .t) x y (q .k) (q .t) x′ y′ → Opposite S half half-diagonal (q .k) (q .t) x′ y′ (p .k) (p .t) x y
+      swap : Opposite S (p .k) (p .t) x y (q .k) (q .t) x′ y′ → Opposite S (q .k) (q .t) x′ y′ (p .k) (p .t) x y
       swap o = (sym (o .0), cc (o .1, not-not (p .t)), cc (o .0, o .1, o .2, not-not (p .t)), cc (o .0, o .1, o .3, not-not (p .t)))
 
   pub record Shared (h : Bool) (x y : ℕ) (h′ : Bool) (x′ y′ : ℕ) : Type 0 where
@@ -192,10 +192,10 @@ module _ (S : Strip) (half : Kind → Bool → Bool) (half-diagonal : (t : Bool)
       is-turned : turned S (x′ + 1) ≡ true
       is-turned = ap (turned S) (r .high-x) ∙ far-turned S (r .rev)
 
-      low : (e0 S straight false x y ≡ n0 S straight x y) × (e1 S straight false x y ≡ n1 S straight x y)
+      low : (sideFrom S straight false x y ≡ nameFrom S straight x y) × (sideTo S straight false x y ≡ nameTo S straight x y)
       low = ⊎-elim (λ w. (w .1, w .2)) (λ w. absurd (not-self true (w .0))) (named S straight false x y cell-low)
 
-      high : (e1 S straight true x′ y′ ≡ n0 S straight x y) × (e0 S straight true x′ y′ ≡ n1 S straight x y)
+      high : (sideTo S straight true x′ y′ ≡ nameFrom S straight x y) × (sideFrom S straight true x′ y′ ≡ nameTo S straight x y)
       high =
           ⊎-elim
           (λ w. absurd (not-self true (sym (w .0) ∙ is-turned)))
@@ -205,15 +205,15 @@ module _ (S : Strip) (half : Kind → Bool → Bool) (half-diagonal : (t : Bool)
       go : (w : Bool) → dir straight false ≡ w → Shared h x y h′ x′ y′
       go true e =
           record {
-            a = n0 S straight x y;
-            b = n1 S straight x y;
+            a = nameFrom S straight x y;
+            b = nameTo S straight x y;
             one = record { k = straight; t = false; cell = cell-low; on = sym (r .low-half); along = inl (e, sym (low .0), sym (low .1)) };
             two = record { k = straight; t = true; cell = cell-high; on = sym (r .high-half); along = inr (dir-not straight false ∙ ap not e, sym (high .0), sym (high .1)) };
           }
       go false e =
           record {
-            a = n1 S straight x y;
-            b = n0 S straight x y;
+            a = nameTo S straight x y;
+            b = nameFrom S straight x y;
             one = record { k = straight; t = false; cell = cell-low; on = sym (r .low-half); along = inr (e, sym (low .1), sym (low .0)) };
             two = record { k = straight; t = true; cell = cell-high; on = sym (r .high-half); along = inl (dir-not straight false ∙ ap not e, sym (high .1), sym (high .0)) };
           }
@@ -222,17 +222,17 @@ module _ (S : Strip) (half : Kind → Bool → Bool) (half-diagonal : (t : Bool)
   along-ends w a b c d (inl e) = (e .1 ∙ ap (λ (z : Bool). pick z c d) (sym (e .0)), e .2 ∙ ap (λ (z : Bool). pick z d c) (sym (e .0)))
   along-ends w a b c d (inr e) = (e .1 ∙ ap (λ (z : Bool). pick z c d) (sym (e .0)), e .2 ∙ ap (λ (z : Bool). pick z d c) (sym (e .0)))
 
-  pub holds-flip : (h : Bool) (x y a b : ℕ) → Holds S half half-diagonal h x y a b → Holds S half half-diagonal h x y b a
+  pub holds-flip : (h : Bool) (x y a b : ℕ) → Holds S h x y a b → Holds S h x y b a
   holds-flip h x y a b p = record { k = p .k; t = p .t; cell = p .cell; on = p .on; ends = flip (p .ends) }
     where
       flip : {a b c d : ℕ} → Same a b c d → Same b a c d
       flip (inl e) = inr (e .1, e .0)
       flip (inr e) = inl (e .1, e .0)
 
-  pub holds-runs : (h : Bool) (x y a b : ℕ) → Holds S half half-diagonal h x y a b → Runs h x y a b ⊎ Runs h x y b a
+  pub holds-runs : (h : Bool) (x y a b : ℕ) → Holds S h x y a b → Runs h x y a b ⊎ Runs h x y b a
   holds-runs h x y a b p = go (dir (p .k) (p .t)) refl (p .ends)
     where
-      go : (w : Bool) → dir (p .k) (p .t) ≡ w → Same a b (e0 S (p .k) (p .t) x y) (e1 S (p .k) (p .t) x y) → Runs h x y a b ⊎ Runs h x y b a
+      go : (w : Bool) → dir (p .k) (p .t) ≡ w → Same a b (sideFrom S (p .k) (p .t) x y) (sideTo S (p .k) (p .t) x y) → Runs h x y a b ⊎ Runs h x y b a
       go true e (inl q) = inl (record { k = p .k; t = p .t; cell = p .cell; on = p .on; along = inl (e, q .0, q .1) })
       go true e (inr q) = inr (record { k = p .k; t = p .t; cell = p .cell; on = p .on; along = inl (e, q .1, q .0) })
       go false e (inl q) = inr (record { k = p .k; t = p .t; cell = p .cell; on = p .on; along = inr (e, q .1, q .0) })
@@ -242,6 +242,6 @@ module _ (S : Strip) (half : Kind → Bool → Bool) (half-diagonal : (t : Bool)
   pub runs-differ : (h : Bool) (x y a b : ℕ) → Runs h x y a b → a ≡ b → ⊥
   runs-differ h x y a b r e = go (r .along)
     where
-      go : Along (dir (r .k) (r .t)) a b (e0 S (r .k) (r .t) x y) (e1 S (r .k) (r .t) x y) → ⊥
+      go : Along (dir (r .k) (r .t)) a b (sideFrom S (r .k) (r .t) x y) (sideTo S (r .k) (r .t) x y) → ⊥
       go (inl q) = ends-differ S (r .k) (r .t) x y (r .cell) (sym (q .1) ∙ e ∙ q .2)
       go (inr q) = ends-differ S (r .k) (r .t) x y (r .cell) (sym (q .2) ∙ sym e ∙ q .1)

@@ -1,8 +1,9 @@
--- The lists of triangles and flipped pairs, where every slot's triangle is proper. Assumes nothing.
+-- The list of flipped pairs: that `insert` keeps it ascending, what `process` puts into it, how long it is at most, and that its numbers are of
+-- triangles in the list. Assumes nothing.
 use Prim.Native.Nat.{ℕ, zero, suc, _+_, _-_, _*_, _/_, _%_, _≤_, _<_, min, max}
 use mathlib.Core.Path.{_≡_, refl, sym, ap, _∙_, subst}
 use mathlib.Core.Logic.{_⊎_, inl, inr, ⊎-elim}
-use mathlib.Core.Bool.{Bool, true, false, not}
+use mathlib.Core.Bool.{Bool, true, false, _&&_, false≢true}
 use mathlib.Core.List.{List, [], _∷_, _++_, List·Memᴰ, List·Memᴰ·head, List·Memᴰ·tail, List·Memᴰ·cases-cons, List·Memᴰ·not-nil, Memᴰ·cast}
 use native.Mathlib.Omega.{arith}
 use native.Mathlib.Nat.{mod-lt, div-add-mod', div-lt-iff-lt-mul, mul-comm}
@@ -10,118 +11,25 @@ use lib.Dec.{eqb, ltb}
 use lib.Arith.{digits-div, digits-mod, digits-lt}
 use lib.ListN.{length, getD, length-append, List·getD-append}
 use borrow.Author.Tests.{eqb-true, eqb-false, eq-eqb, ne-eqb, ltb-true, ltb-false, lt-ltb, le-ltb}
-use Rattle.surface.specs.Surface.{pick, both, Seam, unjoined, forward, reverse, joined, reversed, inverse, Shape, Split, Triangle, tri, halfOf, slot, proper, kept, slots, triangles, Pair, ordered, insert, Before, Ascending, numberOf, wrapEnds, stepOn, putDown, process, flipped, lowU, highU, lowV, highV, nth}
-use Rattle.surface.proofs.Steps.{eqb-cases, lt-or-le, Offset, Fits, laidOn, on-below, raw-reverse}
-use Rattle.surface.proofs.Views.{halfNum, index}
+use Rattle.cyclic.specs.Mapping.{pick}
+use Rattle.surface.specs.Surface.{Seam, unjoined, forward, reverse, joined, reversed, inverse, Shape, Split, Triangle, tri, halfOf, slot, proper, kept, slots, triangles, Pair, pair, ordered, insert, Before, Ascending, numberOf, stepOn, putDown, process, flipped, lowU, highU, lowV, highV, nth, lowerOf}
+use Rattle.surface.proofs.Steps.{eqb-cases, lt-or-le, Offset, Fits, laidOn, on-below, reverse-step}
+use Rattle.surface.proofs.Triangles.{number-below, lowU-lt, highU-lt, lowV-lt, highV-lt}
 
--- ---- triangles
+-- ---- the step of row a that `process` finds
 
-kept-step : (s : Shape) (n : ℕ) → proper (slot s n) ≡ true → kept s (suc n) ≡ kept s n ++ (slot s n ∷ [])
-unfolding kept
-kept-step s n e = ap (λ (t : Bool). kept s n ++ pick t (slot s n ∷ []) []) e
-
-pub kept-length : (s : Shape) (n : ℕ) → ((i : ℕ) → i < n → proper (slot s i) ≡ true) → length (kept s n) ≡ n
-unfolding kept
-kept-length s zero h = refl
-kept-length s (suc n) h =
-    ap length (kept-step s n (h n (omega arith)))
-    ∙ length-append (kept s n) (slot s n ∷ [])
-    ∙ omega (arith, kept-length s n (λ i k. h i (omega arith)))
-
-getD-last : {A : Type 0} (l : List A) (a d : A) → getD (l ++ (a ∷ [])) (length l) d ≡ a
-getD-last [] a d = refl
-getD-last (x ∷ l) a d = getD-last l a d
-
-pub kept-at : (s : Shape) (n i : ℕ) → ((i : ℕ) → i < n → proper (slot s i) ≡ true) → i < n → nth (kept s n) i ≡ slot s i
-unfolding kept
-kept-at s zero i h k = let z : ⊥ = omega arith in absurd z
-kept-at s (suc n) i h k =
-    ap (λ (l : List Triangle). nth l i) (kept-step s n (h n (omega arith)))
-    ∙ ⊎-elim
-    (λ l. List·getD-append (kept s n) (slot s n ∷ []) (tri 0 0 0) i (omega (arith, len)) ∙ kept-at s n i (λ j q. h j (omega arith)) l)
-    (λ l. ap (λ (z : ℕ). nth (kept s n ++ (slot s n ∷ [])) z) (is-last l) ∙ getD-last (kept s n) (slot s n) (tri 0 0 0) ∙ ap (slot s) (omega arith))
-    (lt-or-le i n)
-  where
-    len : length (kept s n) ≡ n
-    len = kept-length s n (λ j q. h j (omega arith))
-
-    is-last : n ≤ i → i ≡ length (kept s n)
-    is-last l = omega (arith, len)
-
--- ---- numbers of triangles
-
-pub halfAt : ℕ → Bool
-halfAt i = eqb (i % 2) 1
-
-pub uAt : Shape → ℕ → ℕ
-uAt s i = i / 2 / s .N
-
-pub vAt : Shape → ℕ → ℕ
-vAt s i = i / 2 % s .N
-
-halfNum-at : (i : ℕ) → halfNum (halfAt i) ≡ i % 2
-unfolding halfAt
-halfNum-at i = ⊎-elim (λ w. ap halfNum (w .0) ∙ sym (w .1)) (λ w. ap halfNum (w .0) ∙ small (w .1)) (eqb-cases (i % 2) 1)
-  where
-    small : (i % 2 ≡ 1 → ⊥) → 0 ≡ i % 2
-    small n = omega arith
-
-pub slot-at : (s : Shape) (i : ℕ) → slot s i ≡ halfOf s (s .split) (halfNum (halfAt i)) (uAt s i) (vAt s i)
-unfolding slot uAt vAt
-slot-at s i = ap (λ (z : ℕ). halfOf s (s .split) z (i / 2 / s .N) (i / 2 % s .N)) (sym (halfNum-at i))
-
-pub uAt-lt : (s : Shape) (i : ℕ) → 0 < s .N → i < slots s → uAt s i < s .M
-unfolding uAt slots
-uAt-lt s i z h = div-lt-iff-lt-mul z .1 (omega arith)
-
-pub vAt-lt : (s : Shape) (i : ℕ) → 0 < s .N → vAt s i < s .N
-unfolding vAt
-vAt-lt s i z = mod-lt (i / 2) z
-
-pub index-at : (s : Shape) (i : ℕ) → index s (halfAt i) (uAt s i) (vAt s i) ≡ i
-unfolding index uAt vAt
-index-at s i = omega (arith, halfNum-at i, div-add-mod' (i / 2) (s .N))
-
-pub index-lt : (s : Shape) (h : Bool) (u v : ℕ) → u < s .M → v < s .N → index s h u v < slots s
-unfolding index slots
-index-lt s h u v p q = omega (arith, digits-lt p q, le h)
-  where
-    le : (h : Bool) → halfNum h ≤ 1
-    le true = omega arith
-    le false = omega arith
-
-index-half : (s : Shape) (h : Bool) (u v : ℕ) → index s h u v / 2 ≡ u * s .N + v
-unfolding index
-index-half s true u v = omega arith
-index-half s false u v = omega arith
-
-pub uAt-index : (s : Shape) (h : Bool) (u v : ℕ) → v < s .N → uAt s (index s h u v) ≡ u
-unfolding uAt
-uAt-index s h u v q = ap (λ (z : ℕ). z / s .N) (index-half s h u v) ∙ digits-div u q
-
-pub vAt-index : (s : Shape) (h : Bool) (u v : ℕ) → v < s .N → vAt s (index s h u v) ≡ v
-unfolding vAt
-vAt-index s h u v q = ap (λ (z : ℕ). z % s .N) (index-half s h u v) ∙ digits-mod u q
-
-pub halfAt-index : (s : Shape) (h : Bool) (u v : ℕ) → halfAt (index s h u v) ≡ h
-unfolding halfAt index
-halfAt-index s true u v = eq-eqb ((2 * (u * s .N + v) + 1) % 2) 1 (omega arith)
-halfAt-index s false u v = ne-eqb ((2 * (u * s .N + v) + 0) % 2) 1 (λ e. omega arith)
-
--- ---- flipped pairs
-
-both-ne : (a b c d : ℕ) → (a ≡ b → c ≡ d → ⊥) → both (eqb a b) (eqb c d) ≡ false
+both-ne : (a b c d : ℕ) → (a ≡ b → c ≡ d → ⊥) → (eqb a b && eqb c d) ≡ false
 both-ne a b c d h =
     ⊎-elim
-    (λ w. ap (λ (t : Bool). both t (eqb c d)) (w .0) ∙ ne-eqb c d (λ e. h (w .1) e))
-    (λ w. ap (λ (t : Bool). both t (eqb c d)) (w .0))
+    (λ w. ap (λ (t : Bool). t && eqb c d) (w .0) ∙ ne-eqb c d (λ e. h (w .1) e))
+    (λ w. ap (λ (t : Bool). t && eqb c d) (w .0))
     (eqb-cases a b)
 
-both-eq : (a b c d : ℕ) → a ≡ b → c ≡ d → both (eqb a b) (eqb c d) ≡ true
-both-eq a b c d p q = ap (λ (t : Bool). both t (eqb c d)) (eq-eqb a b p) ∙ eq-eqb c d q
+both-eq : (a b c d : ℕ) → a ≡ b → c ≡ d → (eqb a b && eqb c d) ≡ true
+both-eq a b c d p q = ap (λ (t : Bool). t && eqb c d) (eq-eqb a b p) ∙ eq-eqb c d q
 
-wrap-up : (n a : ℕ) → 3 ≤ n → wrapEnds n (a + 1) a ≡ a
-wrap-up n a h =
+lower-up : (n a : ℕ) → 3 ≤ n → lowerOf n (a + 1) a ≡ a
+lower-up n a h =
     rw (
       both-ne (a + 1 + 1) n a 0 (λ p q. omega arith),
       both-ne (a + 1) n (a + 1) 0 (λ p q. omega arith),
@@ -129,8 +37,8 @@ wrap-up n a h =
       eq-eqb (a + 1) (a + 1) refl,
     )
 
-wrap-end : (n a : ℕ) → 3 ≤ n → a + 1 ≡ n → wrapEnds n 0 a ≡ a
-wrap-end n a h e =
+lower-end : (n a : ℕ) → 3 ≤ n → a + 1 ≡ n → lowerOf n 0 a ≡ a
+lower-end n a h e =
     rw (
       both-ne (0 + 1) n a 0 (λ p q. omega arith),
       both-eq (a + 1) n 0 0 e refl,
@@ -140,18 +48,17 @@ wrap-end n a h e =
 pub step-on : (o : ℕ) (c : Bool) (n y : ℕ) → 3 ≤ n → Offset o c n → y < n → stepOn (reverse o) n y ≡ laidOn (reverse o) n y
 unfolding stepOn
 step-on o c n y h f k =
-    let r = raw-reverse o c n y f k in
-    ap (wrapEnds n (inverse (reverse o) n y)) (r .0)
+    let r = reverse-step o c n y f k in
+    ap (lowerOf n (inverse (reverse o) n y)) (r .0)
     ∙ ⊎-elim
-    (λ w. ap (λ (z : ℕ). wrapEnds n z (laidOn (reverse o) n y)) w ∙ wrap-up n (laidOn (reverse o) n y) h)
-    (λ w. ap (λ (z : ℕ). wrapEnds n z (laidOn (reverse o) n y)) (w .0) ∙ wrap-end n (laidOn (reverse o) n y) h (w .1))
+    (λ w. ap (λ (z : ℕ). lowerOf n z (laidOn (reverse o) n y)) w ∙ lower-up n (laidOn (reverse o) n y) h)
+    (λ w. ap (λ (z : ℕ). lowerOf n z (laidOn (reverse o) n y)) (w .0) ∙ lower-end n (laidOn (reverse o) n y) h (w .1))
     (r .1)
 
-abbrev pub mk : ℕ → ℕ → Pair
-mk i j = record { low = i; high = j }
+-- ---- into an ascending list
 
 pub pair-eq : (p q : Pair) → p .low ≡ q .low → p .high ≡ q .high → p ≡ q
-pair-eq p q e f = ap (λ (z : ℕ). mk z (p .high)) e ∙ ap (mk (q .low)) f
+pair-eq p q e f = ap (λ (z : ℕ). pair z (p .high)) e ∙ ap (pair (q .low)) f
 
 picks : (a b c d : Bool) (x y z : List Pair) →
     (pick a x (pick b y (pick c x (pick d y z))) ≡ x)
@@ -222,6 +129,10 @@ before-trans p q r (inl a) (inr b) = inl (omega arith)
 before-trans p q r (inr a) (inl b) = inl (omega arith)
 before-trans p q r (inr a) (inr b) = inr (omega arith)
 
+both-true : (a b : Bool) → (a && b) ≡ true → (a ≡ true) × (b ≡ true)
+both-true true b e = (refl, e)
+both-true false b e = absurd (false≢true e)
+
 pick-case : (t : Bool) (P : List Pair → Type 0) (x y : List Pair) → (t ≡ true → P x) → (t ≡ false → P y) → P (pick t x y)
 pick-case true P x y f g = f refl
 pick-case false P x y f g = g refl
@@ -251,21 +162,84 @@ insert-ascending p (r ∷ rs) a =
       below,
     )
 
-pub process-ascending : (s : Shape) (m : Seam) (Y : ℕ) (lows highs : ℕ → ℕ) (n : ℕ) (ps : List Pair) → Ascending ps → Ascending (process s m Y lows highs n ps)
-unfolding process
-process-ascending s m Y lows highs zero ps a = a
-process-ascending s m Y lows highs (suc n) ps a =
-    pick-case (ltb (stepOn m Y n) Y) Ascending _ _
-    (λ e. pick-case (both (proper (slot s (lows (stepOn m Y n)))) (proper (slot s (highs n)))) Ascending _ _ (λ f. insert-ascending (ordered (numberOf s (lows (stepOn m Y n))) (numberOf s (highs n))) (process s m Y lows highs n ps) (process-ascending s m Y lows highs n ps a)) (λ f. process-ascending s m Y lows highs n ps a))
-    (λ e. process-ascending s m Y lows highs n ps a)
+-- ---- what `process` does to a list
 
--- the flipped pairs of any shape
+-- A claim P on the list after so many steps holds at the end if it holds at the start and each step keeps it, whether it puts a pair down or not.
+module _ (s : Shape) (m : Seam) (steps : ℕ) (low high : ℕ → ℕ) (P : ℕ → List Pair → Type 0) where
+  abbrev Skips : ℕ → Type 0
+  Skips n = (y : ℕ) (qs : List Pair) → y < n → P y qs → P (suc y) qs
+
+  abbrev Puts : ℕ → Type 0
+  Puts n =
+      (y : ℕ) (qs : List Pair) → y < n → stepOn m steps y < steps → proper (slot s (low (stepOn m steps y))) ≡ true → proper (slot s (high y)) ≡ true →
+      P y qs → P (suc y) (insert (ordered (numberOf s (low (stepOn m steps y))) (numberOf s (high y))) qs)
+
+  process-keeps : (n : ℕ) (ps : List Pair) → P 0 ps → Skips n → Puts n → P n (process s m steps low high n ps)
+  unfolding process
+  process-keeps zero ps p skip put = p
+  process-keeps (suc n) ps p skip put =
+      let rest = process s m steps low high n ps in
+      let before : P n rest = process-keeps n ps p (λ y qs h. skip y qs (omega arith)) (λ y qs h. put y qs (omega arith)) in
+      let i = low (stepOn m steps n) in
+      pick-case (ltb (stepOn m steps n) steps) (P (suc n)) _ _
+      (λ e. pick-case (proper (slot s i) && proper (slot s (high n))) (P (suc n)) _ _
+      (λ f. let g = both-true (proper (slot s i)) (proper (slot s (high n))) f in put n rest (omega arith) (ltb-true (stepOn m steps n) steps e) (g .0) (g .1) before)
+      (λ f. skip n rest (omega arith) before))
+      (λ e. skip n rest (omega arith) before)
+
+-- and so for the flipped pairs, which two such runs make
+module _ (s : Shape) (P : List Pair → Type 0) where
+  abbrev Kept : Seam → ℕ → (ℕ → ℕ) → (ℕ → ℕ) → Type 0
+  Kept m steps low high = Puts s m steps low high (λ k. P) steps
+
+  flipped-keeps : P [] → Kept (s .su) (s .N) (lowU s) (highU s) → Kept (s .sv) (s .M) (lowV s) (highV s) → P (flipped s)
+  unfolding flipped
+  flipped-keeps p us vs = pick-case (reversed (s .sv)) P _ _ (λ e. process-keeps s (s .sv) (s .M) (lowV s) (highV s) (λ k. P) (s .M) _ after-u (λ y qs h r. r) vs) (λ e. after-u)
+    where
+      after-u : P (pick (reversed (s .su)) (process s (s .su) (s .N) (lowU s) (highU s) (s .N) []) [])
+      after-u = pick-case (reversed (s .su)) P _ _ (λ e. process-keeps s (s .su) (s .N) (lowU s) (highU s) (λ k. P) (s .N) [] p (λ y qs h r. r) us) (λ e. p)
+
 pub flipped-ascending : (s : Shape) → Ascending (flipped s)
+flipped-ascending s = flipped-keeps s Ascending tt (λ y qs h l e f a. insert-ascending _ qs a) (λ y qs h l e f a. insert-ascending _ qs a)
+
+-- both numbers of each pair are of triangles in the list
+abbrev pub Listed : Shape → List Pair → Type 0
+Listed s ps = (p : Pair) → List·Memᴰ p ps → (p .low < length (triangles s)) × (p .high < length (triangles s))
+
+insert-listed : (s : Shape) (i j : ℕ) (ps : List Pair) → i < length (triangles s) → j < length (triangles s) → Listed s ps → Listed s (insert (ordered i j) ps)
+insert-listed s i j ps h k l p q = ⊎-elim (λ e. here (ap (λ (z : Pair). z .low) e) (ap (λ (z : Pair). z .high) e)) (λ m. l p m) (insert-cases (ordered i j) ps p q)
+  where
+    here : p .low ≡ min i j → p .high ≡ max i j → (p .low < length (triangles s)) × (p .high < length (triangles s))
+    here a b = omega arith
+
+pub flipped-listed : (s : Shape) → 0 < s .M → 0 < s .N → Listed s (flipped s)
+flipped-listed s hm hn =
+    flipped-keeps s (Listed s) (λ p q. absurd (List·Memᴰ·not-nil q))
+    (λ y qs h l e f a. insert-listed s _ _ qs (number-below s _ (lowU-lt s _ hm l) e) (number-below s _ (highU-lt s y hm h) f) a)
+    (λ y qs h l e f a. insert-listed s _ _ qs (number-below s _ (lowV-lt s _ hn l) e) (number-below s _ (highV-lt s y hn h) f) a)
+
+insert-length : (p : Pair) (ps : List Pair) → length (insert p ps) ≤ length ps + 1
+insert-length p [] = omega arith
+insert-length p (r ∷ rs) =
+    ⊎-elim
+    (λ w. omega (arith, ap length w))
+    (λ v. ⊎-elim (λ w. omega (arith, ap length w, insert-length p rs)) (λ w. omega (arith, ap length (w .0))) v)
+    (insert-form p r rs)
+
+-- a run puts down one pair for each step at most
+pub process-at-most : (s : Shape) (m : Seam) (steps : ℕ) (low high : ℕ → ℕ) (n : ℕ) (ps : List Pair) → length (process s m steps low high n ps) ≤ length ps + n
+process-at-most s m steps low high n ps =
+    process-keeps s m steps low high (λ (k : ℕ) (qs : List Pair). length qs ≤ length ps + k) n ps (omega arith)
+    (λ y qs h a. omega arith) (λ y qs h l e f a. omega (arith, insert-length (ordered (numberOf s (low (stepOn m steps y))) (numberOf s (high y))) qs))
+
+pub flipped-at-most : (s : Shape) → length (flipped s) ≤ s .M + s .N
 unfolding flipped
-flipped-ascending s =
-    let us : Ascending (pick (reversed (s .su)) (process s (s .su) (s .N) (lowU s) (highU s) (s .N) []) []) =
-    pick-case (reversed (s .su)) Ascending _ _ (λ e. process-ascending s (s .su) (s .N) (lowU s) (highU s) (s .N) [] tt) (λ e. tt) in
-    pick-case (reversed (s .sv)) Ascending _ _ (λ e. process-ascending s (s .sv) (s .M) (lowV s) (highV s) (s .M) (pick (reversed (s .su)) (process s (s .su) (s .N) (lowU s) (highU s) (s .N) []) []) us) (λ e. us)
+flipped-at-most s =
+    let pu = process s (s .su) (s .N) (lowU s) (highU s) (s .N) [] in
+    let us = pick (reversed (s .su)) pu [] in
+    let after-u : length us ≤ s .N = pick-case (reversed (s .su)) (λ (l : List Pair). length l ≤ s .N) pu [] (λ e. omega (arith, process-at-most s (s .su) (s .N) (lowU s) (highU s) (s .N) [])) (λ e. omega arith) in
+    let pv = process s (s .sv) (s .M) (lowV s) (highV s) (s .M) us in
+    pick-case (reversed (s .sv)) (λ (l : List Pair). length l ≤ s .M + s .N) pv us (λ e. omega (arith, process-at-most s (s .sv) (s .M) (lowV s) (highV s) (s .M) us)) (λ e. omega arith)
 
 -- What process_flipped puts down: one pair for each step of the high rim, where each step lies on `on` of it and all is proper.
 module _ (s : Shape) (m : Seam) (Y : ℕ) (lows highs on : ℕ → ℕ)

@@ -1,0 +1,92 @@
+-- Demand 3 for the seams that are found. A search tries offsets below the steps of its rows only, so a mapping that it finds has its row's steps
+-- and an offset below them; with that, 01's list of joinings is the one that the theorem on shapes is proved for. Assumes nothing.
+use Prim.Native.Nat.{ℕ, zero, suc, _+_, _-_, _≤_, _<_}
+use mathlib.Core.Path.{_≡_, refl, ap, subst}
+use mathlib.Core.Logic.{_⊎_, inl, inr}
+use mathlib.Core.Bool.{Bool, true, false, _||_, not}
+use mathlib.Core.List.{List}
+use native.Mathlib.Omega.{arith}
+use lib.Dec.{eqb, ltb}
+use lib.Ieee.{Float}
+use Rattle.grid.specs.Grid.{Accepted}
+use Rattle.cyclic.specs.declared.mapping.CyclicMapping.{CyclicMapping}
+use Rattle.cyclic.specs.declared.mapping.CyclicMapping.the-variants.{Forward, Reverse}
+use Rattle.cyclic.specs.declared.seam.Seam.{Seam}
+use Rattle.cyclic.specs.declared.seam.Seam.the-variants.{Joined, Unjoined}
+use Rattle.cyclic.specs.declared.seam.SeamSearch.{SeamSearch}
+use Rattle.cyclic.specs.Mapping.{pick, offsetOf}
+use Rattle.cyclic.specs.Search.{Row, Closeness, tryFrom, closed, searchFrom, searchRows, search}
+use Rattle.surface.specs.Surface.{unjoined, forward, reverse, Shape, Covered, neither, only-u, only-v, both-u, both-v, Meets, triangles, Owns, EdgeNumbers, Jₙ}
+use Rattle.surface.specs.Found.{uSearch, vSearch, ofMapping, seamOf, surfaceWith, surfaceOf, ForwardAtZero, ForwardOrOffZero, CoveredJoining, CoveredGrid, SurfaceMeets}
+use Rattle.surface.proofs.Demand.{demand3, traced}
+
+-- ---- what a search finds
+
+-- a mapping's offset is below the steps of the row; None has none
+abbrev pub OffsetBelow : ℕ → Seam → Type 0
+OffsetBelow steps Unjoined = Unit {0}
+OffsetBelow steps (Joined k) = offsetOf k < steps
+
+one-of : (t : Bool) (steps : ℕ) (x y : SeamSearch) → OffsetBelow steps (x .seam) → OffsetBelow steps (y .seam) → OffsetBelow steps (pick t x y .seam)
+one-of true steps x y p q = p
+one-of false steps x y p q = q
+
+module _ (close : Closeness) (a b : Row) where
+  from-below : (steps k o c : ℕ) → o + k ≤ steps → OffsetBelow steps (searchFrom close a b steps k o c .seam)
+  unfolding searchFrom
+  from-below steps zero o c h = tt
+  from-below steps (suc k) o c h =
+      let there : o < steps = omega arith in
+      let ahead = tryFrom close a b (Forward o steps) (steps + 1) 0 c in
+      let back = tryFrom close a b (Reverse o steps) (steps + 1) 0 (ahead .made) in
+      one-of (ahead .fits) steps _ _ there (one-of (back .fits) steps _ _ there (from-below steps k (o + 1) (back .made) (omega arith)))
+
+  rows-below : (steps : ℕ) → 0 < steps → OffsetBelow steps (searchRows close a b steps .seam)
+  unfolding searchRows
+  rows-below steps h = from-below steps (pick (closed close a b steps .fits) steps 1) 0 (closed close a b steps .made) (go (closed close a b steps .fits))
+    where
+      go : (t : Bool) → 0 + pick t steps 1 ≤ steps
+      go true = omega arith
+      go false = omega arith
+
+  -- a found offset is below the steps
+  pub found-below : (steps : ℕ) → 0 < steps → OffsetBelow steps (search close a b (steps + 1) (steps + 1) .seam)
+  unfolding search
+  found-below steps h =
+      one-of (ltb (steps + 1) 2 || not (eqb (steps + 1) (steps + 1))) steps _ _ tt
+      (subst (λ (k : ℕ). OffsetBelow steps (searchRows close a b k .seam)) same (rows-below steps h))
+    where
+      same : steps ≡ steps + 1 - 1
+      same = omega arith
+
+-- ---- 01's list of joinings
+
+at-zero : (k : CyclicMapping) → ForwardAtZero k → ofMapping k ≡ forward 0
+at-zero (Forward o steps) e = ap forward e
+at-zero (Reverse o steps) e = absurd e
+
+pub covered : (m n : ℕ) (su sv : Seam) → OffsetBelow n su → OffsetBelow m sv → CoveredJoining su sv → Covered (surfaceWith m n su sv)
+covered m n Unjoined Unjoined p q c = neither refl refl
+covered m n (Joined (Forward o k)) Unjoined p q c = only-u c refl
+covered m n (Joined (Reverse o k)) Unjoined p q c = only-u c refl
+covered m n Unjoined (Joined (Forward o k)) p q c = only-v refl c
+covered m n Unjoined (Joined (Reverse o k)) p q c = only-v refl c
+covered m n (Joined j) (Joined (Forward o k)) p q (inl c) = both-v (at-zero j (c .0)) q
+covered m n (Joined j) (Joined (Reverse o k)) p q (inl c) = both-v (at-zero j (c .0)) (omega (arith, c .1), q)
+covered m n (Joined (Forward o k)) (Joined j) p q (inr c) = both-u p (at-zero j (c .1))
+covered m n (Joined (Reverse o k)) (Joined j) p q (inr c) = both-u (omega (arith, c .0), p) (at-zero j (c .1))
+
+-- demand 3 of the surface that two seam answers make, found or given
+pub joining-meets : (m n : ℕ) (su sv : Seam) → 3 ≤ m → 3 ≤ n → OffsetBelow n su → OffsetBelow m sv → CoveredJoining su sv → Meets (surfaceWith m n su sv)
+joining-meets m n su sv hm hn p q c = demand3 (surfaceWith m n su sv) hm hn (covered m n su sv p q c)
+
+pub surface-meets : (g : List Float) (m n : ℕ) → SurfaceMeets g m n
+unfolding uSearch vSearch
+surface-meets g m n a hm hn c =
+    joining-meets m n (uSearch g m n .seam) (vSearch g m n .seam) hm hn
+    (found-below _ _ _ n (omega arith)) (found-below _ _ _ m (omega arith)) c
+
+-- of a grid edge, J of the numbers of its two ends are the two ends of a side
+pub edge-side : (g : List Float) (m n : ℕ) → Accepted g m n → 3 ≤ m → 3 ≤ n → CoveredGrid g m n → (p q : ℕ) → EdgeNumbers (surfaceOf g m n) p q →
+    (i : ℕ) × Owns (triangles (surfaceOf g m n)) (Jₙ (surfaceOf g m n) p) (Jₙ (surfaceOf g m n) q) i
+edge-side g m n a hm hn c p q e = traced (surfaceOf g m n) (surface-meets g m n a hm hn c) p q e

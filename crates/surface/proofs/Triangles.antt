@@ -1,0 +1,185 @@
+-- The list of triangles: a slot emits one at most; slot 2·(u·N + v) + h is half h of cell (u, v) and no other; and where every slot emits its
+-- triangle, slot i is triangle i. Assumes nothing.
+use Prim.Native.Nat.{ℕ, zero, suc, _+_, _-_, _*_, _/_, _%_, _≤_, _<_}
+use mathlib.Core.Path.{_≡_, refl, sym, ap, _∙_}
+use mathlib.Core.Logic.{⊎-elim}
+use mathlib.Core.Bool.{Bool, true, false}
+use mathlib.Core.List.{List, [], _∷_, _++_}
+use native.Mathlib.Omega.{arith}
+use native.Mathlib.Nat.{mod-lt, div-add-mod', div-lt-iff-lt-mul}
+use lib.Dec.{eqb}
+use lib.Arith.{digits-div, digits-mod, digits-lt}
+use lib.ListN.{length, getD, length-append, List·getD-append}
+use borrow.Author.Tests.{eq-eqb, ne-eqb}
+use Rattle.cyclic.specs.Mapping.{pick}
+use Rattle.surface.specs.Surface.{Split, falling, rising, Shape, Triangle, tri, halfOf, slot, slots, proper, kept, triangles, numberOf, bySplit, lowU, highU, lowV, highV, nth}
+use Rattle.surface.proofs.Steps.{eqb-cases, lt-or-le}
+
+-- ---- of any shape
+
+-- what one slot adds
+kept-more : (s : Shape) (n : ℕ) → length (kept s (suc n)) ≡ length (kept s n) + pick (proper (slot s n)) 1 0
+unfolding kept
+kept-more s n = length-append (kept s n) (pick (proper (slot s n)) (slot s n ∷ []) []) ∙ ap (λ (z : ℕ). length (kept s n) + z) (go (proper (slot s n)))
+  where
+    go : (t : Bool) → length (pick t (slot s n ∷ []) []) ≡ pick t 1 0
+    go true = refl
+    go false = refl
+
+one-at-most : (t : Bool) → pick t 1 0 ≤ 1
+one-at-most true = omega arith
+one-at-most false = omega arith
+
+pub kept-at-most : (s : Shape) (n : ℕ) → length (kept s n) ≤ n
+unfolding kept
+kept-at-most s zero = omega arith
+kept-at-most s (suc n) = omega (arith, kept-more s n, one-at-most (proper (slot s n)), kept-at-most s n)
+
+pub triangles-at-most : (s : Shape) → length (triangles s) ≤ 2 * (s .M * s .N)
+unfolding triangles slots
+triangles-at-most s = kept-at-most s (2 * (s .M * s .N))
+
+kept-grows : (s : Shape) (i n : ℕ) → i ≤ n → length (kept s i) ≤ length (kept s n)
+kept-grows s i zero h = let e : i ≡ 0 = omega arith in omega (arith, ap (λ (z : ℕ). length (kept s z)) e)
+kept-grows s i (suc n) h =
+    ⊎-elim
+    (λ l. let b : i ≤ n = omega arith in omega (arith, kept-more s n, kept-grows s i n b))
+    (λ l. let e : i ≡ suc n = omega arith in omega (arith, ap (λ (z : ℕ). length (kept s z)) e))
+    (lt-or-le i (suc n))
+
+-- a slot that emits its triangle has a number of the list
+pub number-below : (s : Shape) (i : ℕ) → i < slots s → proper (slot s i) ≡ true → numberOf s i < length (triangles s)
+unfolding numberOf triangles
+number-below s i h e =
+    let more : length (kept s (suc i)) ≡ length (kept s i) + 1 = kept-more s i ∙ ap (λ (t : Bool). length (kept s i) + pick t 1 0) e in
+    let up : suc i ≤ slots s = omega arith in
+    omega (arith, kept-grows s (suc i) (slots s) up)
+
+-- the slots of the rims are among the slots
+slot-of-cell : (s : Shape) (u v i : ℕ) → u < s .M → v < s .N → i ≤ 2 * (u * s .N + v) + 1 → i < slots s
+unfolding slots
+slot-of-cell s u v i p q h = omega (arith, digits-lt p q)
+
+by-split-le : (d : Split) (a b n : ℕ) → a ≤ n → b ≤ n → bySplit d a b ≤ n
+by-split-le falling a b n h k = h
+by-split-le rising a b n h k = k
+
+pub lowU-lt : (s : Shape) (i : ℕ) → 0 < s .M → i < s .N → lowU s i < slots s
+unfolding lowU
+lowU-lt s i h k = slot-of-cell s 0 i (2 * i + bySplit (s .split) 0 1) h k (omega (arith, by-split-le (s .split) 0 1 1 (omega arith) (omega arith)))
+
+pub highU-lt : (s : Shape) (i : ℕ) → 0 < s .M → i < s .N → highU s i < slots s
+unfolding highU
+highU-lt s i h k = slot-of-cell s (s .M - 1) i (2 * ((s .M - 1) * s .N + i) + bySplit (s .split) 1 0) (omega arith) k (omega (arith, by-split-le (s .split) 1 0 1 (omega arith) (omega arith)))
+
+pub lowV-lt : (s : Shape) (i : ℕ) → 0 < s .N → i < s .M → lowV s i < slots s
+unfolding lowV
+lowV-lt s i h k = slot-of-cell s i 0 (2 * (i * s .N)) k h (omega arith)
+
+pub highV-lt : (s : Shape) (i : ℕ) → 0 < s .N → i < s .M → highV s i < slots s
+unfolding highV
+highV-lt s i h k = slot-of-cell s i (s .N - 1) (2 * (i * s .N + (s .N - 1)) + 1) k (omega arith) (omega arith)
+
+-- ---- where every slot emits its triangle
+
+kept-step : (s : Shape) (n : ℕ) → proper (slot s n) ≡ true → kept s (suc n) ≡ kept s n ++ (slot s n ∷ [])
+unfolding kept
+kept-step s n e = ap (λ (t : Bool). kept s n ++ pick t (slot s n ∷ []) []) e
+
+pub kept-length : (s : Shape) (n : ℕ) → ((i : ℕ) → i < n → proper (slot s i) ≡ true) → length (kept s n) ≡ n
+unfolding kept
+kept-length s zero h = refl
+kept-length s (suc n) h =
+    ap length (kept-step s n (h n (omega arith)))
+    ∙ length-append (kept s n) (slot s n ∷ [])
+    ∙ omega (arith, kept-length s n (λ i k. h i (omega arith)))
+
+getD-last : {A : Type 0} (l : List A) (a d : A) → getD (l ++ (a ∷ [])) (length l) d ≡ a
+getD-last [] a d = refl
+getD-last (x ∷ l) a d = getD-last l a d
+
+pub kept-at : (s : Shape) (n i : ℕ) → ((i : ℕ) → i < n → proper (slot s i) ≡ true) → i < n → nth (kept s n) i ≡ slot s i
+unfolding kept
+kept-at s zero i h k = let z : ⊥ = omega arith in absurd z
+kept-at s (suc n) i h k =
+    ap (λ (l : List Triangle). nth l i) (kept-step s n (h n (omega arith)))
+    ∙ ⊎-elim
+    (λ l. List·getD-append (kept s n) (slot s n ∷ []) (tri 0 0 0) i (omega (arith, len)) ∙ kept-at s n i (λ j q. h j (omega arith)) l)
+    (λ l. ap (λ (z : ℕ). nth (kept s n ++ (slot s n ∷ [])) z) (is-last l) ∙ getD-last (kept s n) (slot s n) (tri 0 0 0) ∙ ap (slot s) (omega arith))
+    (lt-or-le i n)
+  where
+    len : length (kept s n) ≡ n
+    len = kept-length s n (λ j q. h j (omega arith))
+
+    is-last : n ≤ i → i ≡ length (kept s n)
+    is-last l = omega (arith, len)
+
+-- ---- slots, halves and cells
+
+abbrev pub halfNum : Bool → ℕ
+halfNum false = 0
+halfNum true = 1
+
+-- the slot of half h of cell (u, v)
+unfoldable pub index : Shape → Bool → ℕ → ℕ → ℕ
+index s h u v = 2 * (u * s .N + v) + halfNum h
+
+-- and back: the half, the u and the v of slot i
+pub halfAt : ℕ → Bool
+halfAt i = eqb (i % 2) 1
+
+pub uAt : Shape → ℕ → ℕ
+uAt s i = i / 2 / s .N
+
+pub vAt : Shape → ℕ → ℕ
+vAt s i = i / 2 % s .N
+
+halfNum-at : (i : ℕ) → halfNum (halfAt i) ≡ i % 2
+unfolding halfAt
+halfNum-at i = ⊎-elim (λ w. ap halfNum (w .0) ∙ sym (w .1)) (λ w. ap halfNum (w .0) ∙ small (w .1)) (eqb-cases (i % 2) 1)
+  where
+    small : (i % 2 ≡ 1 → ⊥) → 0 ≡ i % 2
+    small n = omega arith
+
+pub slot-at : (s : Shape) (i : ℕ) → slot s i ≡ halfOf s (s .split) (halfNum (halfAt i)) (uAt s i) (vAt s i)
+unfolding slot uAt vAt
+slot-at s i = ap (λ (z : ℕ). halfOf s (s .split) z (i / 2 / s .N) (i / 2 % s .N)) (sym (halfNum-at i))
+
+pub uAt-lt : (s : Shape) (i : ℕ) → 0 < s .N → i < slots s → uAt s i < s .M
+unfolding uAt slots
+uAt-lt s i z h = div-lt-iff-lt-mul z .1 (omega arith)
+
+pub vAt-lt : (s : Shape) (i : ℕ) → 0 < s .N → vAt s i < s .N
+unfolding vAt
+vAt-lt s i z = mod-lt (i / 2) z
+
+pub index-at : (s : Shape) (i : ℕ) → index s (halfAt i) (uAt s i) (vAt s i) ≡ i
+unfolding index uAt vAt
+index-at s i = omega (arith, halfNum-at i, div-add-mod' (i / 2) (s .N))
+
+pub index-lt : (s : Shape) (h : Bool) (u v : ℕ) → u < s .M → v < s .N → index s h u v < slots s
+unfolding index slots
+index-lt s h u v p q = omega (arith, digits-lt p q, le h)
+  where
+    le : (h : Bool) → halfNum h ≤ 1
+    le true = omega arith
+    le false = omega arith
+
+index-half : (s : Shape) (h : Bool) (u v : ℕ) → index s h u v / 2 ≡ u * s .N + v
+unfolding index
+index-half s true u v = omega arith
+index-half s false u v = omega arith
+
+pub uAt-index : (s : Shape) (h : Bool) (u v : ℕ) → v < s .N → uAt s (index s h u v) ≡ u
+unfolding uAt
+uAt-index s h u v q = ap (λ (z : ℕ). z / s .N) (index-half s h u v) ∙ digits-div u q
+
+pub vAt-index : (s : Shape) (h : Bool) (u v : ℕ) → v < s .N → vAt s (index s h u v) ≡ v
+unfolding vAt
+vAt-index s h u v q = ap (λ (z : ℕ). z % s .N) (index-half s h u v) ∙ digits-mod u q
+
+pub halfAt-index : (s : Shape) (h : Bool) (u v : ℕ) → halfAt (index s h u v) ≡ h
+unfolding halfAt index
+halfAt-index s true u v = eq-eqb ((2 * (u * s .N + v) + 1) % 2) 1 (omega arith)
+halfAt-index s false u v = ne-eqb ((2 * (u * s .N + v) + 0) % 2) 1 (λ e. omega arith)
+
