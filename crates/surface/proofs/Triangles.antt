@@ -182,4 +182,3 @@ pub halfAt-index : (s : Shape) (h : Bool) (u v : ℕ) → halfAt (index s h u v)
 unfolding halfAt index
 halfAt-index s true u v = eq-eqb ((2 * (u * s .N + v) + 1) % 2) 1 (omega arith)
 halfAt-index s false u v = ne-eqb ((2 * (u * s .N + v) + 0) % 2) 1 (λ e. omega arith)
-

@@ -4,3 +4,5 @@ pub mod Edges
 pub mod Related
 pub mod Turns
 pub mod Agree
+pub mod Drawn
+pub mod Demands

@@ -5,7 +5,7 @@ use Prim.Native.Nat.{ℕ, zero, suc, _+_, _-_, _*_, _≤_, _<_}
 use native.Mathlib.Nat.{mul-suc, mul-zero, mul-le-mul-left}
 use native.Mathlib.Numerals.{add-one}
 use native.Mathlib.Omega.{arith}
-use lib.ListN.{length, take, drop, getD, set, length-append, length-take, length-set}
+use lib.ListN.{length, take, drop, getD, length-append, length-take, List·getD-append}
 use lib.Seq.{take-at, take-take, take-append-seam, sets, sets-eq, length-sets, getD-take, getD-append-add}
 use Rattle.trace.specs.declared.crossing.Crossing.{Crossing}
 use Rattle.trace.specs.Trace.{inTurn}
@@ -69,3 +69,15 @@ module _ {A : Type 0} (w : ℕ) (f : Crossing → List A) (wide : (c : Crossing)
       ∙ ap (λ (x : List A). getD x (w * length cs + i) z) (h ∙ last-turn cs c)
       ∙ ap (λ (x : ℕ). getD (inTurn f cs ++ f c) (x + i) z) (sym (length-turn cs))
       ∙ getD-append-add (inTurn f cs) (f c) i z
+
+  -- a place of point i
+  pub turn-at : (cs : List Crossing) (i j : ℕ) (z : A) (c₀ : Crossing) → i < length cs → j < w → getD (inTurn f cs) (w * i + j) z ≡ getD (f (getD cs i c₀)) j z
+  unfolding inTurn
+  turn-at [] i j z c₀ h k = absurd (omega arith)
+  turn-at (c ∷ cs) zero j z c₀ h k =
+      let e : w * 0 + j ≡ j = rw mul-zero (omega arith) in
+      let s : j < length (f c) = rw (wide c) k in
+      rw e (List·getD-append (f c) (inTurn f cs) z j s)
+  turn-at (c ∷ cs) (suc i) j z c₀ h k =
+      let e : w * suc i + j ≡ length (f c) + (w * i + j) = rw (wide c, mul-suc) (omega arith) in
+      rw (e, getD-append-add (f c) (inTurn f cs) (w * i + j) z) (turn-at cs i j z c₀ (omega arith) k)

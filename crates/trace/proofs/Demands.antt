@@ -1,0 +1,123 @@
+-- Demand 3, whole. The sides and the flipped pairs are the surface's theorem. A traced point was made from the ends of a grid edge (Drawn.antt: each event's side is one), and
+-- the surface's theorem says that J takes the ends of a grid edge to the ends of a side. Assumes nothing.
+use mathlib.Core.Path.{_≡_, refl, sym, ap, _∙_, subst}
+use mathlib.Core.Bool.{Bool, true, false}
+use mathlib.Core.List.{List, [], _∷_, _++_}
+use Prim.Native.Nat.{ℕ, zero, suc, _+_, _*_, _≤_, _<_}
+use native.Mathlib.Nat.{le-trans}
+use native.Mathlib.Omega.{arith}
+use lib.Dec.{lit≤}
+use lib.ListN.{length, getD, List·getD-append}
+use lib.Ieee.{Float, nan}
+use Rattle.vector.specs.Vectors.{vector}
+use Rattle.refusal.specs.declared.Check.{Check}
+use Rattle.refusal.specs.declared.Check.the-variants.{Passed, Failed}
+use Rattle.grid.specs.Grid.{pointNumber, Accepted}
+use Rattle.edges.specs.Events.{sortedEdgeEvents}
+use Rattle.edges.specs.declared.point.ParamPoint.{ParamPoint}
+use Rattle.edges.specs.declared.event.ParamEdge.{ParamEdge}
+use Rattle.edges.specs.declared.event.ParamEdge.the-variants.{U, «V», Diagonal}
+use Rattle.edges.specs.declared.event.EdgeEvent.{EdgeEvent}
+use Rattle.surface.specs.Surface.{Shape, falling, EdgeNumbers, along-u, along-v, falls, triangles, Owns, Meets, Jₙ}
+use Rattle.surface.specs.Found.{surfaceOf, CoveredGrid}
+use Rattle.surface.proofs.Demand as surface
+use Rattle.trace.specs.declared.crossing.StepIndex.{StepIndex}
+use Rattle.trace.specs.declared.crossing.StepIndex.the-variants.{At, Nothing}
+use Rattle.trace.specs.declared.crossing.Crossing.{Crossing}
+use Rattle.trace.specs.declared.crossing.EdgePoint.{EdgePoint}
+use Rattle.trace.specs.declared.crossing.EdgePoint.the-variants.{On, NoStep}
+use Rattle.trace.specs.Crossing.{stepIndex, crossing, onU, onV, onDiagonal, edgePoint, EdgeInside}
+use Rattle.trace.specs.Walk.{Step, on, off, samplesOf}
+use Rattle.trace.specs.Drawing.{Drawing, Room, roomIn}
+use Rattle.trace.specs.Trace.{sideOf, inTurn, Lists, Traced, Counts, drawingOf, finished, afterCheck, traceCheck, traceFlat}
+use Rattle.trace.specs.Demand.{pointsIn, EndsOfSide, PointsOnSides, DemandMet, Demand3}
+use Rattle.trace.proofs.Steps.{step-index-below}
+use Rattle.trace.proofs.Related.{GoodEdge, GoodEvents}
+use Rattle.trace.proofs.Turns.{length-turn, turn-at}
+use Rattle.trace.proofs.Drawn.{All, all-at, DrawnGood, traced-good}
+
+noCrossing : Crossing
+noCrossing = record { p = 0; q = 0; t = nan; point = vector nan nan nan }
+
+no-point : {c : Crossing} → NoStep ≡ On c → ⊥
+no-point e = let z : _≡_ {A = ℕ} 0 1 = cc in omega arith
+
+same-point : {a b : Crossing} → On a ≡ On b → a ≡ b
+same-point e = cc
+
+-- ---- each event's side is a grid edge
+
+module _ (g : List Float) (m n : ℕ) (hm : m ≤ 255) (hn : n ≤ 255) where
+  abbrev s : Shape
+  s = surfaceOf g m n
+
+  -- made from the ends of a grid edge
+  abbrev FromEdge : Crossing → Type 0
+  FromEdge c = EdgeNumbers s (c .p) (c .q)
+
+  below : (x : Float) (k : ℕ) {i : ℕ} {t : Float} → k ≤ 255 → stepIndex x k ≡ At i t → i < k
+  below x k h e = step-index-below x k (le-trans h (lit≤ tt)) e
+
+  on-u : (u : ℕ) (x : Float) (c : Crossing) → u ≤ m → onU g n u (stepIndex x n) ≡ On c → FromEdge c
+  on-u u x c h e = go (stepIndex x n) refl e
+    where
+      go : (i : StepIndex) → stepIndex x n ≡ i → onU g n u i ≡ On c → FromEdge c
+      go (At v t) q r =
+          let same = same-point r in
+          record { u = u; v = v; u′ = u; v′ = v + 1; edge = along-v h (below x n hn q); p-is = sym (ap (λ (k : Crossing). k .p) same); q-is = sym (ap (λ (k : Crossing). k .q) same) }
+      go Nothing q r = absurd (no-point r)
+
+  on-v : (v : ℕ) (x : Float) (c : Crossing) → v ≤ n → onV g n v (stepIndex x m) ≡ On c → FromEdge c
+  on-v v x c h e = go (stepIndex x m) refl e
+    where
+      go : (i : StepIndex) → stepIndex x m ≡ i → onV g n v i ≡ On c → FromEdge c
+      go (At u t) q r =
+          let same = same-point r in
+          record { u = u; v = v; u′ = u + 1; v′ = v; edge = along-u (below x m hm q) h; p-is = sym (ap (λ (k : Crossing). k .p) same); q-is = sym (ap (λ (k : Crossing). k .q) same) }
+      go Nothing q r = absurd (no-point r)
+
+  -- the sides that `edge_point` takes are grid edges
+  good-edge : (e : ParamEdge) → EdgeInside m n e → GoodEdge g m n FromEdge e
+  unfolding edgePoint
+  good-edge (U u) h x c q = on-u u (x .v) c h q
+  good-edge («V» v) h x c q = on-v v (x .u) c h q
+  good-edge (Diagonal u v) h x c q =
+      let same = same-point q in
+      record { u = u + 1; v = v; u′ = u; v′ = v + 1; edge = falls (h .0) (h .1) refl; p-is = sym (ap (λ (k : Crossing). k .p) same); q-is = sym (ap (λ (k : Crossing). k .q) same) }
+
+  -- ---- the points of a trace
+
+  -- each event of a step falls on a side inside the grid
+  abbrev AllInside : List EdgeEvent → Type 0
+  AllInside [] = Unit {0}
+  AllInside (e ∷ es) = EdgeInside m n (e .edge) × AllInside es
+
+  good-events : (es : List EdgeEvent) → AllInside es → GoodEvents g m n FromEdge es
+  good-events [] h = tt
+  good-events (e ∷ es) h = (good-edge (e .edge) (h .0), good-events es (h .1))
+
+  -- p and q of point i, as the sides hand them over
+  side-at : (l : Lists) (d : Drawing) (i j : ℕ) (c₀ : Crossing) → i < length (d .drawn) → j < 2
+      → getD (finished (on d) l .after .sides) (2 * i + j) 0 ≡ getD (sideOf (getD (d .drawn) i c₀)) j 0
+  side-at l d i j c₀ h k =
+      List·getD-append (inTurn sideOf (d .drawn)) _ 0 (2 * i + j) (rw (length-turn 2 sideOf (λ c. refl) (d .drawn)) (omega arith))
+      ∙ turn-at 2 sideOf (λ c. refl) (d .drawn) i j 0 c₀ h k
+
+  finished-on-sides : Meets s → (l : Lists) (y : Step Drawing) → DrawnGood FromEdge y → PointsOnSides s (finished y l)
+  finished-on-sides meets l (off k d) good i h = absurd (omega arith)
+  finished-on-sides meets l (on d) good i h =
+      let c = getD (d .drawn) i noCrossing in
+      let p : getD (finished (on d) l .after .sides) (2 * i) 0 ≡ c .p = ap (λ (k : ℕ). getD (finished (on d) l .after .sides) k 0) (omega arith) ∙ side-at l d i 0 noCrossing h (omega arith) in
+      let q : getD (finished (on d) l .after .sides) (2 * i + 1) 0 ≡ c .q = side-at l d i 1 noCrossing h (omega arith) in
+      rw (p, q) (surface.traced s meets (c .p) (c .q) (all-at FromEdge (d .drawn) i noCrossing good h))
+
+  pub points-on-sides : Meets s → ((a b : ParamPoint) → AllInside (sortedEdgeEvents m n a b)) → (pairs : List Float) (marks : List ℕ) (l : Lists) → PointsOnSides s (traceFlat g m n pairs marks l)
+  unfolding traceFlat
+  points-on-sides meets inside pairs marks l = go (traceCheck g m n pairs marks)
+    where
+      room : Room
+      room = roomIn (l .points) (l .starts) (l .sides) (l .fractions)
+
+      go : (k : Check) → PointsOnSides s (afterCheck k l (finished (drawingOf g m n pairs marks room) l))
+      go (Failed k) = λ i h. absurd (omega arith)
+      go Passed = finished-on-sides meets l (drawingOf g m n pairs marks room) (traced-good FromEdge room g m n (λ a b. good-events (sortedEdgeEvents m n a b) (inside a b)) (samplesOf marks pairs))
