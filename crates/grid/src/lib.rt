@@ -49,7 +49,7 @@ pub fn coordinates_fit(points: &[f64]) -> bool
 }
 
 // Whether M and N are from 1 to 255.
-fn steps_fit(m: usize, n: usize) -> bool
+pub fn steps_fit(m: usize, n: usize) -> bool
     ensures { λ r. ⌜ r ≡ stepsFit m n ⌝ }
 {
     ((1 <= m) & (m <= MAX_STEPS)) & ((1 <= n) & (n <= MAX_STEPS))

@@ -1,0 +1,22 @@
+-- `texture::plan::texture_radius` meets its contract: the operations are the definition's. Assumes nothing.
+use Rattle.texture.specs.Plan.{radius}
+use Rattle.float.specs.Consts.{sqrt2}
+use borrow.Author.Needs.{needs}
+use Rattle.texture.proofs.plan.texture_radius.Statement.{statement}
+use Rattle.texture.proofs.plan.texture_radius.Tie as tie
+
+to-f64-requires : tie.Need-to-f64-requires
+to-f64-requires c κs = search needs
+
+to-f64-requires-2 : tie.Need-to-f64-requires-2
+to-f64-requires-2 c κs = search needs
+
+max-requires : tie.Need-max-requires
+max-requires c κs = search needs
+
+returns : tie.Need-returns
+unfolding radius sqrt2
+returns c = cc
+
+pub texture-radius-spec : {M : Type 1} → statement M
+texture-radius-spec = tie.close (tie.spec to-f64-requires to-f64-requires-2 max-requires returns)

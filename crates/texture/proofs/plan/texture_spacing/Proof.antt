@@ -1,0 +1,20 @@
+-- `texture::plan::texture_spacing` meets its contract: the test is the definition's. Assumes nothing.
+use Rattle.texture.specs.Plan.{spacingOf}
+use Rattle.float.specs.Consts.{eps}
+use borrow.Author.Needs.{needs}
+use Rattle.texture.proofs.plan.texture_spacing.Statement.{statement}
+use Rattle.texture.proofs.plan.texture_spacing.Tie as tie
+
+is-finite-requires : tie.Need-is-finite-requires
+is-finite-requires c κs = search needs
+
+returns : tie.Need-returns
+unfolding spacingOf eps
+returns c = simp (← c .before .is-finite .ensures, c .if1 .taken)
+
+returns-2 : tie.Need-returns-2
+unfolding spacingOf eps
+returns-2 c = simp (← c .before .is-finite .ensures, c .if1 .left)
+
+pub texture-spacing-spec : {M : Type 1} → statement M
+texture-spacing-spec = tie.close (tie.spec is-finite-requires returns returns-2)

@@ -1,0 +1,127 @@
+-- "Here a texture is Grid, Swirl with spacing and twist, or Spiral with spacing and arms. A plan gives rays and samples per ray by `paths_swirl` or `paths_spiral` (arms are
+-- rays); Grid gives 0 and 0." Every formula in the Rust's order of operations, one rounding each. Assumes nothing.
+use mathlib.Core.Bool.{Bool, true, false, _&&_}
+use Prim.Native.Nat.{ℕ, max}
+use lib.Dec.{leb}
+use lib.Ieee.{Float, binary64, ofBits, lt, le, add, mul, div, toUnsigned}
+use Rattle.float.specs.Consts.{eps, tau, sqrt2, zero64, one64}
+use Rattle.float.specs.Sign.{absolute, isFinite, atMost}
+use Rattle.float.specs.Order.{larger, clamped}
+use Rattle.float.specs.Whole.{ceiled}
+use Rattle.float.specs.Cast.{natFloat}
+use Rattle.refusal.specs.declared.Check.{Check}
+use Rattle.refusal.specs.declared.Check.the-variants.{Passed}
+use Rattle.refusal.specs.declared.Refusal.the-variants as refusals
+use Rattle.refusal.specs.Refusals.{Answer, ok, refused, numberOf, unless, passing}
+use Rattle.grid.specs.Grid.{stepsFit}
+use Rattle.edges.specs.Param.{pick}
+use Rattle.texture.specs.declared.plan.ParametricSurfaceTexture.{ParametricSurfaceTexture}
+use Rattle.texture.specs.declared.plan.ParametricSurfaceTexture.the-variants.{Grid, Swirl, Spiral}
+use Rattle.texture.specs.declared.plan.PlanAnswer.{PlanAnswer}
+use Rattle.texture.specs.declared.plan.PlanAnswer.the-variants as answers
+
+abbrev pub half : Float
+half = ofBits binary64 0x3FE0000000000000
+
+abbrev pub two : Float
+two = ofBits binary64 0x4000000000000000
+
+-- 0.05
+abbrev pub twentieth : Float
+twentieth = ofBits binary64 0x3FA999999999999A
+
+-- ---- `texture_center_radius`, `texture_spacing`
+
+-- the middle of an axis of n steps
+abbrev pub centre : ℕ → Float
+centre n = mul binary64 (natFloat n) half
+
+-- half the longer axis, times √2
+unfoldable pub radius : ℕ → ℕ → Float
+radius m n = mul binary64 (mul binary64 (larger (natFloat m) (natFloat n)) half) sqrt2
+
+-- "Non-finite spacing, or at most EPS, becomes 1.0"
+unfoldable pub spacingOf : Float → Float
+spacingOf x = pick (isFinite x && lt eps x) x one64
+
+-- ---- `radial_sample_count`, `spiral_sample_count`
+
+-- x rounded up, and at least `least`
+abbrev pub upFrom : Float → Float → Float
+upFrom least x = larger (ceiled x) least
+
+-- steps of at most `spacing`, brought between 0.05 and 0.5, along a length; at least 2
+unfoldable pub stepsAlong : Float → Float → Float
+stepsAlong length spacing = upFrom two (div binary64 length (clamped spacing twentieth half))
+
+-- ---- `paths_swirl`
+
+unfoldable pub swirlRays : ℕ → ℕ → Float → Float
+swirlRays m n spacing = upFrom one64 (div binary64 (mul binary64 tau (radius m n)) spacing)
+
+unfoldable pub swirlSamples : ℕ → ℕ → Float → Float → Float
+swirlSamples m n spacing twist = stepsAlong (mul binary64 (radius m n) (add binary64 one64 (absolute (mul binary64 tau twist)))) spacing
+
+-- ---- `paths_spiral`
+
+unfoldable pub spiralTurns : ℕ → ℕ → Float → Float
+spiralTurns m n spacing = upFrom one64 (div binary64 (radius m n) spacing)
+
+unfoldable pub spiralSamples : ℕ → ℕ → Float → Float
+spiralSamples m n spacing =
+    stepsAlong (add binary64 (radius m n) (mul binary64 (mul binary64 (mul binary64 (radius m n) tau) (spiralTurns m n spacing)) half)) spacing
+
+-- ---- the plan
+
+-- rays, before they are a count; "0 arms becomes 1"
+abbrev pub raysOf : ℕ → ℕ → ParametricSurfaceTexture → Float
+raysOf m n Grid = zero64
+raysOf m n (Swirl spacing twist) = swirlRays m n (spacingOf spacing)
+raysOf m n (Spiral spacing arms) = natFloat (max arms 1)
+
+-- samples per ray, before they are a count
+abbrev pub samplesOf : ℕ → ℕ → ParametricSurfaceTexture → Float
+samplesOf m n Grid = zero64
+samplesOf m n (Swirl spacing twist) = swirlSamples m n (spacingOf spacing) twist
+samplesOf m n (Spiral spacing arms) = spiralSamples m n (spacingOf spacing)
+
+-- 64, and 65,536
+abbrev pub maxTwist : Float
+maxTwist = ofBits binary64 0x4050000000000000
+
+abbrev pub maxCount : Float
+maxCount = ofBits binary64 0x40F0000000000000
+
+-- not "twist not finite or over 64 in magnitude, or arms over 64"
+abbrev pub textureFits : ParametricSurfaceTexture → Bool
+textureFits Grid = true
+textureFits (Swirl spacing twist) = atMost twist maxTwist
+textureFits (Spiral spacing arms) = leb arms 64
+
+-- not "rays or samples per ray above 65,536"
+abbrev pub countsFit : Float → Float → Bool
+countsFit rays samples = le rays maxCount && le samples maxCount
+
+-- refusals 1, 5 and 6, before what comes after them
+unfoldable pub planCheck : ParametricSurfaceTexture → ℕ → ℕ → Check → Check
+planCheck t m n after =
+    unless (stepsFit m n) refusals.Steps
+    (unless (textureFits t) refusals.Texture
+    (unless (countsFit (raysOf m n t) (samplesOf m n t)) refusals.Count after))
+
+-- the counts of a plan
+pub record Plan : Type 0 where
+  pub rays : ℕ
+  pub samples : ℕ
+
+abbrev pub planOf : ParametricSurfaceTexture → ℕ → ℕ → Plan
+planOf t m n = record { rays = toUnsigned 64 (raysOf m n t); samples = toUnsigned 64 (samplesOf m n t) }
+
+-- the open call
+unfoldable pub plan : ParametricSurfaceTexture → ℕ → ℕ → Answer Plan
+plan t m n = passing (planCheck t m n Passed) (ok (planOf t m n))
+
+-- 01's number and values of each case
+abbrev pub statedPlan : PlanAnswer → Answer Plan
+statedPlan (answers.Plan r s) = ok (record { rays = r; samples = s })
+statedPlan (answers.Refused k) = refused (numberOf k)

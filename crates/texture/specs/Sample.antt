@@ -1,0 +1,82 @@
+-- "Samples are numbered 0 to the count, both included. The angle of a sample, and its ParamPoint from a lent cosine and sine, are two calls." References: the closures in
+-- `paths_swirl` and `paths_spiral`. Assumes nothing.
+use mathlib.Core.Bool.{Bool, true, false, _&&_}
+use Prim.Native.Nat.{ℕ}
+use lib.Dec.{ltb, leb}
+use lib.Ieee.{Float, binary64, add, sub, mul, div}
+use Rattle.float.specs.Consts.{tau, zero64, one64}
+use Rattle.float.specs.Sign.{atMost}
+use Rattle.float.specs.Cast.{natFloat}
+use Rattle.refusal.specs.declared.Check.{Check}
+use Rattle.refusal.specs.declared.Check.the-variants.{Passed}
+use Rattle.refusal.specs.declared.Refusal.the-variants as refusals
+use Rattle.refusal.specs.Refusals.{Answer, ok, refused, numberOf, unless, passing}
+use Rattle.edges.specs.Param.{param}
+use Rattle.edges.specs.declared.point.ParamPoint.{ParamPoint}
+use Rattle.texture.specs.declared.plan.ParametricSurfaceTexture.{ParametricSurfaceTexture}
+use Rattle.texture.specs.declared.plan.ParametricSurfaceTexture.the-variants.{Grid, Swirl, Spiral}
+use Rattle.texture.specs.declared.sample.AngleAnswer.{AngleAnswer}
+use Rattle.texture.specs.declared.sample.AngleAnswer.the-variants as angles
+use Rattle.texture.specs.declared.sample.SampleAnswer.{SampleAnswer}
+use Rattle.texture.specs.declared.sample.SampleAnswer.the-variants as points
+use Rattle.texture.specs.Plan.{centre, radius, spacingOf, spiralTurns, planCheck, Plan, planOf}
+
+-- ---- the formulas
+
+-- the part i / count of a whole
+abbrev pub part : ℕ → ℕ → Float
+part i count = div binary64 (natFloat i) (natFloat count)
+
+-- the angle at which a ray starts
+abbrev pub baseAngle : Plan → ℕ → Float
+baseAngle p ray = mul binary64 (part ray (p .rays)) tau
+
+-- how far a sample's angle is from its ray's
+abbrev pub turnOf : ParametricSurfaceTexture → ℕ → ℕ → Plan → ℕ → Float
+turnOf Grid m n p i = zero64
+turnOf (Swirl spacing twist) m n p i = div binary64 (mul binary64 (mul binary64 tau twist) (natFloat i)) (natFloat (p .samples))
+turnOf (Spiral spacing arms) m n p i = mul binary64 (mul binary64 (part i (p .samples)) tau) (spiralTurns m n (spacingOf spacing))
+
+unfoldable pub angleOf : ParametricSurfaceTexture → ℕ → ℕ → Plan → ℕ → ℕ → Float
+angleOf t m n p ray i = add binary64 (baseAngle p ray) (turnOf t m n p i)
+
+-- how far a sample is from the centre
+abbrev pub distanceOf : ParametricSurfaceTexture → ℕ → ℕ → Plan → ℕ → Float
+distanceOf Grid m n p i = zero64
+distanceOf (Swirl spacing twist) m n p i = div binary64 (mul binary64 (radius m n) (natFloat i)) (natFloat (p .samples))
+distanceOf (Spiral spacing arms) m n p i = mul binary64 (radius m n) (sub binary64 one64 (part i (p .samples)))
+
+unfoldable pub pointOf : ParametricSurfaceTexture → ℕ → ℕ → Plan → ℕ → Float → Float → ParamPoint
+pointOf t m n p i cosine sine =
+    let r = distanceOf t m n p i in
+    param (add binary64 (centre m) (mul binary64 cosine r)) (add binary64 (centre n) (mul binary64 sine r))
+
+-- ---- the calls
+
+-- not "a ray, sample .. that is not there": Grid has no ray
+abbrev pub isThere : Plan → ℕ → ℕ → Bool
+isThere p ray i = ltb ray (p .rays) && leb i (p .samples)
+
+-- refusals 1, 5, 6 and 8
+unfoldable pub angle : ParametricSurfaceTexture → ℕ → ℕ → ℕ → ℕ → Answer Float
+angle t m n ray i =
+    passing (planCheck t m n (unless (isThere (planOf t m n) ray i) refusals.NotThere Passed)) (ok (angleOf t m n (planOf t m n) ray i))
+
+-- not "a cosine or sine not finite or outside −1 to 1"
+abbrev pub directionFits : Float → Float → Bool
+directionFits cosine sine = atMost cosine one64 && atMost sine one64
+
+-- refusals 1, 5, 6, 7 and 8
+unfoldable pub samplePoint : ParametricSurfaceTexture → ℕ → ℕ → ℕ → ℕ → Float → Float → Answer ParamPoint
+samplePoint t m n ray i cosine sine =
+    passing (planCheck t m n (unless (directionFits cosine sine) refusals.Direction (unless (isThere (planOf t m n) ray i) refusals.NotThere Passed)))
+    (ok (pointOf t m n (planOf t m n) i cosine sine))
+
+-- 01's number and values of each case
+abbrev pub statedAngle : AngleAnswer → Answer Float
+statedAngle (angles.Angle a) = ok a
+statedAngle (angles.Refused k) = refused (numberOf k)
+
+abbrev pub statedPoint : SampleAnswer → Answer ParamPoint
+statedPoint (points.Point p) = ok p
+statedPoint (points.Refused k) = refused (numberOf k)
