@@ -1,6 +1,7 @@
 -- Laws that belong to no one function.
 pub mod Steps
 pub mod Edges
+pub mod Pages
 pub mod Related
 pub mod Turns
 pub mod Agree

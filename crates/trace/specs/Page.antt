@@ -3,7 +3,7 @@
 use mathlib.Core.Path.{_≡_}
 use mathlib.Core.Bool.{Bool, true, false, _&&_}
 use mathlib.Core.List.{List}
-use Prim.Native.Nat.{ℕ, _+_, _-_, _*_, _/_}
+use Prim.Native.Nat.{ℕ, _+_, _-_, _*_, _/_, _≤_}
 use lib.Dec.{ltb, leb}
 use lib.ListN.{length, set}
 use lib.Ieee.{Float}
@@ -81,3 +81,7 @@ pub record Pushed (s : Step Page) (r : Penned) (p : List Float) (t d : List ℕ)
   pub starts : t ≡ pageIn s .starts
   pub sides : d ≡ pageIn s .sides
   pub fractions : f ≡ pageIn s .fractions
+
+-- the points written so far stand in their list, the pending ones last: so much every step keeps
+abbrev pub PenFits : List Float → Pen → Type 0
+PenFits points pen = (pen .start ≤ pen .count) × (3 * pen .count ≤ length points)
