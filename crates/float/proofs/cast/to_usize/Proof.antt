@@ -1,8 +1,7 @@
--- `float::cast::to_usize` meets its contract: the laws are in proofs/Casts.antt and in std's Truncating. Assumes nothing.
+-- `float::cast::to_usize` meets its contract: below 1 it is 0, from 2^64 on the largest usize, and between std truncates (proofs/Casts.antt). Assumes nothing.
 use mathlib.Core.Path.{sym, subst}
 use lib.Dec.{T}
 use lib.Ieee.{ofBits}
-use borrow.Author.Needs.{needs}
 use Rattle.std.proofs.num.Truncating.{below-one, under-one}
 use Rattle.float.proofs.Casts.{above-minus, from-p64}
 use Rattle.float.proofs.cast.to_usize.Statement.{statement}
