@@ -67,18 +67,11 @@ impl CyclicMapping {
         match self {
             CyclicMapping::Forward(offset, steps) => {
                 if offset == 0 {
-                    a_idx
-                } else {
-                    (offset + a_idx) % steps
+                    return a_idx;
                 }
+                (offset + a_idx) % steps
             }
-            CyclicMapping::Reverse(offset, steps) => {
-                if offset == 0 {
-                    steps - a_idx
-                } else {
-                    (offset + steps - a_idx % steps) % steps
-                }
-            }
+            CyclicMapping::Reverse(offset, steps) => reversed(offset, steps, a_idx),
         }
     }
 
@@ -90,20 +83,24 @@ impl CyclicMapping {
         match self {
             CyclicMapping::Forward(offset, steps) => {
                 if offset == 0 {
-                    b_idx
-                } else {
-                    (b_idx + steps - offset % steps) % steps
+                    return b_idx;
                 }
+                (b_idx + steps - offset % steps) % steps
             }
-            CyclicMapping::Reverse(offset, steps) => {
-                if offset == 0 {
-                    steps - b_idx
-                } else {
-                    (offset + steps - b_idx % steps) % steps
-                }
-            }
+            CyclicMapping::Reverse(offset, steps) => reversed(offset, steps, b_idx),
         }
     }
+}
+
+// The index that j joins where the rows run against each other, from a to b and from b to a.
+fn reversed(offset: usize, steps: usize, j: usize) -> usize
+    requires { ⌜ Usable (CyclicMapping.Reverse offset steps) j ⌝ }
+    ensures { λ r. ⌜ r ≡ image (CyclicMapping.Reverse offset steps) j ⌝ }
+{
+    if offset == 0 {
+        return steps - j;
+    }
+    (offset + steps - j % steps) % steps
 }
 
 fn in_rows(offset: usize, steps: usize, index: usize) -> bool

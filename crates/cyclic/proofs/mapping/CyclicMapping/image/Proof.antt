@@ -1,75 +1,52 @@
+-- `cyclic::mapping::CyclicMapping::image` meets its contract: the cases are those of `image`, at the variant that the match found. Assumes nothing.
+use native.Mathlib.Omega.{arith}
+use mathlib.Core.Path.{sym}
 use borrow.Author.Needs.{needs}
+use Rattle.cyclic.proofs.Mappings.{forward-zero, forward-other, usable-as}
 use Rattle.cyclic.proofs.mapping.CyclicMapping.image.Statement.{statement}
 use Rattle.cyclic.proofs.mapping.CyclicMapping.image.Tie as tie
-use Rattle.cyclic.proofs.mapping.CyclicMapping.image.Reads as reads
-use Rattle.cyclic.proofs.mapping.CyclicMapping.image.Lts as lts
 
--- src/mapping.rt:68:36
 enum-known-self : tie.Need-enum-known-self
 enum-known-self c = search needs
 
--- src/mapping.rt:72:22
+returns : tie.Need-returns
+returns c = rw (c .before .before .self .given .1) (sym (forward-zero _ _ _ (c .if1 .taken)))
+
 add-result : tie.Need-add-result
-add-result c = search needs
+add-result c =
+    let s = c .before .before in
+    let a = s .before .before in
+    let u = usable-as (a .args .a-idx) (s .self .given .1) (a .pre) in
+    omega arith
 
--- src/mapping.rt:72:21
 rem-result : tie.Need-rem-result
-rem-result c = search needs
+rem-result c =
+    let s = c .before .before in
+    let a = s .before .before in
+    let u = usable-as (a .args .a-idx) (s .self .given .1) (a .pre) in
+    omega arith
 
--- src/mapping.rt:75:36
 enum-known-self-2 : tie.Need-enum-known-self-2
 enum-known-self-2 c = search needs
 
--- src/mapping.rt:77:21
-sub-result : tie.Need-sub-result
-sub-result c = search needs
+reversed-requires : tie.Need-reversed-requires
+reversed-requires c κs = usable-as (c .before .before .before .args .a-idx) (c .before .self2 .given .1) (c .before .before .before .pre)
 
--- src/mapping.rt:79:22
-add-result-2 : tie.Need-add-result-2
-add-result-2 c = search needs
-
--- src/mapping.rt:79:39
-rem-result-2 : tie.Need-rem-result-2
-rem-result-2 c = search needs
-
--- src/mapping.rt:79:22
-sub-result-2 : tie.Need-sub-result-2
-sub-result-2 c = search needs
-
--- src/mapping.rt:79:21
-rem-result-3 : tie.Need-rem-result-3
-rem-result-3 c = search needs
-
--- src/mapping.rt:63:5
-returns : tie.Need-returns
-returns c = search needs
-
--- src/mapping.rt:63:5
 returns-2 : tie.Need-returns-2
-returns-2 c = search needs
+returns-2 c = rw (c .before .before .self .given .1) (sym (forward-other _ _ _ (c .if1 .left)))
 
--- src/mapping.rt:63:5
 returns-3 : tie.Need-returns-3
-returns-3 c = search needs
-
--- src/mapping.rt:63:5
-returns-4 : tie.Need-returns-4
-returns-4 c = search needs
+returns-3 c = rw (c .before .before .self2 .given .1) (c .reversed .ensures)
 
 pub image-spec : {M : Type 1} → statement M
 image-spec =
     tie.close
     (tie.spec
     enum-known-self
+    returns
     add-result
     rem-result
     enum-known-self-2
-    sub-result
-    add-result-2
-    rem-result-2
-    sub-result-2
-    rem-result-3
-    returns
+    reversed-requires
     returns-2
-    returns-3
-    returns-4)
+    returns-3)
