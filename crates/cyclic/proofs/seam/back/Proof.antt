@@ -1,24 +1,28 @@
+-- `cyclic::seam::back` meets its contract: the image of the next index is one less, and after 0 the last below steps. Assumes nothing.
+use Prim.Native.Nat.{ℕ, _+_, _-_, _<_}
+use native.Mathlib.Omega.{arith}
+use mathlib.Core.Path.{_≡_}
+use mathlib.Core.Logic.{⊎-elim}
 use borrow.Author.Needs.{needs}
+use Rattle.cyclic.proofs.Mappings.{reverse-next}
 use Rattle.cyclic.proofs.seam.back.Statement.{statement}
 use Rattle.cyclic.proofs.seam.back.Tie as tie
-use Rattle.cyclic.proofs.seam.back.Reads as reads
-use Rattle.cyclic.proofs.seam.back.Lts as lts
 
--- src/seam.rt:76:16
 sub-result : tie.Need-sub-result
 sub-result c = search needs
 
--- src/seam.rt:76:9
 returns : tie.Need-returns
-returns c = search needs
+returns c =
+    let s = c .before in
+    λ j b e. ⊎-elim (λ w. absurd (omega arith)) (λ w. w .1) (reverse-next (s .args .offset) (s .args .steps) j (s .args .k) (s .pre .1) b e)
 
--- src/seam.rt:78:5
 sub-result-2 : tie.Need-sub-result-2
 sub-result-2 c = search needs
 
--- src/seam.rt:71:1
 returns-2 : tie.Need-returns-2
-returns-2 c = search needs
+returns-2 c =
+    let s = c .before in
+    λ j b e. ⊎-elim (λ w. w .1) (λ w. absurd (c .if1 .left (w .0))) (reverse-next (s .args .offset) (s .args .steps) j (s .args .k) (s .pre .1) b e)
 
 pub back-spec : {M : Type 1} → statement M
 back-spec = tie.close (tie.spec sub-result returns sub-result-2 returns-2)
