@@ -1,4 +1,4 @@
 -- Laws that belong to no one function.
 pub mod Mappings
-pub mod Rows
 pub mod Remains
+pub mod Rows

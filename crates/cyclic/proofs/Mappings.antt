@@ -262,7 +262,7 @@ reverse-next o n j k h b e = go (reverse-step o n j (image (Reverse o n) j) (ima
 
 -- What the test of an index shows
 
-and-both : (a b : Bool) → a && b ≡ true → (a ≡ true) × (b ≡ true)
+pub and-both : (a b : Bool) → a && b ≡ true → (a ≡ true) × (b ≡ true)
 and-both true true h = (refl, refl)
 and-both true false h = absurd (true≢false (sym h))
 and-both false b h = absurd (true≢false (sym h))

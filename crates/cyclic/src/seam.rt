@@ -1,14 +1,18 @@
 // The search for a seam between two rows of points.
 use crate::mapping::CyclicMapping;
+use refusal::Check;
 use refusal::Refusal;
 use vector::Vector;
 ghost use mathlib.Core.Path.{_≡_};
-ghost use Prim.Native.Nat.{ℕ, _+_, _*_, _≤_, _<_};
+ghost use Prim.Native.Nat.{ℕ, _+_, _*_, _/_, _≤_, _<_};
 ghost use lib.ListN.{length};
 ghost use Rattle.grid.specs.Grid.{pointAt};
 ghost use Rattle.vector.specs.Vectors.{allClose};
 ghost use Rattle.cyclic.specs.Mapping.{image, Usable};
-ghost use Rattle.cyclic.specs.Search.{rowOf, Rows, closed, searchRows};
+ghost use Rattle.cyclic.specs.Search.{rowOf, Rows, closed, searchRows, search, rowFits, rowsCheck, newVector, statedSeam};
+
+// A row has at most 65,536 points.
+const MAX_ROW: usize = 196608;
 
 // None, or a mapping.
 pub enum Seam {
@@ -128,5 +132,58 @@ pub fn search_rows(a: &[f64], a_start: usize, b: &[f64], b_start: usize, stride:
             j += 1;
         }
         offset += 1;
+    }
+}
+
+// None if there are under 2 points or the lengths differ, after 0 comparisons; else the search.
+fn search(a: &[f64], b: &[f64]) -> SeamSearch
+    requires { ⌜ length (now a) ≤ 196608 ⌝ }
+    ensures { λ r. ⌜ r ≡ search allClose (pointAt (now (a .entry))) (pointAt (now (b .entry))) (length (now (a .entry)) / 3) (length (now (b .entry)) / 3) ⌝ }
+{
+    let n = a.len() / 3;
+    if n < 2 || n != b.len() / 3 {
+        return SeamSearch {
+            seam: Seam::Unjoined,
+            comparisons: 0,
+        };
+    }
+    search_rows(a, 0, b, 0, 1, n - 1)
+}
+
+fn row_fits(row: &[f64]) -> bool
+    ensures { λ r. ⌜ r ≡ rowFits (now (row .entry)) ⌝ }
+{
+    (row.len() % 3 == 0) & (row.len() <= MAX_ROW)
+}
+
+// Refusals 2 and 4.
+fn check_rows(a: &[f64], b: &[f64]) -> Check
+    ensures { λ r. ⌜ r ≡ rowsCheck (now (a .entry)) (now (b .entry)) ⌝ }
+{
+    if !(row_fits(a) & row_fits(b)) {
+        return Check::Failed(Refusal::Length);
+    }
+    if !(grid::coordinates_fit(a) & grid::coordinates_fit(b)) {
+        return Check::Failed(Refusal::Coordinate);
+    }
+    Check::Passed
+}
+
+impl CyclicMapping {
+    // The seam between two rows of points, three f64 each.
+    pub fn new_vector(a: &[f64], b: &[f64]) -> SeamAnswer
+        ensures { λ r. ⌜ statedSeam r ≡ newVector (now (a .entry)) (now (b .entry)) ⌝ }
+    {
+        match check_rows(a, b) {
+            Check::Failed(k) => SeamAnswer::Refused(k),
+            Check::Passed => {
+                let found = search(a, b);
+                let seam = found.seam;
+                match seam {
+                    Seam::Joined(mapping) => SeamAnswer::Found(mapping, found.comparisons),
+                    Seam::Unjoined => SeamAnswer::NotFound(found.comparisons),
+                }
+            }
+        }
     }
 }
