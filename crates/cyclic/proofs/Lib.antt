@@ -2,3 +2,4 @@
 pub mod Mappings
 pub mod Remains
 pub mod Rows
+pub mod Laws
