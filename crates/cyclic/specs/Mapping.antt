@@ -37,8 +37,11 @@ inverse (Forward o n) j = pick (eqb o 0) j ((j + n - o % n) % n)
 inverse (Reverse o n) j = pick (eqb o 0) (n - j) ((o + n - j % n) % n)
 
 -- not "a mapping with steps 0 or over 65,535, offset not below steps, or index over steps"
+abbrev pub inRows : ℕ → ℕ → ℕ → Bool
+inRows o n i = (leb 1 n && leb n 65535) && (ltb o n && leb i n)
+
 abbrev pub usable : CyclicMapping → ℕ → Bool
-usable m i = (leb 1 (stepsOf m) && leb (stepsOf m) 65535) && (ltb (offsetOf m) (stepsOf m) && leb i (stepsOf m))
+usable m i = inRows (offsetOf m) (stepsOf m) i
 
 abbrev pub Usable : CyclicMapping → ℕ → Type 0
 Usable m i = (stepsOf m ≤ 65535) × (offsetOf m < stepsOf m) × (i ≤ stepsOf m)

@@ -1,6 +1,6 @@
 -- Seam search (01): the first offset at which row a fits row b, forward before reverse, and the comparisons made.
 -- A row is its points by index, 0 to steps; `close` compares a point of one row with a point of another (or the same). Assumes nothing.
-use Prim.Native.Nat.{ℕ, zero, suc, _+_, _-_, _*_, _/_, _%_}
+use Prim.Native.Nat.{ℕ, zero, suc, _+_, _-_, _*_, _/_, _%_, _≤_}
 use mathlib.Core.Bool.{Bool, true, false, _&&_, _||_, not}
 use mathlib.Core.List.{List}
 use lib.Dec.{eqb, ltb, leb}
@@ -18,12 +18,24 @@ use Rattle.cyclic.specs.declared.mapping.CyclicMapping.the-variants.{For
 use Rattle.cyclic.specs.declared.seam.Seam.{Seam}
 use Rattle.cyclic.specs.declared.seam.Seam.the-variants.{Joined, Unjoined}
 use Rattle.cyclic.specs.declared.seam.SeamSearch.{SeamSearch}
+use Rattle.cyclic.specs.declared.seam.Tried.{Tried}
 use Rattle.cyclic.specs.declared.seam.SeamAnswer.{SeamAnswer}
 use Rattle.cyclic.specs.declared.seam.SeamAnswer.the-variants.{Found, NotFound, Refused}
 use Rattle.cyclic.specs.Mapping.{pick, image}
 
 abbrev pub Row : Type 0
 Row = ℕ → Vector
+
+-- the row whose point j is point start + j·stride of a list of coordinates: a line of a grid, or with stride 1 a list of its own
+abbrev pub rowOf : List Float → ℕ → ℕ → Row
+rowOf l start stride j = pointAt l (start + j * stride)
+
+-- two rows of `steps` steps that lie inside their lists
+pub record Rows (a : List Float) (aStart : ℕ) (b : List Float) (bStart stride steps : ℕ) : Type 0 where
+  pub steps-least : 1 ≤ steps
+  pub steps-most : steps ≤ 65535
+  pub a-inside : 3 * (aStart + steps * stride) + 3 ≤ length a
+  pub b-inside : 3 * (bStart + steps * stride) + 3 ≤ length b
 
 abbrev pub Closeness : Type 0
 Closeness = Vector → Vector → Bool
@@ -33,10 +45,6 @@ abbrev pub searched : Seam → ℕ → SeamSearch
 searched s k = record { seam = s; comparisons = k }
 
 -- whether all comparisons held, and how many were made
-pub record Tried : Type 0 where
-  pub fits : Bool
-  pub made : ℕ
-
 abbrev pub tried : Bool → ℕ → Tried
 tried f k = record { fits = f; made = k }
 

@@ -1,7 +1,10 @@
 // CyclicMapping: an index of row a to one of row b, and back.
 use refusal::Refusal;
 ghost use mathlib.Core.Path.{_≡_};
-ghost use Rattle.cyclic.specs.Mapping.{isReverse, mapIndex, mapIndexInv, statedIndex};
+ghost use Rattle.cyclic.specs.Mapping.{isReverse, image, inverse, usable, inRows, Usable, mapIndex, mapIndexInv, statedIndex};
+
+// The largest number of steps of a row.
+pub const MAX_STEPS: usize = 65535;
 
 // The offset, and the number of steps of a row.
 pub enum CyclicMapping {
@@ -12,4 +15,96 @@ pub enum CyclicMapping {
 pub enum MappedIndex {
     Index(usize),
     Refused(Refusal),
+}
+
+impl CyclicMapping {
+    pub fn is_reverse(self) -> bool
+        ensures { λ r. ⌜ r ≡ isReverse self ⌝ }
+    {
+        match self {
+            CyclicMapping::Forward(_, _) => false,
+            CyclicMapping::Reverse(_, _) => true,
+        }
+    }
+
+    // The index of b that index a_idx of a joins.
+    pub fn map_index(self, a_idx: usize) -> MappedIndex
+        ensures { λ r. ⌜ statedIndex r ≡ mapIndex self «a_idx» ⌝ }
+    {
+        if self.usable(a_idx) {
+            MappedIndex::Index(self.image(a_idx))
+        } else {
+            MappedIndex::Refused(Refusal::NotThere)
+        }
+    }
+
+    // The index of a that index b_idx of b joins.
+    pub fn map_index_inv(self, b_idx: usize) -> MappedIndex
+        ensures { λ r. ⌜ statedIndex r ≡ mapIndexInv self «b_idx» ⌝ }
+    {
+        if self.usable(b_idx) {
+            MappedIndex::Index(self.inverse(b_idx))
+        } else {
+            MappedIndex::Refused(Refusal::NotThere)
+        }
+    }
+
+    // Whether the mapping is one of rows, and the index is of such a row.
+    fn usable(self, index: usize) -> bool
+        ensures { λ r. ⌜ r ≡ usable self index ⌝ }
+    {
+        match self {
+            CyclicMapping::Forward(offset, steps) => in_rows(offset, steps, index),
+            CyclicMapping::Reverse(offset, steps) => in_rows(offset, steps, index),
+        }
+    }
+
+    // map_index of an index that is there.
+    pub fn image(self, a_idx: usize) -> usize
+        requires { ⌜ Usable self «a_idx» ⌝ }
+        ensures { λ r. ⌜ r ≡ image self «a_idx» ⌝ }
+    {
+        match self {
+            CyclicMapping::Forward(offset, steps) => {
+                if offset == 0 {
+                    return a_idx;
+                }
+                (offset + a_idx) % steps
+            }
+            CyclicMapping::Reverse(offset, steps) => reversed(offset, steps, a_idx),
+        }
+    }
+
+    // map_index_inv of an index that is there.
+    pub fn inverse(self, b_idx: usize) -> usize
+        requires { ⌜ Usable self «b_idx» ⌝ }
+        ensures { λ r. ⌜ r ≡ inverse self «b_idx» ⌝ }
+    {
+        match self {
+            CyclicMapping::Forward(offset, steps) => {
+                if offset == 0 {
+                    return b_idx;
+                }
+                (b_idx + steps - offset % steps) % steps
+            }
+            CyclicMapping::Reverse(offset, steps) => reversed(offset, steps, b_idx),
+        }
+    }
+}
+
+// The index that j joins where the rows run against each other, from a to b and from b to a.
+fn reversed(offset: usize, steps: usize, j: usize) -> usize
+    requires { ⌜ Usable (CyclicMapping.Reverse offset steps) j ⌝ }
+    ensures { λ r. ⌜ r ≡ image (CyclicMapping.Reverse offset steps) j ⌝ }
+{
+    if offset == 0 {
+        return steps - j;
+    }
+    (offset + steps - j % steps) % steps
+}
+
+fn in_rows(offset: usize, steps: usize, index: usize) -> bool
+    ensures { λ r. ⌜ r ≡ inRows offset steps index ⌝ }
+{
+    ((1 <= steps) & (steps <= MAX_STEPS)) & ((offset < steps) & (index <= steps))
 }

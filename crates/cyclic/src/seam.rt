@@ -1,6 +1,18 @@
 // The search for a seam between two rows of points.
 use crate::mapping::CyclicMapping;
+use refusal::Check;
 use refusal::Refusal;
+use vector::Vector;
+ghost use mathlib.Core.Path.{_≡_};
+ghost use Prim.Native.Nat.{ℕ, _+_, _*_, _/_, _≤_, _<_};
+ghost use lib.ListN.{length};
+ghost use Rattle.grid.specs.Grid.{pointAt};
+ghost use Rattle.vector.specs.Vectors.{allClose};
+ghost use Rattle.cyclic.specs.Mapping.{image, Usable};
+ghost use Rattle.cyclic.specs.Search.{rowOf, Rows, closed, searchRows, search, rowFits, rowsCheck, newVector, statedSeam};
+
+// A row has at most 65,536 points.
+const MAX_ROW: usize = 196608;
 
 // None, or a mapping.
 pub enum Seam {
@@ -14,8 +26,164 @@ pub struct SeamSearch {
     pub comparisons: u64,
 }
 
+// Whether all comparisons held, and how many were made.
+struct Tried {
+    fits: bool,
+    made: u64,
+}
+
 pub enum SeamAnswer {
     Found(CyclicMapping, u64),
     NotFound(u64),
     Refused(Refusal),
+}
+
+// Whether point i of a is close to point k of b.
+fn points_close(a: &[f64], i: usize, b: &[f64], k: usize) -> bool
+    requires { ⌜ (3 * i + 3 ≤ length (now a)) × (3 * k + 3 ≤ length (now b)) ⌝ }
+    ensures { λ r. ⌜ r ≡ allClose (pointAt (now (a .entry)) i) (pointAt (now (b .entry)) k) ⌝ }
+{
+    grid::point_at(a, i).all_close(grid::point_at(b, k))
+}
+
+// Rows are closed if a's ends are close and then b's ends are.
+fn rows_closed(a: &[f64], a_start: usize, b: &[f64], b_start: usize, stride: usize, steps: usize) -> Tried
+    requires { ⌜ Rows (now a) «a_start» (now b) «b_start» stride steps ⌝ }
+    ensures { λ r. ⌜ r ≡ closed allClose (rowOf (now (a .entry)) «a_start» stride) (rowOf (now (b .entry)) «b_start» stride) steps ⌝ }
+{
+    if points_close(a, a_start, a, a_start + steps * stride) {
+        return Tried {
+            fits: points_close(b, b_start, b, b_start + steps * stride),
+            made: 2,
+        };
+    }
+    Tried { fits: false, made: 1 }
+}
+
+// The index of b that follows k, going forward.
+fn ahead(k: usize, offset: usize, steps: usize) -> usize
+    requires { ⌜ Usable (CyclicMapping.Forward offset steps) k ⌝ }
+    ensures { λ r. ⌜ ((j : ℕ) → j < steps → k ≡ image (CyclicMapping.Forward offset steps) j → r ≡ image (CyclicMapping.Forward offset steps) (j + 1)) ⌝ }
+{
+    if offset != 0 && k + 1 == steps {
+        return 0;
+    }
+    k + 1
+}
+
+// The index of b that follows k, going in reverse.
+fn back(k: usize, offset: usize, steps: usize) -> usize
+    requires { ⌜ Usable (CyclicMapping.Reverse offset steps) k ⌝ }
+    ensures { λ r. ⌜ ((j : ℕ) → j < steps → k ≡ image (CyclicMapping.Reverse offset steps) j → r ≡ image (CyclicMapping.Reverse offset steps) (j + 1)) ⌝ }
+{
+    if k == 0 {
+        return steps - 1;
+    }
+    k - 1
+}
+
+// The first offset at which row a fits row b, forward before reverse. Point j of a row is point
+// start + j * stride of its list.
+pub fn search_rows(a: &[f64], a_start: usize, b: &[f64], b_start: usize, stride: usize, steps: usize) -> SeamSearch
+    requires { ⌜ Rows (now a) «a_start» (now b) «b_start» stride steps ⌝ }
+    ensures { λ r. ⌜ r ≡ searchRows allClose (rowOf (now (a .entry)) «a_start» stride) (rowOf (now (b .entry)) «b_start» stride) steps ⌝ }
+{
+    let ends = rows_closed(a, a_start, b, b_start, stride, steps);
+    let end = if ends.fits { steps } else { 1 };
+    let mut comparisons = ends.made;
+    let mut offset: usize = 0;
+    'offsets: loop {
+        if offset == end {
+            break 'offsets SeamSearch {
+                seam: Seam::Unjoined,
+                comparisons,
+            };
+        }
+        let mut j: usize = 0;
+        let mut k = CyclicMapping::Forward(offset, steps).image(0);
+        loop {
+            comparisons += 1;
+            if !points_close(a, a_start + j * stride, b, b_start + k * stride) {
+                break;
+            }
+            if j == steps {
+                break 'offsets SeamSearch {
+                    seam: Seam::Joined(CyclicMapping::Forward(offset, steps)),
+                    comparisons,
+                };
+            }
+            k = ahead(k, offset, steps);
+            j += 1;
+        }
+        let mut j: usize = 0;
+        let mut k = CyclicMapping::Reverse(offset, steps).image(0);
+        loop {
+            comparisons += 1;
+            if !points_close(a, a_start + j * stride, b, b_start + k * stride) {
+                break;
+            }
+            if j == steps {
+                break 'offsets SeamSearch {
+                    seam: Seam::Joined(CyclicMapping::Reverse(offset, steps)),
+                    comparisons,
+                };
+            }
+            k = back(k, offset, steps);
+            j += 1;
+        }
+        offset += 1;
+    }
+}
+
+// None if there are under 2 points or the lengths differ, after 0 comparisons; else the search.
+fn search(a: &[f64], b: &[f64]) -> SeamSearch
+    requires { ⌜ length (now a) ≤ 196608 ⌝ }
+    ensures { λ r. ⌜ r ≡ search allClose (pointAt (now (a .entry))) (pointAt (now (b .entry))) (length (now (a .entry)) / 3) (length (now (b .entry)) / 3) ⌝ }
+{
+    let n = a.len() / 3;
+    if n < 2 || n != b.len() / 3 {
+        return SeamSearch {
+            seam: Seam::Unjoined,
+            comparisons: 0,
+        };
+    }
+    search_rows(a, 0, b, 0, 1, n - 1)
+}
+
+fn row_fits(row: &[f64]) -> bool
+    ensures { λ r. ⌜ r ≡ rowFits (now (row .entry)) ⌝ }
+{
+    (row.len() % 3 == 0) & (row.len() <= MAX_ROW)
+}
+
+// Refusals 2 and 4.
+fn check_rows(a: &[f64], b: &[f64]) -> Check
+    ensures { λ r. ⌜ r ≡ rowsCheck (now (a .entry)) (now (b .entry)) ⌝ }
+{
+    if !(row_fits(a) & row_fits(b)) {
+        return Check::Failed(Refusal::Length);
+    }
+    if !(grid::coordinates_fit(a) & grid::coordinates_fit(b)) {
+        return Check::Failed(Refusal::Coordinate);
+    }
+    Check::Passed
+}
+
+impl CyclicMapping {
+    // The seam between two rows of points, three f64 each.
+    pub fn new_vector(a: &[f64], b: &[f64]) -> SeamAnswer
+        ensures { λ r. ⌜ statedSeam r ≡ newVector (now (a .entry)) (now (b .entry)) ⌝ }
+    {
+        match check_rows(a, b) {
+            Check::Failed(k) => SeamAnswer::Refused(k),
+            Check::Passed => {
+                let found = search(a, b);
+                let seam = found.seam;
+                match seam {
+                    Seam::Joined(mapping) => SeamAnswer::Found(mapping, found.comparisons),
+                    Seam::Unjoined => SeamAnswer::NotFound(found.comparisons),
+                }
+            }
+        }
+    }
 }

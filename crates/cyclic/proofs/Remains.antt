@@ -1,0 +1,121 @@
+-- What is left of a search after a comparison, an offset or the last offset: the loops' invariants say that the whole answer is the answer of what is left.
+-- Assumes nothing.
+use Prim.Native.Nat.{ℕ, suc, _+_, _-_, _*_, _≤_}
+use native.Mathlib.Omega.{arith}
+use mathlib.Core.Path.{_≡_, refl, sym, ap, _∙_}
+use mathlib.Core.Bool.{Bool, true, false, not}
+use borrow.Author.Tests.{not-true, not-false}
+use Rattle.cyclic.specs.declared.mapping.CyclicMapping.{CyclicMapping}
+use Rattle.cyclic.specs.declared.mapping.CyclicMapping.the-variants.{Forward, Reverse}
+use Rattle.cyclic.specs.declared.seam.Seam.the-variants.{Joined, Unjoined}
+use Rattle.cyclic.specs.declared.seam.Tried.{Tried}
+use Rattle.cyclic.specs.Mapping.{image, stepsOf, Usable}
+use Rattle.cyclic.proofs.Mappings.{image-within}
+use Rattle.cyclic.specs.Search.{Row, Closeness, tried, searched, tryFrom, closed, searchFrom, searchRows}
+
+-- a comparison whose answer is tested by `!`
+pub held : {r x : Bool} → r ≡ x → not r ≡ false → x ≡ true
+held e h = sym e ∙ not-false _ h
+
+pub failed : {r x : Bool} → r ≡ x → not r ≡ true → x ≡ false
+failed e h = sym e ∙ not-true _ h
+
+-- Point j of a is next, with point k of b, and c comparisons were made of which c₀ before the first point
+pub record Trying (close : Closeness) (a b : Row) (m : CyclicMapping) (c₀ c j k : ℕ) : Type 0 where
+  pub point : j ≤ stepsOf m
+  pub other : k ≤ stepsOf m
+  pub mapped : k ≡ image m j
+  pub counted : c ≡ c₀ + j
+  pub rest : tryFrom close a b m (stepsOf m + 1) 0 c₀ ≡ tryFrom close a b m (stepsOf m + 1 - j) j c
+
+-- Offset o of those below e is next, after c comparisons
+pub record Searching (close : Closeness) (a b : Row) (n e c o : ℕ) : Type 0 where
+  pub offset : o ≤ e
+  pub ends : e ≤ n
+  pub counted : c ≤ 131072 * o + 2
+  pub rest : searchRows close a b n ≡ searchFrom close a b n (e - o) o c
+
+module _ (close : Closeness) (a b : Row) where
+  -- The ends
+
+  pub second-tried : (n : ℕ) → close (a 0) (a n) ≡ true → closed close a b n ≡ tried (close (b 0) (b n)) 2
+  unfolding closed
+  second-tried n h = rw h
+
+  pub first-only : (n : ℕ) → close (a 0) (a n) ≡ false → closed close a b n ≡ tried false 1
+  unfolding closed
+  first-only n h = rw h
+
+  closed-most : (n : ℕ) {t : Tried} → t ≡ closed close a b n → t .made ≤ 131072 * 0 + 2
+  closed-most n {t} e = go (close (a 0) (a n)) refl
+    where
+      go : (x : Bool) → close (a 0) (a n) ≡ x → t .made ≤ 131072 * 0 + 2
+      go true h = let g : t .made ≡ 2 = ap (λ (y : Tried). y .made) (e ∙ second-tried n h) in omega arith
+      go false h = let g : t .made ≡ 1 = ap (λ (y : Tried). y .made) (e ∙ first-only n h) in omega arith
+
+  -- Points
+
+  pub first-point : (m : CyclicMapping) (c : ℕ) {k : ℕ} → Usable m 0 → k ≡ image m 0 → Trying close a b m c c 0 k
+  first-point m c u e =
+      let w = image-within m 0 u in
+      let z : stepsOf m + 1 - 0 ≡ stepsOf m + 1 = omega arith in
+      record { point = omega arith; other = omega arith; mapped = e; counted = omega arith; rest = rw z }
+
+  pub next-point : (m : CyclicMapping) {c₀ : ℕ} (c j k : ℕ) {l : ℕ} → Usable m j → (j ≡ stepsOf m → ⊥) → Trying close a b m c₀ c j k → close (a j) (b k) ≡ true → l ≡ image m (j + 1) → Trying close a b m c₀ (c + 1) (j + 1) l
+  unfolding tryFrom
+  next-point m c j k u f t h e =
+      let w = image-within m (j + 1) (u .0, u .1, omega arith) in
+      let x : stepsOf m + 1 - j ≡ suc (stepsOf m - j) = omega arith in
+      let y : stepsOf m + 1 - (j + 1) ≡ stepsOf m - j = omega arith in
+      let g : close (a j) (b (image m j)) ≡ true = rw (t .mapped) at h in
+      record { point = omega arith; other = omega arith; mapped = e; counted = omega arith; rest = t .rest ∙ rw (x, g, y) }
+
+  pub last-point : (m : CyclicMapping) {c₀ : ℕ} (c j k : ℕ) → j ≡ stepsOf m → Trying close a b m c₀ c j k → close (a j) (b k) ≡ true → tryFrom close a b m (stepsOf m + 1) 0 c₀ ≡ tried true (c + 1)
+  unfolding tryFrom
+  last-point m c j k l t h =
+      let x : stepsOf m + 1 - j ≡ 1 = omega arith in
+      let g : close (a j) (b (image m j)) ≡ true = rw (t .mapped) at h in
+      t .rest ∙ rw (x, g)
+
+  pub far-point : (m : CyclicMapping) {c₀ : ℕ} (c j k : ℕ) → Trying close a b m c₀ c j k → close (a j) (b k) ≡ false → tryFrom close a b m (stepsOf m + 1) 0 c₀ ≡ tried false (c + 1)
+  unfolding tryFrom
+  far-point m c j k t h =
+      let x : stepsOf m + 1 - j ≡ suc (stepsOf m - j) = omega arith in
+      let g : close (a j) (b (image m j)) ≡ false = rw (t .mapped) at h in
+      t .rest ∙ rw (x, g)
+
+  -- Offsets
+
+  pub all-offsets : (n : ℕ) {t : Tried} → t ≡ closed close a b n → t .fits ≡ true → Searching close a b n n (t .made) 0
+  unfolding searchRows
+  all-offsets n e h =
+      let z : n - 0 ≡ n = omega arith in
+      record { offset = omega arith; ends = omega arith; counted = closed-most n e; rest = rw (← e, h, z) }
+
+  pub one-offset : (n : ℕ) {t : Tried} → 1 ≤ n → t ≡ closed close a b n → t .fits ≡ false → Searching close a b n 1 (t .made) 0
+  unfolding searchRows
+  one-offset n l e h = record { offset = omega arith; ends = l; counted = closed-most n e; rest = rw (← e, h) }
+
+  pub forward-fits : (n e o c : ℕ) {d : ℕ} → (o ≡ e → ⊥) → Searching close a b n e c o → tryFrom close a b (Forward o n) (n + 1) 0 c ≡ tried true d → searchRows close a b n ≡ searched (Joined (Forward o n)) d
+  unfolding searchFrom
+  forward-fits n e o c l s h =
+      let x : e - o ≡ suc (e - o - 1) = omega arith in
+      s .rest ∙ rw (x, h)
+
+  pub reverse-fits : (n e o c : ℕ) {d k : ℕ} → (o ≡ e → ⊥) → Searching close a b n e c o → tryFrom close a b (Forward o n) (n + 1) 0 c ≡ tried false d → tryFrom close a b (Reverse o n) (n + 1) 0 d ≡ tried true k → searchRows close a b n ≡ searched (Joined (Reverse o n)) k
+  unfolding searchFrom
+  reverse-fits n e o c l s h g =
+      let x : e - o ≡ suc (e - o - 1) = omega arith in
+      s .rest ∙ rw (x, h, g)
+
+  pub next-offset : (n e o c : ℕ) {d k : ℕ} → (o ≡ e → ⊥) → Searching close a b n e c o → k ≤ c + 131072 → tryFrom close a b (Forward o n) (n + 1) 0 c ≡ tried false d → tryFrom close a b (Reverse o n) (n + 1) 0 d ≡ tried false k → Searching close a b n e k (o + 1)
+  unfolding searchFrom
+  next-offset n e o c l s q h g =
+      let x : e - o ≡ suc (e - (o + 1)) = omega arith in
+      record { offset = omega arith; ends = s .ends; counted = omega arith; rest = s .rest ∙ rw (x, h, g) }
+
+  pub no-offset : (n e o c : ℕ) → o ≡ e → Searching close a b n e c o → searchRows close a b n ≡ searched Unjoined c
+  unfolding searchFrom
+  no-offset n e o c l s =
+      let x : e - o ≡ 0 = omega arith in
+      s .rest ∙ rw x

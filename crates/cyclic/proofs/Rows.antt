@@ -1,0 +1,85 @@
+-- Rows in their lists: each point of a row stands in its list, a list of points is a row of its own, and what the tests of two rows show.
+-- Assumes nothing.
+use Prim.Native.Nat.{ℕ, _+_, _-_, _*_, _/_, _%_, _≤_, _<_}
+use native.Mathlib.Nat.{mul-le-mul-right}
+use native.Mathlib.Omega.{arith}
+use mathlib.Core.Path.{_≡_, refl, sym, ap, fun-ext, _∙_}
+use mathlib.Core.Bool.{Bool, true, false, _&&_, or-true}
+use mathlib.Core.Logic.{_⊎_, inl, inr}
+use mathlib.Core.List.{List}
+use lib.Dec.{eqb, ltb, leb}
+use lib.Ieee.{Float}
+use lib.ListN.{length}
+use borrow.Author.Tests.{lt-ltb, le-ltb, leb-true, eq-eqb, ne-eqb}
+use Rattle.vector.specs.Vectors.{allClose}
+use Rattle.grid.specs.Grid.{pointAt, coordinatesFit}
+use Rattle.refusal.specs.declared.Check.{Check}
+use Rattle.refusal.specs.declared.Check.the-variants.{Passed, Failed}
+use Rattle.refusal.specs.declared.Refusal.{Refusal}
+use Rattle.refusal.specs.declared.Refusal.the-variants.{Length, Coordinate}
+use Rattle.refusal.specs.Refusals.{Answer, ok, refused, numberOf, unless}
+use Rattle.cyclic.specs.declared.mapping.CyclicMapping.{CyclicMapping}
+use Rattle.cyclic.specs.declared.seam.Seam.the-variants.{Joined, Unjoined}
+use Rattle.cyclic.specs.declared.seam.SeamSearch.{SeamSearch}
+use Rattle.cyclic.proofs.Mappings.{and-both}
+use Rattle.cyclic.specs.Search.{Row, Closeness, rowOf, searched, searchRows, search, rowFits, rowsCheck, newVector}
+
+-- Points
+
+pub inside : (start steps stride j : ℕ) {size : ℕ} → 3 * (start + steps * stride) + 3 ≤ size → j ≤ steps → 3 * (start + j * stride) + 3 ≤ size
+inside start steps stride j h l = omega (arith, mul-le-mul-right stride l)
+
+pub first-point : (l : List Float) (start stride : ℕ) → pointAt l start ≡ rowOf l start stride 0
+first-point l start stride = ap (pointAt l) (omega arith)
+
+pub whole-row : (l : List Float) → rowOf l 0 1 ≡ pointAt l
+whole-row l = fun-ext (λ j. ap (pointAt l) (omega arith))
+
+-- Lengths
+
+module _ (close : Closeness) (a b : Row) where
+  pub short-rows : (m n : ℕ) → (m < 2) ⊎ (m ≡ n → ⊥) → search close a b m n ≡ searched Unjoined 0
+  unfolding search
+  short-rows m n (inl l) = rw (lt-ltb m 2 l)
+  short-rows m n (inr f) = rw (ne-eqb m n f, or-true)
+
+  pub long-rows : (m n : ℕ) → 2 ≤ m → m ≡ n → search close a b m n ≡ searchRows close a b (m - 1)
+  unfolding search
+  long-rows m n l e = rw (le-ltb m 2 l, eq-eqb m n e)
+
+-- Tests
+
+unless-passed : (t : Bool) (k : Refusal) (after : Check) → unless t k after ≡ Passed → t ≡ true
+unless-passed true k after h = refl
+unless-passed false k after h = let z : _≡_ {A = ℕ} 0 1 = cc in absurd (omega arith)
+
+module _ (a b : List Float) where
+  pub no-length : rowFits a && rowFits b ≡ false → rowsCheck a b ≡ Failed Length
+  unfolding rowsCheck
+  no-length h = rw h
+
+  pub no-coordinate : rowFits a && rowFits b ≡ true → coordinatesFit a && coordinatesFit b ≡ false → rowsCheck a b ≡ Failed Coordinate
+  unfolding rowsCheck
+  no-coordinate h g = rw (h, g)
+
+  pub rows-pass : rowFits a && rowFits b ≡ true → coordinatesFit a && coordinatesFit b ≡ true → rowsCheck a b ≡ Passed
+  unfolding rowsCheck
+  rows-pass h g = rw (h, g)
+
+  pub passed-length : rowsCheck a b ≡ Passed → length a ≤ 196608
+  unfolding rowsCheck
+  passed-length h =
+      let t = unless-passed (rowFits a && rowFits b) Length (unless (coordinatesFit a && coordinatesFit b) Coordinate Passed) h in
+      let u = and-both (rowFits a) (rowFits b) t in
+      leb-true (length a) 196608 (and-both (eqb (length a % 3) 0) (leb (length a) 196608) (u .0) .1)
+
+-- The answer
+
+module _ (a b : List Float) where
+  pub refused-is : {k : Refusal} → rowsCheck a b ≡ Failed k → refused (numberOf k) ≡ newVector a b
+  unfolding newVector
+  refused-is h = rw h
+
+  pub answer-is : {s : SeamSearch} → rowsCheck a b ≡ Passed → s ≡ search allClose (pointAt a) (pointAt b) (length a / 3) (length b / 3) → ok s ≡ newVector a b
+  unfolding newVector
+  answer-is h e = rw h (ap ok e)

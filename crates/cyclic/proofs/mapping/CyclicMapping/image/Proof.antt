@@ -1,0 +1,52 @@
+-- `cyclic::mapping::CyclicMapping::image` meets its contract: the cases are those of `image`, at the variant that the match found. Assumes nothing.
+use native.Mathlib.Omega.{arith}
+use mathlib.Core.Path.{sym}
+use borrow.Author.Needs.{needs}
+use Rattle.cyclic.proofs.Mappings.{forward-zero, forward-other, usable-as}
+use Rattle.cyclic.proofs.mapping.CyclicMapping.image.Statement.{statement}
+use Rattle.cyclic.proofs.mapping.CyclicMapping.image.Tie as tie
+
+enum-known-self : tie.Need-enum-known-self
+enum-known-self c = search needs
+
+returns : tie.Need-returns
+returns c = rw (c .before .before .self .given .1) (sym (forward-zero _ _ _ (c .if1 .taken)))
+
+add-result : tie.Need-add-result
+add-result c =
+    let s = c .before .before in
+    let a = s .before .before in
+    let u = usable-as (a .args .a-idx) (s .self .given .1) (a .pre) in
+    omega arith
+
+rem-result : tie.Need-rem-result
+rem-result c =
+    let s = c .before .before in
+    let a = s .before .before in
+    let u = usable-as (a .args .a-idx) (s .self .given .1) (a .pre) in
+    omega arith
+
+enum-known-self-2 : tie.Need-enum-known-self-2
+enum-known-self-2 c = search needs
+
+reversed-requires : tie.Need-reversed-requires
+reversed-requires c κs = usable-as (c .before .before .before .args .a-idx) (c .before .self2 .given .1) (c .before .before .before .pre)
+
+returns-2 : tie.Need-returns-2
+returns-2 c = rw (c .before .before .self .given .1) (sym (forward-other _ _ _ (c .if1 .left)))
+
+returns-3 : tie.Need-returns-3
+returns-3 c = rw (c .before .before .self2 .given .1) (c .reversed .ensures)
+
+pub image-spec : {M : Type 1} → statement M
+image-spec =
+    tie.close
+    (tie.spec
+    enum-known-self
+    returns
+    add-result
+    rem-result
+    enum-known-self-2
+    reversed-requires
+    returns-2
+    returns-3)

@@ -1,0 +1,36 @@
+-- `cyclic::mapping::reversed` meets its contract: both cases are those of `image`, and j % steps is below steps. Assumes nothing.
+use Prim.Native.Nat.{_<_}
+use native.Mathlib.Nat.{mod-lt}
+use native.Mathlib.Omega.{arith}
+use borrow.Author.Needs.{needs}
+use borrow.Author.Tests.{eq-eqb, ne-eqb}
+use Rattle.cyclic.specs.Mapping.{image}
+use Rattle.cyclic.proofs.mapping.reversed.Statement.{statement}
+use Rattle.cyclic.proofs.mapping.reversed.Tie as tie
+
+sub-result : tie.Need-sub-result
+sub-result c = search needs
+
+returns : tie.Need-returns
+unfolding image
+returns c = rw (eq-eqb (c .before .args .offset) 0 (c .if1 .taken))
+
+add-result : tie.Need-add-result
+add-result c = search needs
+
+rem-result : tie.Need-rem-result
+rem-result c = search needs
+
+sub-result-2 : tie.Need-sub-result-2
+sub-result-2 c = omega (arith, mod-lt (c .before .args .j) {m = c .before .args .steps} (omega arith))
+
+rem-result-2 : tie.Need-rem-result-2
+rem-result-2 c = search needs
+
+returns-2 : tie.Need-returns-2
+unfolding image
+returns-2 c = rw (ne-eqb (c .before .args .offset) 0 (c .if1 .left))
+
+pub reversed-spec : {M : Type 1} → statement M
+reversed-spec =
+    tie.close (tie.spec sub-result returns add-result rem-result sub-result-2 rem-result-2 returns-2)

@@ -1,0 +1,276 @@
+-- `cyclic::seam::search_rows` meets its contract. The outer loop's invariant: the whole search is the search of the offsets that are left, after the
+-- comparisons so far. The inner loops': all points tried at an offset are the points that are left, after the comparisons so far, and k is the image of j.
+-- At most 131,072 comparisons are made at an offset, so that their sum fits. Assumes nothing.
+use Prim.Native.Nat.{_+_, _-_}
+use native.Mathlib.Omega.{arith}
+use mathlib.Core.Path.{sym}
+use mathlib.Core.Logic.{⊎-elim}
+use borrow.Author.Needs.{needs}
+use denote.Ref.{now}
+use Rattle.vector.specs.Vectors.{allClose}
+use Rattle.cyclic.specs.declared.mapping.CyclicMapping.the-variants.{Forward, Reverse}
+use Rattle.cyclic.specs.Search.{Row, rowOf}
+use Rattle.cyclic.proofs.Remains.{Trying, Searching, held, failed, first-point, next-point, last-point, far-point, all-offsets, one-offset, forward-fits, reverse-fits, next-offset, no-offset}
+use Rattle.cyclic.proofs.Rows.{inside}
+use Rattle.cyclic.proofs.seam.search_rows.Statement.{statement}
+use Rattle.cyclic.proofs.seam.search_rows.Tie as tie
+
+abbrev Inv-loop : tie.InvT-loop
+Inv-loop a a-start b b-start stride steps end comparisons₀ offset j₀ k₀ comparisons j k =
+    Trying allClose (rowOf a a-start stride) (rowOf b b-start stride) (Forward offset steps) comparisons₀ comparisons j k
+
+abbrev μ-loop : tie.MeasureT-loop
+μ-loop a a-start b b-start stride steps end comparisons₀ offset j₀ k₀ comparisons j k = steps - j
+
+abbrev Inv-loop2 : tie.InvT-loop2
+Inv-loop2 a a-start b b-start stride steps end comparisons₀ offset j k j₀ k₀ comparisons j' k' =
+    Trying allClose (rowOf a a-start stride) (rowOf b b-start stride) (Reverse offset steps) comparisons₀ comparisons j' k'
+
+abbrev μ-loop2 : tie.MeasureT-loop2
+μ-loop2 a a-start b b-start stride steps end comparisons₀ offset j k j₀ k₀ comparisons j' k' = steps - j'
+
+abbrev Inv-offsets : tie.InvT-offsets
+Inv-offsets a a-start b b-start stride steps end comparisons₀ offset₀ comparisons offset =
+    Searching allClose (rowOf a a-start stride) (rowOf b b-start stride) steps end comparisons offset
+
+abbrev μ-offsets : tie.MeasureT-offsets
+μ-offsets a a-start b b-start stride steps end comparisons₀ offset₀ comparisons offset = end - offset
+
+-- the two rows
+abbrev rowA : tie.Start Inv-loop μ-loop Inv-loop2 μ-loop2 Inv-offsets μ-offsets → Row
+rowA s = rowOf (now (s .args .a)) (s .args .a-start) (s .args .stride)
+
+abbrev rowB : tie.Start Inv-loop μ-loop Inv-loop2 μ-loop2 Inv-offsets μ-offsets → Row
+rowB s = rowOf (now (s .args .b)) (s .args .b-start) (s .args .stride)
+
+rows-closed-requires :
+    tie.Need-rows-closed-requires Inv-loop μ-loop Inv-loop2 μ-loop2 Inv-offsets μ-offsets
+rows-closed-requires c κs = search needs
+
+offsets-holds : tie.Need-offsets-holds Inv-loop μ-loop Inv-loop2 μ-loop2 Inv-offsets μ-offsets
+offsets-holds c =
+    let s = c .before .before .before .before in
+    ⊎-elim (λ w. rw (w .1) (all-offsets allClose (rowA s) (rowB s) (s .args .steps) (c .before .rows-closed .ensures) (w .0 .taken)))
+    (λ w. rw (w .1) (one-offset allClose (rowA s) (rowB s) (s .args .steps) (s .pre .steps-least) (c .before .rows-closed .ensures) (w .0 .left)))
+    (c .if1 .came)
+
+image-requires : tie.Need-image-requires Inv-loop μ-loop Inv-loop2 μ-loop2 Inv-offsets μ-offsets
+image-requires c κs = omega arith
+
+loop-holds : tie.Need-loop-holds Inv-loop μ-loop Inv-loop2 μ-loop2 Inv-offsets μ-offsets
+loop-holds c =
+    let o = c .before .before in
+    let s = o .before .before .before .before .before in
+    first-point allClose (rowA s) (rowB s) (Forward (o .offsets .offset) (s .args .steps)) (o .offsets .comparisons) (omega arith) (c .image .ensures)
+
+add-comparisons : tie.Need-add-comparisons Inv-loop μ-loop Inv-loop2 μ-loop2 Inv-offsets μ-offsets
+add-comparisons c = search needs
+
+mul-points-close :
+    tie.Need-mul-points-close Inv-loop μ-loop Inv-loop2 μ-loop2 Inv-offsets μ-offsets
+mul-points-close c =
+    let s = c .before .before .before .before .before .before .before .before in
+    omega (arith, inside (s .args .a-start) (s .args .steps) (s .args .stride) (c .loop .j) (s .pre .a-inside) (omega arith))
+
+add-points-close :
+    tie.Need-add-points-close Inv-loop μ-loop Inv-loop2 μ-loop2 Inv-offsets μ-offsets
+add-points-close c =
+    let s = c .before .before .before .before .before .before .before .before in
+    omega (arith, inside (s .args .a-start) (s .args .steps) (s .args .stride) (c .loop .j) (s .pre .a-inside) (omega arith))
+
+mul-points-close-2 :
+    tie.Need-mul-points-close-2 Inv-loop μ-loop Inv-loop2 μ-loop2 Inv-offsets μ-offsets
+mul-points-close-2 c =
+    let s = c .before .before .before .before .before .before .before .before in
+    omega (arith, inside (s .args .b-start) (s .args .steps) (s .args .stride) (c .loop .k) (s .pre .b-inside) (omega arith))
+
+add-points-close-2 :
+    tie.Need-add-points-close-2 Inv-loop μ-loop Inv-loop2 μ-loop2 Inv-offsets μ-offsets
+add-points-close-2 c =
+    let s = c .before .before .before .before .before .before .before .before in
+    omega (arith, inside (s .args .b-start) (s .args .steps) (s .args .stride) (c .loop .k) (s .pre .b-inside) (omega arith))
+
+points-close-requires :
+    tie.Need-points-close-requires Inv-loop μ-loop Inv-loop2 μ-loop2 Inv-offsets μ-offsets
+points-close-requires c κs =
+    let s = c .before .before .before .before .before .before .before .before in
+    (inside (s .args .a-start) (s .args .steps) (s .args .stride) (c .loop .j) (s .pre .a-inside) (omega arith), inside (s .args .b-start) (s .args .steps) (s .args .stride) (c .loop .k) (s .pre .b-inside) (omega arith))
+
+ahead-requires : tie.Need-ahead-requires Inv-loop μ-loop Inv-loop2 μ-loop2 Inv-offsets μ-offsets
+ahead-requires c κs = search needs
+
+add-j : tie.Need-add-j Inv-loop μ-loop Inv-loop2 μ-loop2 Inv-offsets μ-offsets
+add-j c = search needs
+
+loop-less : tie.Need-loop-less Inv-loop μ-loop Inv-loop2 μ-loop2 Inv-offsets μ-offsets
+loop-less c = search needs
+
+loop-again : tie.Need-loop-again Inv-loop μ-loop Inv-loop2 μ-loop2 Inv-offsets μ-offsets
+loop-again c =
+    let p = c .before .before .before in
+    let l = p .before in
+    let o = l .before .before .before in
+    let s = o .before .before .before .before .before in
+    next-point allClose (rowA s) (rowB s) (Forward (o .offsets .offset) (s .args .steps)) (l .loop .comparisons) (l .loop .j) (l .loop .k) (omega arith) (c .before .if4 .left) (l .loop .inv)
+    (held (p .points-close .ensures) (c .before .before .if3 .left))
+    (c .ahead .ensures (l .loop .j) (omega arith) (l .loop .inv .mapped))
+
+image-requires-2 :
+    tie.Need-image-requires-2 Inv-loop μ-loop Inv-loop2 μ-loop2 Inv-offsets μ-offsets
+image-requires-2 c κs = search needs
+
+loop2-holds : tie.Need-loop2-holds Inv-loop μ-loop Inv-loop2 μ-loop2 Inv-offsets μ-offsets
+loop2-holds c =
+    let p = c .before .before in
+    let l = p .before in
+    let o = l .before .before .before in
+    let s = o .before .before .before .before .before in
+    first-point allClose (rowA s) (rowB s) (Reverse (o .offsets .offset) (s .args .steps)) (l .loop .comparisons + 1) (omega arith) (c .image2 .ensures)
+
+add-comparisons-2 :
+    tie.Need-add-comparisons-2 Inv-loop μ-loop Inv-loop2 μ-loop2 Inv-offsets μ-offsets
+add-comparisons-2 c = search needs
+
+mul-points-close-3 :
+    tie.Need-mul-points-close-3 Inv-loop μ-loop Inv-loop2 μ-loop2 Inv-offsets μ-offsets
+mul-points-close-3 c =
+    let s = c .before .before .before .before .before .before .before .before .before .before .before .before in
+    omega (arith, inside (s .args .a-start) (s .args .steps) (s .args .stride) (c .loop2 .j) (s .pre .a-inside) (omega arith))
+
+add-points-close-3 :
+    tie.Need-add-points-close-3 Inv-loop μ-loop Inv-loop2 μ-loop2 Inv-offsets μ-offsets
+add-points-close-3 c =
+    let s = c .before .before .before .before .before .before .before .before .before .before .before .before in
+    omega (arith, inside (s .args .a-start) (s .args .steps) (s .args .stride) (c .loop2 .j) (s .pre .a-inside) (omega arith))
+
+mul-points-close-4 :
+    tie.Need-mul-points-close-4 Inv-loop μ-loop Inv-loop2 μ-loop2 Inv-offsets μ-offsets
+mul-points-close-4 c =
+    let s = c .before .before .before .before .before .before .before .before .before .before .before .before in
+    omega (arith, inside (s .args .b-start) (s .args .steps) (s .args .stride) (c .loop2 .k) (s .pre .b-inside) (omega arith))
+
+add-points-close-4 :
+    tie.Need-add-points-close-4 Inv-loop μ-loop Inv-loop2 μ-loop2 Inv-offsets μ-offsets
+add-points-close-4 c =
+    let s = c .before .before .before .before .before .before .before .before .before .before .before .before in
+    omega (arith, inside (s .args .b-start) (s .args .steps) (s .args .stride) (c .loop2 .k) (s .pre .b-inside) (omega arith))
+
+points-close-requires-2 :
+    tie.Need-points-close-requires-2 Inv-loop μ-loop Inv-loop2 μ-loop2 Inv-offsets μ-offsets
+points-close-requires-2 c κs =
+    let s = c .before .before .before .before .before .before .before .before .before .before .before .before in
+    (inside (s .args .a-start) (s .args .steps) (s .args .stride) (c .loop2 .j) (s .pre .a-inside) (omega arith), inside (s .args .b-start) (s .args .steps) (s .args .stride) (c .loop2 .k) (s .pre .b-inside) (omega arith))
+
+back-requires : tie.Need-back-requires Inv-loop μ-loop Inv-loop2 μ-loop2 Inv-offsets μ-offsets
+back-requires c κs = search needs
+
+add-j-2 : tie.Need-add-j-2 Inv-loop μ-loop Inv-loop2 μ-loop2 Inv-offsets μ-offsets
+add-j-2 c = search needs
+
+loop2-less : tie.Need-loop2-less Inv-loop μ-loop Inv-loop2 μ-loop2 Inv-offsets μ-offsets
+loop2-less c = search needs
+
+loop2-again : tie.Need-loop2-again Inv-loop μ-loop Inv-loop2 μ-loop2 Inv-offsets μ-offsets
+loop2-again c =
+    let p = c .before .before .before in
+    let l = p .before in
+    let e = l .before .before .before .before .before .before in
+    let o = e .before in
+    let s = o .before .before .before .before .before in
+    next-point allClose (rowA s) (rowB s) (Reverse (o .offsets .offset) (s .args .steps)) (l .loop2 .comparisons) (l .loop2 .j) (l .loop2 .k) (s .pre .steps-most, omega (arith, o .offsets .inv, e .if2 .left), l .loop2 .inv .point) (c .before .if6 .left) (l .loop2 .inv)
+    (held (p .points-close2 .ensures) (c .before .before .if5 .left))
+    (c .back .ensures (l .loop2 .j) (omega arith) (l .loop2 .inv .mapped))
+
+add-offset : tie.Need-add-offset Inv-loop μ-loop Inv-loop2 μ-loop2 Inv-offsets μ-offsets
+add-offset c = search needs
+
+offsets-less : tie.Need-offsets-less Inv-loop μ-loop Inv-loop2 μ-loop2 Inv-offsets μ-offsets
+offsets-less c = search needs
+
+offsets-again : tie.Need-offsets-again Inv-loop μ-loop Inv-loop2 μ-loop2 Inv-offsets μ-offsets
+offsets-again c =
+    let q = c .before in
+    let r = q .before in
+    let t = r .before .before in
+    let p = t .before in
+    let l = p .before in
+    let e = l .before .before in
+    let o = e .before in
+    let s = o .before .before .before .before .before in
+    next-offset allClose (rowA s) (rowB s) (s .args .steps) (o .before .if1 .end) (o .offsets .offset) (o .offsets .comparisons) (e .if2 .left) (o .offsets .inv) (omega arith)
+    (far-point allClose (rowA s) (rowB s) (Forward (o .offsets .offset) (s .args .steps)) (l .loop .comparisons) (l .loop .j) (l .loop .k) (l .loop .inv) (failed (p .points-close .ensures) (t .if3 .taken)))
+    (far-point allClose (rowA s) (rowB s) (Reverse (o .offsets .offset) (s .args .steps)) (r .loop2 .comparisons) (r .loop2 .j) (r .loop2 .k) (r .loop2 .inv) (failed (q .points-close2 .ensures) (c .if5 .taken)))
+
+returns : tie.Need-returns Inv-loop μ-loop Inv-loop2 μ-loop2 Inv-offsets μ-offsets
+returns c =
+    let o = c .before in
+    let s = o .before .before .before .before .before in
+    sym (no-offset allClose (rowA s) (rowB s) (s .args .steps) (o .before .if1 .end) (o .offsets .offset) (o .offsets .comparisons) (c .if2 .taken) (o .offsets .inv))
+
+returns-2 : tie.Need-returns-2 Inv-loop μ-loop Inv-loop2 μ-loop2 Inv-offsets μ-offsets
+returns-2 c =
+    let p = c .before .before in
+    let l = p .before in
+    let e = l .before .before in
+    let o = e .before in
+    let s = o .before .before .before .before .before in
+    let m = Forward (o .offsets .offset) (s .args .steps) in
+    sym (forward-fits allClose (rowA s) (rowB s) (s .args .steps) (o .before .if1 .end) (o .offsets .offset) (o .offsets .comparisons) (e .if2 .left) (o .offsets .inv)
+    (last-point allClose (rowA s) (rowB s) m (l .loop .comparisons) (l .loop .j) (l .loop .k) (c .if4 .taken) (l .loop .inv) (held (p .points-close .ensures) (c .before .if3 .left))))
+
+returns-3 : tie.Need-returns-3 Inv-loop μ-loop Inv-loop2 μ-loop2 Inv-offsets μ-offsets
+returns-3 c =
+    let q = c .before .before in
+    let r = q .before in
+    let t = r .before .before in
+    let p = t .before in
+    let l = p .before in
+    let e = l .before .before in
+    let o = e .before in
+    let s = o .before .before .before .before .before in
+    sym (reverse-fits allClose (rowA s) (rowB s) (s .args .steps) (o .before .if1 .end) (o .offsets .offset) (o .offsets .comparisons) (e .if2 .left) (o .offsets .inv)
+    (far-point allClose (rowA s) (rowB s) (Forward (o .offsets .offset) (s .args .steps)) (l .loop .comparisons) (l .loop .j) (l .loop .k) (l .loop .inv) (failed (p .points-close .ensures) (t .if3 .taken)))
+    (last-point allClose (rowA s) (rowB s) (Reverse (o .offsets .offset) (s .args .steps)) (r .loop2 .comparisons) (r .loop2 .j) (r .loop2 .k) (c .if6 .taken) (r .loop2 .inv) (held (q .points-close2 .ensures) (c .before .if5 .left))))
+
+pub search-rows-spec : {M : Type 1} → statement M
+search-rows-spec =
+    tie.close
+    (tie.spec
+    Inv-loop
+    μ-loop
+    Inv-loop2
+    μ-loop2
+    Inv-offsets
+    μ-offsets
+    rows-closed-requires
+    offsets-holds
+    image-requires
+    loop-holds
+    add-comparisons
+    mul-points-close
+    add-points-close
+    mul-points-close-2
+    add-points-close-2
+    points-close-requires
+    ahead-requires
+    add-j
+    loop-less
+    loop-again
+    image-requires-2
+    loop2-holds
+    add-comparisons-2
+    mul-points-close-3
+    add-points-close-3
+    mul-points-close-4
+    add-points-close-4
+    points-close-requires-2
+    back-requires
+    add-j-2
+    loop2-less
+    loop2-again
+    add-offset
+    offsets-less
+    offsets-again
+    returns
+    returns-2
+    returns-3)
