@@ -7,7 +7,7 @@ use mathlib.Core.Path.{_≡_, refl, sym, ap, _∙_}
 use mathlib.Core.Bool.{Bool, true, false, _&&_, true≢false}
 use mathlib.Core.List.{List, [], _∷_}
 use lib.Arith.{digits-lt, digits-div, digits-mod}
-use lib.Dec.{leb, eqb}
+use lib.Dec.{leb}
 use lib.Ieee.{Float, nan, inf, fin, le, ofBits}
 use lib.ListN.{length, getD, drop}
 use lib.Seq.{drop-cons}
@@ -35,12 +35,13 @@ abbrev pub andThen : Check → Check → Check
 andThen Passed after = after
 andThen (Failed k) after = Failed k
 
-and-both : (a b : Bool) → a && b ≡ true → (a ≡ true) × (b ≡ true)
+-- both halves of a test, and both of two tests that pass
+pub and-both : (a b : Bool) → a && b ≡ true → (a ≡ true) × (b ≡ true)
 and-both true true h = (refl, refl)
 and-both true false h = absurd (true≢false (sym h))
 and-both false b h = absurd (true≢false (sym h))
 
-unless-passed : (t : Bool) (k : Refusal) (after : Check) → unless t k after ≡ Passed → (t ≡ true) × (after ≡ Passed)
+pub unless-passed : (t : Bool) (k : Refusal) (after : Check) → unless t k after ≡ Passed → (t ≡ true) × (after ≡ Passed)
 unless-passed true k after h = (refl, h)
 unless-passed false k after h = let z : _≡_ {A = ℕ} 0 1 = cc in absurd (omega arith)
 

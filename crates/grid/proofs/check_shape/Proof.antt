@@ -3,7 +3,7 @@ use native.Mathlib.Omega.{arith}
 use mathlib.Core.Path.{sym, _∙_}
 use borrow.Author.Needs.{needs}
 use borrow.Author.Tests.{not-true, not-false, eq-eqb, ne-eqb}
-use Rattle.grid.specs.Grid.{stepsFit, shapeCheck}
+use Rattle.grid.specs.Grid.{shapeCheck}
 use Rattle.grid.proofs.Laws.{steps-known, points-most}
 use Rattle.grid.proofs.check_shape.Statement.{statement}
 use Rattle.grid.proofs.check_shape.Tie as tie

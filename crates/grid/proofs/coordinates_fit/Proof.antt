@@ -1,7 +1,6 @@
 -- `grid::coordinates_fit` meets its contract: what is left to test from i on answers for the whole list.
 use Prim.Native.Nat.{_≤_, _-_}
 use mathlib.Core.Path.{_≡_, sym, _∙_}
-use native.Mathlib.Omega.{arith}
 use lib.ListN.{length, drop, drop-of-length-le}
 use lib.Ieee.{nan}
 use borrow.Author.Needs.{needs}

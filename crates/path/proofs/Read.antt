@@ -1,0 +1,176 @@
+-- Lines that stand one after the other in a list of points, read back by `lineAt`: the start of line k is the count of points before it, its
+-- end the count with it, so the part between them is the line. First for any lines, then for those of a grid.
+use Prim.Native.Nat.{ℕ, zero, suc, _+_, _-_, _*_, _≤_, _<_}
+use native.Mathlib.Omega.{arith}
+use mathlib.Core.Path.{_≡_, refl, sym, ap, _∙_}
+use mathlib.Core.Bool.{Bool, true, false}
+use mathlib.Core.List.{List, [], _∷_, _++_, map, flatten, append-assoc}
+use lib.Dec.{ltb}
+use lib.Ieee.{Float}
+use lib.ListN.{length, getD, take, drop, replicate, length-append, length-replicate, take-append-drop, List·getD-append}
+use lib.Seq.{take-suc, take-all, take-at, drop-append-add, getD-append-add}
+use borrow.Author.Tests.{ltb-true, ltb-false}
+use Rattle.refusal.specs.declared.Check.the-variants.{Passed}
+use Rattle.lent.specs.Lent.{zeroFloat, filled}
+use Rattle.vector.specs.declared.Vector.{Vector}
+use Rattle.path.specs.GridPaths.{counting, alongU, alongV, gridLines, coordinates, startsFrom, pointCount, lineCount, pathsCheck, gridPaths}
+use Rattle.path.specs.Line.{lineStart, lineEnd, partOf, lineAt}
+use Rattle.path.specs.ReadBack.{lineOf, ReadBack}
+use Rattle.path.specs.Runs.{runs}
+use Rattle.path.proofs.Stores.{length-coordinates, coordinates-append}
+use Rattle.path.proofs.Lines.{flatten-append, grid-lines, length-flatten-runs}
+use Rattle.path.proofs.Checks.{passed-room}
+use Rattle.path.proofs.There.{There, span-there}
+
+append-nil : {A : Type 0} (l : List A) → l ++ [] ≡ l
+append-nil [] = refl
+append-nil {A} (x ∷ xs) = ap {B = List A} (λ r. x ∷ r) (append-nil xs)
+
+-- the count of points before line k
+abbrev before : List (List Vector) → ℕ → ℕ
+before ls k = length (flatten (take k ls))
+
+before-next : (ls : List (List Vector)) (k : ℕ) → k < length ls → before ls (suc k) ≡ before ls k + length (getD ls k [])
+unfolding flatten
+before-next ls k h =
+    rw (take-suc ls k [] h, flatten-append (take k ls) (getD ls k [] ∷ []), append-nil (getD ls k [])) (length-append (flatten (take k ls)) (getD ls k []))
+
+before-all : (ls : List (List Vector)) (k : ℕ) → before ls k ≤ length (flatten ls)
+before-all ls k =
+    let e : length (flatten ls) ≡ length (flatten (take k ls)) + length (flatten (drop k ls)) =
+    ap (λ (x : List (List Vector)). length (flatten x)) (sym (take-append-drop k ls)) ∙ ap length (flatten-append (take k ls) (drop k ls)) ∙ length-append (flatten (take k ls)) (flatten (drop k ls)) in
+    omega arith
+
+pub length-starts : (at : ℕ) (ls : List (List Vector)) → length (startsFrom at ls) ≡ length ls
+unfolding startsFrom
+length-starts at [] = refl
+length-starts at (l ∷ ls) = ap suc (length-starts (at + length l) ls)
+
+start-is : (at : ℕ) (ls : List (List Vector)) (k : ℕ) → k < length ls → getD (startsFrom at ls) k 0 ≡ at + before ls k
+unfolding startsFrom flatten
+start-is at [] k h = absurd (omega arith)
+start-is at (l ∷ ls) zero h = omega arith
+start-is at (l ∷ ls) (suc k) h = start-is (at + length l) ls k (omega arith) ∙ omega (arith, length-append l (flatten (take k ls)))
+
+-- the part of the points that line k occupies
+part-is-line : (ls : List (List Vector)) (k : ℕ) (zs : List Float) → k < length ls →
+    take (3 * length (getD ls k [])) (drop (3 * before ls k) (coordinates (flatten ls) ++ zs)) ≡ coordinates (getD ls k [])
+unfolding flatten
+part-is-line [] k zs h = absurd (omega arith)
+part-is-line (l ∷ ls) zero zs h =
+    rw (coordinates-append l (flatten ls), append-assoc (coordinates l) (coordinates (flatten ls)) zs) (take-at (coordinates l) (coordinates (flatten ls) ++ zs) (3 * length l) (length-coordinates l))
+part-is-line (l ∷ ls) (suc k) zs h =
+    let e : 3 * length (l ++ flatten (take k ls)) ≡ length (coordinates l) + 3 * before ls k = omega (arith, length-append l (flatten (take k ls)), length-coordinates l) in
+    rw (coordinates-append l (flatten ls), append-assoc (coordinates l) (coordinates (flatten ls)) zs, e, drop-append-add (coordinates l) (coordinates (flatten ls) ++ zs) (3 * before ls k))
+    (part-is-line ls k zs (omega arith))
+
+-- Any lines, drawn one after the other into lists that have room for them
+
+module _ (ls : List (List Vector)) (points : List Float) (starts : List ℕ) (roomy : 3 * length (flatten ls) ≤ length points) (room : length ls ≤ length starts) where
+  drawnPoints : List Float
+  drawnPoints = filled zeroFloat (coordinates (flatten ls)) points
+
+  drawnStarts : List ℕ
+  drawnStarts = filled 0 (startsFrom 0 ls) starts
+
+  start-at : (k : ℕ) → k < length ls → lineStart drawnStarts k ≡ before ls k
+  unfolding drawnStarts
+  start-at k h =
+      let l : k < length (startsFrom 0 ls) = omega (arith, length-starts 0 ls) in
+      let s : 0 + before ls k ≡ before ls k = omega arith in
+      List·getD-append (startsFrom 0 ls) (replicate (length starts - length (startsFrom 0 ls)) 0) 0 k l ∙ start-is 0 ls k h ∙ s
+
+  end-at : (k : ℕ) → k < length ls → lineEnd drawnStarts (length (flatten ls)) (length ls) k ≡ before ls k + length (getD ls k [])
+  unfolding lineEnd
+  end-at k h = go (ltb (k + 1) (length ls)) refl
+    where
+      one : k + 1 ≡ suc k
+      one = omega arith
+
+      go : (t : Bool) → ltb (k + 1) (length ls) ≡ t → lineEnd drawnStarts (length (flatten ls)) (length ls) k ≡ before ls k + length (getD ls k [])
+      go true e = rw (e, start-at (k + 1) (ltb-true _ _ e), one) (before-next ls k h)
+      go false e =
+          let all : take (suc k) ls ≡ ls = take-all (suc k) ls (omega (arith, ltb-false (k + 1) (length ls) e)) in
+          rw e (ap (λ (x : List (List Vector)). length (flatten x)) (sym all) ∙ before-next ls k h)
+
+  there : (k : ℕ) → k < length ls → There drawnPoints drawnStarts (length (flatten ls)) (length ls) k
+  unfolding drawnPoints drawnStarts
+  there k h =
+      let s = start-at k h in
+      let e = end-at k h in
+      let b : before ls k + length (getD ls k []) ≤ length (flatten ls) = omega (arith, before-next ls k h, before-all ls (suc k)) in
+      record {
+        below = h;
+        points-fit = simp (length-append, length-replicate, length-coordinates) (omega arith);
+        starts-fit = simp (length-append, length-replicate, length-starts) (omega arith);
+        ordered = omega arith;
+        within = omega arith;
+      }
+
+  -- line k read back
+  pub line-read : (k : ℕ) → k < length ls →
+      lineAt (filled zeroFloat (coordinates (flatten ls)) points) (filled 0 (startsFrom 0 ls) starts) (length (flatten ls)) (length ls) k ≡ coordinates (getD ls k [])
+  unfolding lineAt drawnPoints drawnStarts
+  line-read k h =
+      let w : 3 * (before ls k + length (getD ls k [])) - 3 * before ls k ≡ 3 * length (getD ls k []) = omega arith in
+      ap (partOf drawnPoints) (span-there drawnPoints drawnStarts (length (flatten ls)) (length ls) k (there k h))
+      ∙ rw (start-at k h, end-at k h, w) (part-is-line ls k (replicate (length points - length (coordinates (flatten ls))) zeroFloat) h)
+
+-- The lines of a grid
+
+getD-counting : {A : Type 0} (f : ℕ → A) (d : A) (a c k : ℕ) → k < c → getD (map f (counting a c)) k d ≡ f (a + k)
+unfolding counting
+getD-counting f d a zero k h = absurd (omega arith)
+getD-counting f d a (suc c) zero h = let e : a + 0 ≡ a = omega arith in rw e
+getD-counting f d a (suc c) (suc k) h = let e : suc a + k ≡ a + suc k = omega arith in getD-counting f d (suc a) c k (omega arith) ∙ ap f e
+
+length-counting : {A : Type 0} (f : ℕ → A) (a c : ℕ) → length (map f (counting a c)) ≡ c
+unfolding counting
+length-counting f a zero = refl
+length-counting f a (suc c) = ap suc (length-counting f (suc a) c)
+
+pub line-count : (g : List Float) (m n : ℕ) → length (gridLines g m n) ≡ lineCount m n
+unfolding gridLines
+line-count g m n =
+    length-append (map (alongU g m n) (counting 0 (suc n))) (map (alongV g m n) (counting 0 (suc m)))
+    ∙ omega (arith, length-counting (alongU g m n) 0 (suc n), length-counting (alongV g m n) 0 (suc m))
+
+pub point-count : (g : List Float) (m n : ℕ) → length (flatten (gridLines g m n)) ≡ pointCount m n
+point-count g m n =
+    let us : List (List Vector) = runs g 0 1 (n + 1) (m + 1) (n + 1) in
+    let vs : List (List Vector) = runs g 0 (n + 1) 1 (n + 1) (m + 1) in
+    ap (λ (ls : List (List Vector)). length (flatten ls)) (grid-lines g m n) ∙ ap length (flatten-append us vs) ∙ length-append (flatten us) (flatten vs)
+    ∙ omega (arith, length-flatten-runs g 0 1 (n + 1) (m + 1) (n + 1), length-flatten-runs g 0 (n + 1) 1 (n + 1) (m + 1))
+
+line-u : (g : List Float) (m n v : ℕ) → v ≤ n → getD (gridLines g m n) v [] ≡ alongU g m n v
+unfolding gridLines
+line-u g m n v h =
+    let l : v < length (map (alongU g m n) (counting 0 (suc n))) = omega (arith, length-counting (alongU g m n) 0 (suc n)) in
+    let z : 0 + v ≡ v = omega arith in
+    List·getD-append (map (alongU g m n) (counting 0 (suc n))) (map (alongV g m n) (counting 0 (suc m))) [] v l
+    ∙ getD-counting (alongU g m n) [] 0 (suc n) v (omega arith) ∙ ap (alongU g m n) z
+
+line-v : (g : List Float) (m n u : ℕ) → u ≤ m → getD (gridLines g m n) (n + 1 + u) [] ≡ alongV g m n u
+unfolding gridLines
+line-v g m n u h =
+    let us : List (List Vector) = map (alongU g m n) (counting 0 (suc n)) in
+    let e : n + 1 + u ≡ length us + u = omega (arith, length-counting (alongU g m n) 0 (suc n)) in
+    let z : 0 + u ≡ u = omega arith in
+    ap (λ (k : ℕ). getD (us ++ map (alongV g m n) (counting 0 (suc m))) k []) e ∙ getD-append-add us (map (alongV g m n) (counting 0 (suc m))) u []
+    ∙ getD-counting (alongV g m n) [] 0 (suc m) u (omega arith) ∙ ap (alongV g m n) z
+
+module _ (g : List Float) (m n : ℕ) (points : List Float) (starts : List ℕ) (passed : pathsCheck g m n points starts ≡ Passed) where
+  line-of : (k : ℕ) → k < lineCount m n → lineOf g m n points starts k ≡ coordinates (getD (gridLines g m n) k [])
+  unfolding gridPaths
+  line-of k h =
+      let r = passed-room g m n points starts passed in
+      let p = point-count g m n in
+      let l = line-count g m n in
+      rw (passed, ← p, ← l) (line-read (gridLines g m n) points starts (omega arith) (omega arith) k (omega arith))
+
+  pub read-back : ReadBack g m n points starts
+  read-back =
+      record {
+        along-u = λ v h. line-of v (omega arith) ∙ ap coordinates (line-u g m n v h);
+        along-v = λ u h. line-of (n + 1 + u) (omega arith) ∙ ap coordinates (line-v g m n u h);
+      }

@@ -1,0 +1,88 @@
+-- When a line is there, as facts: `lineSpan` answers by the test, and these turn the test into its five facts and back.
+use Prim.Native.Nat.{ℕ, _*_, _≤_, _<_}
+use native.Mathlib.Omega.{arith}
+use mathlib.Core.Path.{_≡_, refl, sym, ap, _∙_}
+use mathlib.Core.Bool.{Bool, true, false, _&&_, cond}
+use mathlib.Core.List.{List}
+use lib.Dec.{leb, ltb}
+use lib.Ieee.{Float}
+use lib.ListN.{length}
+use borrow.Author.Tests.{ltb-true, leb-true, lt-ltb, le-leb}
+use Rattle.refusal.specs.Refusals.{Answer, ok, refused}
+use Rattle.grid.proofs.Laws.{and-both}
+use Rattle.path.specs.declared.LineAnswer.{LineAnswer}
+use Rattle.path.specs.declared.LineAnswer.the-variants.{Span}
+use Rattle.path.specs.Line.{Ends, lineStart, lineEnd, isThere, lineSpan, partOf, lineAt, statedLine}
+
+pub record There (points : List Float) (starts : List ℕ) (pointCount lineCount index : ℕ) : Type 0 where
+  pub below : index < lineCount
+  pub points-fit : 3 * pointCount ≤ length points
+  pub starts-fit : lineCount ≤ length starts
+  pub ordered : lineStart starts index ≤ lineEnd starts pointCount lineCount index
+  pub within : lineEnd starts pointCount lineCount index ≤ pointCount
+
+module _ (points : List Float) (starts : List ℕ) (pointCount lineCount index : ℕ) where
+  abbrev spanned : Answer Ends
+  spanned = ok (record { start = lineStart starts index; end = lineEnd starts pointCount lineCount index })
+
+  is-there : There points starts pointCount lineCount index → isThere points starts pointCount lineCount index ≡ true
+  unfolding isThere
+  is-there t = rw (lt-ltb _ _ (t .below), le-leb _ _ (t .points-fit), le-leb _ _ (t .starts-fit), le-leb _ _ (t .ordered), le-leb _ _ (t .within))
+
+  there : isThere points starts pointCount lineCount index ≡ true → There points starts pointCount lineCount index
+  unfolding isThere
+  there h =
+      let s = lineStart starts index in
+      let e = lineEnd starts pointCount lineCount index in
+      let p = leb (3 * pointCount) (length points) in
+      let q = leb lineCount (length starts) in
+      let a = and-both (ltb index lineCount) ((p && q) && (leb s e && leb e pointCount)) h in
+      let b = and-both (p && q) (leb s e && leb e pointCount) (a .1) in
+      let f = and-both p q (b .0) in
+      let o = and-both (leb s e) (leb e pointCount) (b .1) in
+      record { below = ltb-true _ _ (a .0); points-fit = leb-true _ _ (f .0); starts-fit = leb-true _ _ (f .1); ordered = leb-true _ _ (o .0); within = leb-true _ _ (o .1) }
+
+  -- the span of a line that is there, and 8 for one that is not
+  pub span-there : There points starts pointCount lineCount index → lineSpan points starts pointCount lineCount index ≡ ok (record { start = lineStart starts index; end = lineEnd starts pointCount lineCount index })
+  unfolding lineSpan
+  span-there t = rw (is-there t)
+
+  pub span-not : (There points starts pointCount lineCount index → ⊥) → lineSpan points starts pointCount lineCount index ≡ refused 8
+  unfolding lineSpan
+  span-not f = go (isThere points starts pointCount lineCount index) refl
+    where
+      go : (t : Bool) → isThere points starts pointCount lineCount index ≡ t → cond t spanned (refused 8) ≡ refused 8
+      go true e = absurd (f (there e))
+      go false e = refl
+
+  -- an answer that is no refusal is of a line that is there
+  pub span-ok : {e : Ends} → ok e ≡ lineSpan points starts pointCount lineCount index → There points starts pointCount lineCount index
+  unfolding lineSpan
+  span-ok {e} h = go (isThere points starts pointCount lineCount index) refl h
+    where
+      go : (t : Bool) → isThere points starts pointCount lineCount index ≡ t → ok e ≡ cond t spanned (refused 8) → There points starts pointCount lineCount index
+      go true q h = there q
+      go false q h = let z : _≡_ {A = ℕ} 0 1 = cc in absurd (omega arith)
+
+  -- where a line lies whose ends were answered
+  pub span-bounds : {r : LineAnswer} {s e : ℕ} → r ≡ Span s e → statedLine r ≡ lineSpan points starts pointCount lineCount index → (s ≤ e) × (3 * e ≤ length points)
+  span-bounds {r} {s} {e} i h =
+      let ends : ok (record { start = s; end = e }) ≡ lineSpan points starts pointCount lineCount index = ap statedLine (sym i) ∙ h in
+      let t = span-ok ends in
+      let same = ends ∙ span-there t in
+      let a : s ≡ lineStart starts index = ap startOf same in
+      let b : e ≡ lineEnd starts pointCount lineCount index = ap endOf same in
+      (omega arith, omega arith)
+    where
+      startOf : Answer Ends → ℕ
+      startOf (ok x) = x .start
+      startOf (refused k) = 0
+
+      endOf : Answer Ends → ℕ
+      endOf (ok x) = x .end
+      endOf (refused k) = 0
+
+  -- the part that an answer gives
+  pub part-is : {r : LineAnswer} {q : LineAnswer} → r ≡ q → statedLine r ≡ lineSpan points starts pointCount lineCount index → partOf points (statedLine q) ≡ lineAt points starts pointCount lineCount index
+  unfolding lineAt
+  part-is i h = ap (λ (x : LineAnswer). partOf points (statedLine x)) (sym i) ∙ ap (partOf points) h

@@ -1,0 +1,53 @@
+-- `path::draw::starts` meets its contract: the lines along u have M+1 points each, those along v N+1, and the rest is zeroed.
+use native.Mathlib.Omega.{arith}
+use Rattle.grid.proofs.Laws.{points-most}
+use Rattle.path.proofs.Lines.{starts-drawn}
+use borrow.Author.Needs.{needs}
+use Rattle.path.proofs.draw.starts.Statement.{statement}
+use Rattle.path.proofs.draw.starts.Tie as tie
+
+add-us : tie.Need-add-us
+add-us c = search needs
+
+add-vs : tie.Need-add-vs
+add-vs c = search needs
+
+put-spaced-requires : tie.Need-put-spaced-requires
+put-spaced-requires c κs = let s = c .before .before in omega (arith, points-most (s .args .m) (s .args .n) (s .pre .0) (s .pre .1))
+
+mul-put-spaced : tie.Need-mul-put-spaced
+mul-put-spaced c = let s = c .before .before .before .before .before .before in omega (arith, points-most (s .args .m) (s .args .n) (s .pre .0) (s .pre .1))
+
+put-spaced-requires-2 : tie.Need-put-spaced-requires-2
+put-spaced-requires-2 c κs = let s = c .before .before .before .before .before .before in omega (arith, points-most (s .args .m) (s .args .n) (s .pre .0) (s .pre .1))
+
+add-zero-numbers : tie.Need-add-zero-numbers
+add-zero-numbers c = search needs
+
+zero-numbers-requires : tie.Need-zero-numbers-requires
+zero-numbers-requires c κs = search needs
+
+same-length : tie.Need-same-length
+same-length c = search needs
+
+returns : tie.Need-returns
+returns c =
+    let z = c .before .before in
+    let d2 = z .before .before .before .before in
+    let d1 = d2 .before .before .before .before in
+    let s = d1 .before .before .before in
+    starts-drawn (s .args .m) (s .args .n) (s .args .starts .now) (s .pre .2) (d1 .put-spaced .ensures) (d2 .put-spaced2 .ensures) (z .zero-numbers .ensures)
+
+pub starts-spec : {M : Type 1} → statement M
+starts-spec =
+    tie.close
+    (tie.spec
+    add-us
+    add-vs
+    put-spaced-requires
+    mul-put-spaced
+    put-spaced-requires-2
+    add-zero-numbers
+    zero-numbers-requires
+    same-length
+    returns)

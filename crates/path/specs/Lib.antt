@@ -1,0 +1,5 @@
+-- The definitions that the contracts of this crate cite.
+pub mod GridPaths
+pub mod Line
+pub mod ReadBack
+pub mod Runs

@@ -1,0 +1,95 @@
+// What `grid_paths` writes. A grid line is a run: points whose numbers are `step` apart. The lines of one kind are runs of
+// `count` points each whose first numbers are `apart` apart, so that u and v share the loops.
+ghost use mathlib.Core.Path.{_≡_};
+ghost use Prim.Native.Nat.{_+_, _*_, _≤_};
+ghost use mathlib.Core.List.{_++_, flatten};
+ghost use lib.ListN.{length};
+ghost use lib.Seq.{sets};
+ghost use Rattle.lent.specs.Lent.{zeroFloat, filled};
+ghost use Rattle.path.specs.GridPaths.{gridLines, coordinates};
+ghost use Rattle.path.specs.Runs.{run, runs, spaced};
+
+// One run, into `points` from place `at` on.
+fn draw_run(grid: &[f64], first: usize, step: usize, count: usize, points: &mut [f64], at: usize)
+    requires { ⌜ (3 * (first + count * step) + 3 ≤ length (now grid) + 3 * step) × (step ≤ 256) × (at + 3 * count ≤ length (now points)) ⌝ }
+    ensures { λ _. ⌜ now (points .exit) ≡ sets (now (points .entry)) at (coordinates (run (now (grid .entry)) first step count)) ⌝ }
+{
+    let mut number = first;
+    let mut place = at;
+    let mut left = count;
+    while 0 < left {
+        let p = grid::point_at(grid, number);
+        points[place] = p.x;
+        points[place + 1] = p.y;
+        points[place + 2] = p.z;
+        number += step;
+        place += 3;
+        left -= 1;
+    }
+}
+
+// Runs one after the other, into `points` from place `at` on; the first starts at point number 0.
+fn draw_runs(
+    grid: &[f64],
+    lines: usize,
+    apart: usize,
+    step: usize,
+    count: usize,
+    points: &mut [f64],
+    at: usize,
+)
+    requires { ⌜ (3 * (lines * apart + count * step) + 3 ≤ length (now grid) + 3 * step + 3 * apart) × (step ≤ 256) × (apart ≤ 256)
+        × (at + lines * (3 * count) ≤ length (now points)) ⌝ }
+    ensures { λ _. ⌜ now (points .exit) ≡ sets (now (points .entry)) at (coordinates (flatten (runs (now (grid .entry)) 0 apart step count lines))) ⌝ }
+{
+    let mut first: usize = 0;
+    let mut place = at;
+    let mut left = lines;
+    while 0 < left {
+        draw_run(grid, first, step, count, points, place);
+        first += apart;
+        place += 3 * count;
+        left -= 1;
+    }
+}
+
+// Numbers `step` apart, `lines` of them from `first` on, into `starts` from place `at` on.
+fn put_spaced(starts: &mut [usize], at: usize, first: usize, step: usize, lines: usize)
+    requires { ⌜ (first + lines * step ≤ 1048576) × (at + lines ≤ length (now starts)) ⌝ }
+    ensures { λ _. ⌜ now (starts .exit) ≡ sets (now (starts .entry)) at (spaced first step lines) ⌝ }
+{
+    let mut number = first;
+    let mut place = at;
+    let mut left = lines;
+    while 0 < left {
+        starts[place] = number;
+        number += step;
+        place += 1;
+        left -= 1;
+    }
+}
+
+// The points of all lines, and zero past them.
+pub fn points(grid: &[f64], m: usize, n: usize, points: &mut [f64])
+    requires { ⌜ (m ≤ 255) × (n ≤ 255) × (length (now grid) ≡ 3 * ((m + 1) * (n + 1))) × (6 * ((m + 1) * (n + 1)) ≤ length (now points)) ⌝ }
+    ensures { λ _. ⌜ now (points .exit) ≡ filled zeroFloat (coordinates (flatten (gridLines (now (grid .entry)) m n))) (now (points .entry)) ⌝ }
+{
+    let us = m + 1;
+    let vs = n + 1;
+    let half = 3 * (us * vs);
+    draw_runs(grid, vs, 1, vs, us, points, 0);
+    draw_runs(grid, us, vs, 1, vs, points, half);
+    lent::zero_floats(points, 2 * half);
+}
+
+// The starts of all lines, and zero past them.
+pub fn starts(m: usize, n: usize, starts: &mut [usize])
+    requires { ⌜ (m ≤ 255) × (n ≤ 255) × (m + n + 2 ≤ length (now starts)) ⌝ }
+    ensures { λ _. ⌜ now (starts .exit) ≡ filled 0 (spaced 0 (m + 1) (n + 1) ++ spaced ((m + 1) * (n + 1)) (n + 1) (m + 1)) (now (starts .entry)) ⌝ }
+{
+    let us = m + 1;
+    let vs = n + 1;
+    put_spaced(starts, 0, 0, us, vs);
+    put_spaced(starts, vs, us * vs, vs, us);
+    lent::zero_numbers(starts, us + vs);
+}
