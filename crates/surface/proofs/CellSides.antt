@@ -14,20 +14,27 @@ use Rattle.surface.proofs.Strip.{Strip, crossing, colOf, rowOf, pointOf
 abbrev pub Cell : Strip → ℕ → ℕ → Type 0
 Cell S x y = (x < S .X) × (y < S .Y)
 
--- the ends of the side of kind k of cell (x, y): the low one (false) or the high one (true); a diagonal is both
-abbrev pub endsOf : Strip → Kind → Split → Bool → ℕ → ℕ → ℕ × ℕ
-endsOf S straight d false x y = (pointOf S x y, pointOf S x (y + 1))
-endsOf S straight d true x y = (pointOf S (x + 1) y, pointOf S (x + 1) (y + 1))
-endsOf S across d false x y = (pointOf S x y, pointOf S (x + 1) y)
-endsOf S across d true x y = (pointOf S x (y + 1), pointOf S (x + 1) (y + 1))
-endsOf S diagonal falling t x y = (pointOf S x (y + 1), pointOf S (x + 1) y)
-endsOf S diagonal rising t x y = (pointOf S x y, pointOf S (x + 1) (y + 1))
+-- no step on, or one
+abbrev pub shift : Bool → ℕ → ℕ
+shift false n = n
+shift true n = n + 1
+
+-- the corner of cell (x, y) that is i columns and j rows on
+abbrev pub corners : Strip → ℕ → ℕ → Bool → Bool → ℕ
+corners S x y i j = pointOf S (shift i x) (shift j y)
+
+-- the two ends of a cell's side, by the cell's corners: the low one (false) or the high one (true) of its kind; a diagonal is both
+abbrev pub endsOf : (Bool → Bool → ℕ) → Kind → Split → Bool → ℕ × ℕ
+endsOf c straight d t = (c t false, c t true)
+endsOf c across d t = (c false t, c true t)
+endsOf c diagonal falling t = (c false true, c true false)
+endsOf c diagonal rising t = (c false false, c true true)
 
 unfoldable pub sideFrom : Strip → Kind → Bool → ℕ → ℕ → ℕ
-sideFrom S k t x y = endsOf S k (S .split) t x y .0
+sideFrom S k t x y = endsOf (corners S x y) k (S .split) t .0
 
 unfoldable pub sideTo : Strip → Kind → Bool → ℕ → ℕ → ℕ
-sideTo S k t x y = endsOf S k (S .split) t x y .1
+sideTo S k t x y = endsOf (corners S x y) k (S .split) t .1
 
 -- its name
 abbrev pub nameX : Strip → Kind → Bool → ℕ → ℕ
@@ -99,8 +106,8 @@ module _ (S : Strip) where
   named diagonal t x y c = go split
     where
       go : (d : Split) →
-          ((false ≡ false) × (endsOf S diagonal d t x y .0 ≡ num x (fromY S diagonal d y)) × (endsOf S diagonal d t x y .1 ≡ num (colOf S (x + 1)) (toY S diagonal d x y)))
-          ⊎ ((false ≡ true) × (endsOf S diagonal d t x y .0 ≡ num (colOf S (x + 1)) (toY S diagonal d x y)) × (endsOf S diagonal d t x y .1 ≡ num x (fromY S diagonal d y)))
+          ((false ≡ false) × (endsOf (corners S x y) diagonal d t .0 ≡ num x (fromY S diagonal d y)) × (endsOf (corners S x y) diagonal d t .1 ≡ num (colOf S (x + 1)) (toY S diagonal d x y)))
+          ⊎ ((false ≡ true) × (endsOf (corners S x y) diagonal d t .0 ≡ num (colOf S (x + 1)) (toY S diagonal d x y)) × (endsOf (corners S x y) diagonal d t .1 ≡ num x (fromY S diagonal d y)))
       go falling = inl (refl, up x y (c .0), pt (x + 1) y (colOf S (x + 1)) (rowOf S (x + 1) y) refl refl)
       go rising = inl (refl, low x y (c .0) (c .1), pt (x + 1) (y + 1) (colOf S (x + 1)) (rowOf S (x + 1) (y + 1)) refl refl)
 

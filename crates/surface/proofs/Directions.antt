@@ -11,7 +11,7 @@ use Rattle.surface.specs.Surface.{Seam, unjoined, forward, reverse, join
 use Rattle.surface.proofs.Steps.{laidOn, on-below}
 use Rattle.surface.proofs.Strip.{Strip, Kind, straight, across, diagonal, nameFrom, nameTo, fromY, toX, toY, Valid, x-le, toX-le, fromY-le, toY-le, turned, colOf, stepAt, col-ne, next-ne}
 use Rattle.surface.proofs.CellSides.{Cell, sideFrom, sideTo, nameX, nameY, turnedAt, valid, Named, named, far-col, far-step}
-use Rattle.surface.proofs.Owners.{same-or-not, not-self, Holds, compare, SameTri, Opposite}
+use Rattle.surface.proofs.Owners.{same-flip, same-or-not, not-self, Holds, compare, SameTri, Opposite}
 
 module _ (S : Strip) where
   open Strip S using (X, Y, closed, seam, split, num, X≥3, Y≥3, fits, inj)
@@ -222,12 +222,12 @@ module _ (S : Strip) where
   along-ends w a b c d (inl e) = (e .1 ∙ ap (λ (z : Bool). pick z c d) (sym (e .0)), e .2 ∙ ap (λ (z : Bool). pick z d c) (sym (e .0)))
   along-ends w a b c d (inr e) = (e .1 ∙ ap (λ (z : Bool). pick z c d) (sym (e .0)), e .2 ∙ ap (λ (z : Bool). pick z d c) (sym (e .0)))
 
+  pub ends-along : (w : Bool) (a b c d : ℕ) → a ≡ pick w c d → b ≡ pick w d c → Along w a b c d
+  ends-along true a b c d p q = inl (refl, p, q)
+  ends-along false a b c d p q = inr (refl, p, q)
+
   pub holds-flip : (h : Bool) (x y a b : ℕ) → Holds S h x y a b → Holds S h x y b a
-  holds-flip h x y a b p = record { k = p .k; t = p .t; cell = p .cell; on = p .on; ends = flip (p .ends) }
-    where
-      flip : {a b c d : ℕ} → Same a b c d → Same b a c d
-      flip (inl e) = inr (e .1, e .0)
-      flip (inr e) = inl (e .1, e .0)
+  holds-flip h x y a b p = record { k = p .k; t = p .t; cell = p .cell; on = p .on; ends = same-flip (p .ends) }
 
   pub holds-runs : (h : Bool) (x y a b : ℕ) → Holds S h x y a b → Runs h x y a b ⊎ Runs h x y b a
   holds-runs h x y a b p = go (dir (p .k) (p .t)) refl (p .ends)

@@ -12,6 +12,10 @@ pub same-sym : {a b c d : ℕ} → Same a b c d → Same c d a b
 same-sym (inl e) = inl (sym (e .0), sym (e .1))
 same-sym (inr e) = inr (sym (e .1), sym (e .0))
 
+pub same-flip : {a b c d : ℕ} → Same a b c d → Same b a c d
+same-flip (inl e) = inr (e .1, e .0)
+same-flip (inr e) = inl (e .1, e .0)
+
 pub same-trans : {a b c d e f : ℕ} → Same a b c d → Same c d e f → Same a b e f
 same-trans (inl p) (inl q) = inl (p .0 ∙ q .0, p .1 ∙ q .1)
 same-trans (inl p) (inr q) = inr (p .0 ∙ q .0, p .1 ∙ q .1)
