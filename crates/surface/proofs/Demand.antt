@@ -214,7 +214,7 @@ module _ (s : Shape) (m : 3 ≤ s .M) (n : 3 ≤ s .N) (ax : Axis) (seen : SeenA
 
   high-is : (x y : ℕ) → x + 1 ≡ Z .X → y < Z .Y → highs ax s y ≡ indexOf high-half x y
   unfolding indexOf high-half strip
-  high-is x y e h = high-index s ax x y e
+  high-is x y e h = let last : Z .X - 1 ≡ x = omega arith in high-index s ax y ∙ ap (λ (z : ℕ). index s (Z .half straight true) (xOf ax z y) (yOf ax z y)) last
 
   on-lt : (y : ℕ) → y < Z .Y → on y < Z .Y
   on-lt y h = on-below (Z .seam) (Z .closed) (Z .Y) y (Z .fits) h

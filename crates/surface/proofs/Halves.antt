@@ -1,14 +1,15 @@
 -- The two triangles of a cell by its sides: which of them has a side, and whether it runs along it from its first end to its second. Here a
 -- straight side is a step of v and a side across is a step of u. Assumes nothing.
-use Prim.Native.Nat.{ℕ, zero, suc, _+_}
-use mathlib.Core.Path.{_≡_, refl, sym}
+use Prim.Native.Nat.{ℕ, zero, suc, _+_, _-_, _*_, _<_}
+use mathlib.Core.Path.{_≡_, refl, sym, subst}
 use mathlib.Core.Logic.{_⊎_, inl, inr}
 use mathlib.Core.Bool.{Bool, true, false, not}
+use native.Mathlib.Omega.{arith}
 use Rattle.cyclic.specs.Mapping.{pick}
-use Rattle.surface.specs.Surface.{Split, falling, rising, Shape, corner, halfOf, Follows}
+use Rattle.surface.specs.Surface.{Split, falling, rising, Shape, corner, halfOf, slots, bySplit, lowU, highU, lowV, highV, Follows}
 use Rattle.surface.proofs.Strip.{Kind, straight, across, diagonal}
 use Rattle.surface.proofs.CellSides.{shift, endsOf}
-use Rattle.surface.proofs.Triangles.{halfNum}
+use Rattle.surface.proofs.Triangles.{halfNum, index, index-lt}
 
 -- the half that has the low (false) or high (true) side of a kind; of a diagonal the low one is the first half's
 abbrev pub cellHalf : Split → Kind → Bool → Bool
@@ -73,3 +74,51 @@ module _ (s : Shape) (u v : ℕ) where
     run-follows rising across true p q = inr (inl (sym p, sym q))
     run-follows rising diagonal false p q = inr (inr (sym p, sym q))
     run-follows rising diagonal true p q = inl (sym p, sym q)
+
+-- ---- the slots of the rims
+
+-- each is the half that has the rim's side of its cell
+module _ (s : Shape) (y : ℕ) where
+  pub lowU-index : lowU s y ≡ index s (cellHalf (s .split) straight false) 0 y
+  unfolding lowU index
+  lowU-index = go (s .split)
+    where
+      go : (d : Split) → 2 * y + bySplit d 0 1 ≡ 2 * (0 * s .N + y) + halfNum (cellHalf d straight false)
+      go falling = omega arith
+      go rising = omega arith
+
+  pub highU-index : highU s y ≡ index s (cellHalf (s .split) straight true) (s .M - 1) y
+  unfolding highU index
+  highU-index = go (s .split)
+    where
+      go : (d : Split) → 2 * ((s .M - 1) * s .N + y) + bySplit d 1 0 ≡ 2 * ((s .M - 1) * s .N + y) + halfNum (cellHalf d straight true)
+      go falling = refl
+      go rising = refl
+
+  pub lowV-index : lowV s y ≡ index s (cellHalf (s .split) across false) y 0
+  unfolding lowV index
+  lowV-index = go (s .split)
+    where
+      go : (d : Split) → 2 * (y * s .N) ≡ 2 * (y * s .N + 0) + halfNum (cellHalf d across false)
+      go falling = omega arith
+      go rising = omega arith
+
+  pub highV-index : highV s y ≡ index s (cellHalf (s .split) across true) y (s .N - 1)
+  unfolding highV index
+  highV-index = go (s .split)
+    where
+      go : (d : Split) → 2 * (y * s .N + (s .N - 1)) + 1 ≡ 2 * (y * s .N + (s .N - 1)) + halfNum (cellHalf d across true)
+      go falling = refl
+      go rising = refl
+
+  pub lowU-lt : 0 < s .M → y < s .N → lowU s y < slots s
+  lowU-lt h k = rw lowU-index (index-lt s (cellHalf (s .split) straight false) 0 y h k)
+
+  pub highU-lt : 0 < s .M → y < s .N → highU s y < slots s
+  highU-lt h k = rw highU-index (index-lt s (cellHalf (s .split) straight true) (s .M - 1) y (omega arith) k)
+
+  pub lowV-lt : 0 < s .N → y < s .M → lowV s y < slots s
+  lowV-lt h k = rw lowV-index (index-lt s (cellHalf (s .split) across false) y 0 k h)
+
+  pub highV-lt : 0 < s .N → y < s .M → highV s y < slots s
+  highV-lt h k = rw highV-index (index-lt s (cellHalf (s .split) across true) y (s .N - 1) k (omega arith))

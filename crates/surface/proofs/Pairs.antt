@@ -14,7 +14,8 @@ use borrow.Author.Tests.{eqb-true, eqb-false, eq-eqb, ne-eqb, ltb-true, ltb-fals
 use Rattle.cyclic.specs.Mapping.{pick}
 use Rattle.surface.specs.Surface.{Seam, unjoined, forward, reverse, joined, reversed, inverse, Shape, Split, Triangle, tri, halfOf, slot, proper, kept, slots, triangles, Pair, pair, ordered, insert, Before, Ascending, numberOf, stepOn, putDown, process, flipped, lowU, highU, lowV, highV, nth, lowerOf}
 use Rattle.surface.proofs.Steps.{eqb-cases, lt-or-le, Offset, Fits, laidOn, on-below, reverse-step}
-use Rattle.surface.proofs.Triangles.{number-below, lowU-lt, highU-lt, lowV-lt, highV-lt}
+use Rattle.surface.proofs.Triangles.{number-below}
+use Rattle.surface.proofs.Halves.{lowU-lt, highU-lt, lowV-lt, highV-lt}
 
 -- ---- the step of row a that `process` finds
 
@@ -209,7 +210,7 @@ Listed s ps = (p : Pair) → List·Memᴰ p ps → (p .low < length (triangles s
 insert-listed : (s : Shape) (i j : ℕ) (ps : List Pair) → i < length (triangles s) → j < length (triangles s) → Listed s ps → Listed s (insert (ordered i j) ps)
 insert-listed s i j ps h k l p q = ⊎-elim (λ e. here (ap (λ (z : Pair). z .low) e) (ap (λ (z : Pair). z .high) e)) (λ m. l p m) (insert-cases (ordered i j) ps p q)
   where
-    here : p .low ≡ min i j → p .high ≡ max i j → (p .low < length (triangles s)) × (p .high < length (triangles s))
+    here : p .low ≡ ordered i j .low → p .high ≡ ordered i j .high → (p .low < length (triangles s)) × (p .high < length (triangles s))
     here a b = omega arith
 
 pub flipped-listed : (s : Shape) → 0 < s .M → 0 < s .N → Listed s (flipped s)

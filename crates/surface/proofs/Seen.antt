@@ -6,14 +6,14 @@ use mathlib.Core.Bool.{Bool, true, false, not, true≢false}
 use mathlib.Core.List.{List, []}
 use native.Mathlib.Omega.{arith}
 use Rattle.cyclic.specs.Mapping.{pick}
-use Rattle.surface.specs.Surface.{Seam, unjoined, forward, joined, reversed, Split, falling, rising, Shape, J, halfOf, Follows, Rim, GridEdge, along-u, along-v, falls, rises, Pair, process, flipped, lowU, highU, lowV, highV, bySplit}
+use Rattle.surface.specs.Surface.{Seam, unjoined, forward, joined, reversed, Split, falling, rising, Shape, J, halfOf, Follows, Rim, GridEdge, along-u, along-v, falls, rises, Pair, process, flipped, lowU, highU, lowV, highV}
 use Rattle.surface.proofs.Strip.{Strip, Kind, straight, across, diagonal, pointOf}
 use Rattle.surface.proofs.CellSides.{Cell, corners, endsOf, sideFrom, sideTo}
 use Rattle.surface.proofs.Owners.{OnRim}
 use Rattle.surface.proofs.Rims.{EdgeAt, edge-flip, RimOf, rim-to, rim-from, edge-across, edge-straight, edge-falling, edge-rising}
 use Rattle.surface.proofs.Directions.{Along, Runs, along-ends, ends-along}
 use Rattle.surface.proofs.Triangles.{halfNum, index}
-use Rattle.surface.proofs.Halves.{cellHalf, cellDir, start, finish, cellCorners, SideRun, follows-run, run-follows}
+use Rattle.surface.proofs.Halves.{cellHalf, cellDir, start, finish, cellCorners, SideRun, follows-run, run-follows, lowU-index, highU-index, lowV-index, highV-index}
 use Rattle.surface.proofs.Axes.{Axis, axisU, axisV, columns, rows, seamOf, closing, xOf, yOf, kindOf, turn-kind, sideHalf, sideDir, Plain, SeenAlong, strip}
 use Rattle.surface.proofs.Points.{J-is, corner-is}
 
@@ -60,31 +60,13 @@ abbrev pub highs : Axis → Shape → ℕ → ℕ
 highs axisU s = highU s
 highs axisV s = highV s
 
-low-half : (d : Split) (n : ℕ) → n + bySplit d 0 1 ≡ n + halfNum (sideHalf axisU d straight false)
-low-half falling n = refl
-low-half rising n = refl
-
-high-half : (d : Split) (n : ℕ) → n + bySplit d 1 0 ≡ n + halfNum (sideHalf axisU d straight true)
-high-half falling n = refl
-high-half rising n = refl
-
 pub low-index : (s : Shape) (a : Axis) (y : ℕ) → lows a s y ≡ index s (sideHalf a (s .split) straight false) (xOf a 0 y) (yOf a 0 y)
-unfolding lowU lowV index
-low-index s axisU y = low-half (s .split) (2 * y) ∙ omega arith
-low-index s axisV y = first (s .split)
-  where
-    first : (d : Split) → 2 * (y * s .N) ≡ 2 * (y * s .N + 0) + halfNum (sideHalf axisV d straight false)
-    first falling = omega arith
-    first rising = omega arith
+low-index s axisU y = lowU-index s y
+low-index s axisV y = lowV-index s y
 
-pub high-index : (s : Shape) (a : Axis) (x y : ℕ) → x + 1 ≡ columns a s → highs a s y ≡ index s (sideHalf a (s .split) straight true) (xOf a x y) (yOf a x y)
-unfolding highU highV index
-high-index s axisU x y h = let e : s .M - 1 ≡ x = omega arith in ap (λ (z : ℕ). 2 * (z * s .N + y) + bySplit (s .split) 1 0) e ∙ high-half (s .split) (2 * (x * s .N + y))
-high-index s axisV x y h = let e : s .N - 1 ≡ x = omega arith in ap (λ (z : ℕ). 2 * (y * s .N + z) + 1) e ∙ second (s .split)
-  where
-    second : (d : Split) → 2 * (y * s .N + x) + 1 ≡ 2 * (y * s .N + x) + halfNum (sideHalf axisV d straight true)
-    second falling = refl
-    second rising = refl
+pub high-index : (s : Shape) (a : Axis) (y : ℕ) → highs a s y ≡ index s (sideHalf a (s .split) straight true) (xOf a (columns a s - 1) y) (yOf a (columns a s - 1) y)
+high-index s axisU y = highU-index s y
+high-index s axisV y = highV-index s y
 
 -- ---- cells
 

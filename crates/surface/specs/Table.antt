@@ -19,6 +19,11 @@ no-seam : triangles (shape 1 1 unjoined unjoined once falling) ≡ tri 0 2 1 ∷
 unfolding computed
 no-seam = refl
 
+-- where the only two columns are joined, no triangle has three numbers
+no-triangle : triangles (shape 1 1 (forward 0) unjoined once falling) ≡ []
+unfolding computed
+no-triangle = refl
+
 -- "M=N=3, u seam Reverse(0), v unjoined: flipped (0,17), (2,15), (4,13)."
 reversed-u : flipped (shape 3 3 (reverse 0) unjoined once falling) ≡ pair 0 17 ∷ pair 2 15 ∷ pair 4 13 ∷ []
 unfolding computed
