@@ -1,24 +1,23 @@
 -- Demand 3, proved: for every covered joining with at least 3 steps each way. Assumes nothing.
-use Prim.Native.Nat.{ℕ, zero, suc, _+_, _-_, _*_, _≤_, _<_, min, max}
+use Prim.Native.Nat.{ℕ, _+_, _-_, _*_, _≤_, _<_, min, max}
 use mathlib.Core.Path.{_≡_, refl, sym, ap, _∙_, subst}
 use mathlib.Core.Logic.{_⊎_, inl, inr, ⊎-elim}
-use mathlib.Core.Bool.{Bool, true, false, not}
+use mathlib.Core.Bool.{Bool, true, false}
 use mathlib.Core.List.{List, [], List·Memᴰ, List·Memᴰ·not-nil, Memᴰ·cast}
 use native.Mathlib.Omega.{arith}
-use lib.Dec.{eqb}
 use lib.Arith.{digits-div, digits-mod}
-use lib.ListN.{length, getD}
+use lib.ListN.{length}
 use borrow.Author.Tests.{ne-eqb}
 use Rattle.cyclic.specs.Mapping.{pick}
-use Rattle.surface.specs.Surface.{Seam, unjoined, forward, reverse, reversed, Split, Shape, J, Triangle, tri, halfOf, slot, proper, kept, slots, triangles, Pair, pair, ordered, numberOf, stepOn, process, flipped, Follows, HasSide, nth, Owns, OwnedOnce, OwnedTwice, Same, Rim, SameWay, GridEdge, along-u, along-v, EdgeNumbers, Jₙ, Covered, Meets, Demand3, falls, rises}
+use Rattle.surface.specs.Surface.{Seam, unjoined, forward, reverse, reversed, Shape, J, Triangle, slot, proper, slots, triangles, Pair, pair, ordered, numberOf, stepOn, process, flipped, Follows, nth, Owns, OwnedOnce, OwnedTwice, Rim, SameWay, GridEdge, along-u, along-v, EdgeNumbers, Jₙ, Meets, Demand3, falls, rises}
 use Rattle.surface.proofs.Steps.{lt-or-le, Fits, laidOn, on-below}
-use Rattle.surface.proofs.Strip.{Strip, Kind, straight}
+use Rattle.surface.proofs.Strip.{Strip, straight}
 use Rattle.surface.proofs.CellSides.{Cell}
-use Rattle.surface.proofs.Owners.{Holds, OnRim, SameTri, Other, owned}
-use Rattle.surface.proofs.Directions.{Runs, Turn, Shared, runs-holds, holds-flip, holds-runs, runs-differ, same-way, turn-shared}
-use Rattle.surface.proofs.Axes.{Axis, columns, rows, seamOf, closing, xOf, yOf, turn-x, turn-y, SeenAlong, strip, covered-along}
-use Rattle.surface.proofs.Seen.{to-runs, from-runs, cell-seen, seen-cell, rim-seen, seen-rim, edge-seen, lows, highs, low-index, high-index, flipped-seen}
-use Rattle.surface.proofs.Triangles.{halfNum, index, halfAt, uAt, vAt, slot-at, uAt-lt, vAt-lt, index-at, index-lt, uAt-index, vAt-index, halfAt-index, kept-length, kept-at}
+use Rattle.surface.proofs.Owners.{Holds, SameTri, Other, owned}
+use Rattle.surface.proofs.Directions.{Runs, Turn, runs-holds, holds-flip, holds-runs, runs-differ, same-way, turn-shared}
+use Rattle.surface.proofs.Axes.{Axis, xOf, yOf, turn-x, turn-y, SeenAlong, strip, covered-along}
+use Rattle.surface.proofs.Seen.{to-runs, from-runs, seen-cell, rim-seen, seen-rim, edge-seen, lows, highs, low-index, high-index, flipped-seen}
+use Rattle.surface.proofs.Triangles.{index, halfAt, uAt, vAt, slot-at, uAt-lt, vAt-lt, index-at, index-lt, uAt-index, vAt-index, halfAt-index, kept-length, kept-at}
 use Rattle.surface.proofs.Pairs.{step-on, pair-eq, mem-in, process-to, process-from}
 
 proper-of : (t : Triangle) → (t .a ≡ t .b → ⊥) → (t .a ≡ t .c → ⊥) → (t .b ≡ t .c → ⊥) → proper t ≡ true

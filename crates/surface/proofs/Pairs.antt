@@ -1,19 +1,17 @@
 -- The list of flipped pairs: that `insert` keeps it ascending, what `process` puts into it, how long it is at most, and that its numbers are of
 -- triangles in the list. Assumes nothing.
-use Prim.Native.Nat.{ℕ, zero, suc, _+_, _-_, _*_, _/_, _%_, _≤_, _<_, min, max}
+use Prim.Native.Nat.{ℕ, zero, suc, _+_, _-_, _≤_, _<_}
 use mathlib.Core.Path.{_≡_, refl, sym, ap, _∙_, subst}
 use mathlib.Core.Logic.{_⊎_, inl, inr, ⊎-elim}
 use mathlib.Core.Bool.{Bool, true, false, _&&_, false≢true}
-use mathlib.Core.List.{List, [], _∷_, _++_, List·Memᴰ, List·Memᴰ·head, List·Memᴰ·tail, List·Memᴰ·cases-cons, List·Memᴰ·not-nil, Memᴰ·cast}
+use mathlib.Core.List.{List, [], _∷_, List·Memᴰ, List·Memᴰ·head, List·Memᴰ·tail, List·Memᴰ·cases-cons, List·Memᴰ·not-nil, Memᴰ·cast}
 use native.Mathlib.Omega.{arith}
-use native.Mathlib.Nat.{mod-lt, div-add-mod', div-lt-iff-lt-mul, mul-comm}
 use lib.Dec.{eqb, ltb}
-use lib.Arith.{digits-div, digits-mod, digits-lt}
-use lib.ListN.{length, getD, length-append, List·getD-append}
-use borrow.Author.Tests.{eqb-true, eqb-false, eq-eqb, ne-eqb, ltb-true, ltb-false, lt-ltb, le-ltb}
+use lib.ListN.{length}
+use borrow.Author.Tests.{eq-eqb, ne-eqb, ltb-true, ltb-false, lt-ltb}
 use Rattle.cyclic.specs.Mapping.{pick}
-use Rattle.surface.specs.Surface.{Seam, unjoined, forward, reverse, joined, reversed, inverse, Shape, Split, Triangle, tri, halfOf, slot, proper, kept, slots, triangles, Pair, pair, ordered, insert, Before, Ascending, numberOf, stepOn, putDown, process, flipped, lowU, highU, lowV, highV, nth, lowerOf}
-use Rattle.surface.proofs.Steps.{eqb-cases, lt-or-le, Offset, Fits, laidOn, on-below, reverse-step}
+use Rattle.surface.specs.Surface.{Seam, reverse, reversed, inverse, Shape, slot, proper, triangles, Pair, pair, ordered, insert, Before, Ascending, numberOf, stepOn, process, flipped, lowU, highU, lowV, highV, lowerOf}
+use Rattle.surface.proofs.Steps.{eqb-cases, lt-or-le, Offset, laidOn, reverse-step}
 use Rattle.surface.proofs.Triangles.{number-below}
 use Rattle.surface.proofs.Halves.{lowU-lt, highU-lt, lowV-lt, highV-lt}
 

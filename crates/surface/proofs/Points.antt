@@ -1,14 +1,14 @@
 -- A covered joining, seen along one of its seams: J and the corner rule give the points of the strip. Assumes nothing.
-use Prim.Native.Nat.{ℕ, zero, suc, _+_, _-_, _*_, _/_, _%_, _≤_, _<_}
-use mathlib.Core.Path.{_≡_, refl, sym, ap, _∙_, subst}
+use Prim.Native.Nat.{ℕ, _+_, _-_, _≤_, _<_}
+use mathlib.Core.Path.{_≡_, refl, sym, ap, _∙_}
 use mathlib.Core.Logic.{_⊎_, inl, inr, ⊎-elim}
 use mathlib.Core.Bool.{Bool, true, false, _&&_, false≢true}
 use native.Mathlib.Omega.{arith}
 use lib.Dec.{eqb}
-use borrow.Author.Tests.{eqb-true, eqb-false, eq-eqb, ne-eqb}
+use borrow.Author.Tests.{ne-eqb}
 use Rattle.cyclic.specs.Mapping.{pick}
-use Rattle.surface.specs.Surface.{Seam, unjoined, forward, reverse, joined, reversed, inverse, Point, at, Rule, once, twice, Split, falling, rising, Shape, uRule, vRule, number, joinedBy, J, cornerBy, corner, Beside, AtZero, Covered, neither, only-u, only-v, both-u, both-v}
-use Rattle.surface.proofs.Steps.{eqb-cases, wrap, wrap-open, wrap-closed, wrap-below, wrap-le, wrap-wrap, Fits, Offset, carried, carried-wrap, inv-forward-0, inv-forward, inv-reverse}
+use Rattle.surface.specs.Surface.{Seam, joined, inverse, Point, at, Rule, once, twice, Shape, uRule, vRule, number, joinedBy, J, cornerBy, corner}
+use Rattle.surface.proofs.Steps.{eqb-cases, wrap, wrap-open, wrap-closed, wrap-below, wrap-wrap, carried, carried-wrap, inv-forward-0}
 use Rattle.surface.proofs.CellSides.{shift, corners}
 use Rattle.surface.proofs.Halves.{cellCorners}
 use Rattle.surface.proofs.Axes.{Axis, axisU, axisV, columns, rows, xOf, yOf, Plain, KeepsInside, SeenAlong, strip}

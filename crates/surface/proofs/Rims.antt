@@ -1,6 +1,6 @@
 -- The rims and the edges of a strip, as 01 words them: a rim's sides are those between neighbouring points of its first or last column or row,
 -- and every edge between neighbouring grid points, or along a cell's diagonal, is a side of some cell. Assumes nothing.
-use Prim.Native.Nat.{ℕ, zero, suc, _+_, _-_, _≤_, _<_}
+use Prim.Native.Nat.{ℕ, _+_, _-_, _≤_, _<_}
 use mathlib.Core.Path.{_≡_, refl, sym, ap, _∙_, subst}
 use mathlib.Core.Logic.{_⊎_, inl, inr, ⊎-elim}
 use mathlib.Core.Bool.{Bool, true, false}

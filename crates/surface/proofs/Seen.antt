@@ -1,19 +1,18 @@
 -- A surface seen along an axis: its triangles, rims, edges and flipped pairs are those of the strip. Assumes nothing.
-use Prim.Native.Nat.{ℕ, zero, suc, _+_, _-_, _*_, _≤_, _<_}
-use mathlib.Core.Path.{_≡_, refl, sym, ap, _∙_, subst}
+use Prim.Native.Nat.{ℕ, _-_, _≤_, _<_}
+use mathlib.Core.Path.{_≡_, sym, ap, _∙_, subst}
 use mathlib.Core.Logic.{_⊎_, inl, inr, ⊎-elim}
 use mathlib.Core.Bool.{Bool, true, false, not, true≢false}
 use mathlib.Core.List.{List, []}
-use native.Mathlib.Omega.{arith}
 use Rattle.cyclic.specs.Mapping.{pick}
-use Rattle.surface.specs.Surface.{Seam, unjoined, forward, joined, reversed, Split, falling, rising, Shape, J, halfOf, Follows, Rim, GridEdge, along-u, along-v, falls, rises, Pair, process, flipped, lowU, highU, lowV, highV}
+use Rattle.surface.specs.Surface.{Seam, unjoined, joined, reversed, Split, falling, rising, Shape, J, halfOf, Follows, Rim, GridEdge, along-u, along-v, falls, rises, Pair, process, flipped, lowU, highU, lowV, highV}
 use Rattle.surface.proofs.Strip.{Strip, Kind, straight, across, diagonal, pointOf}
 use Rattle.surface.proofs.CellSides.{Cell, corners, endsOf, sideFrom, sideTo}
 use Rattle.surface.proofs.Owners.{OnRim}
-use Rattle.surface.proofs.Rims.{EdgeAt, edge-flip, RimOf, rim-to, rim-from, edge-across, edge-straight, edge-falling, edge-rising}
-use Rattle.surface.proofs.Directions.{Along, Runs, along-ends, ends-along}
+use Rattle.surface.proofs.Rims.{EdgeAt, edge-flip, rim-to, rim-from, edge-across, edge-straight, edge-falling, edge-rising}
+use Rattle.surface.proofs.Directions.{Runs, along-ends, ends-along}
 use Rattle.surface.proofs.Triangles.{halfNum, index}
-use Rattle.surface.proofs.Halves.{cellHalf, cellDir, start, finish, cellCorners, SideRun, follows-run, run-follows, lowU-index, highU-index, lowV-index, highV-index}
+use Rattle.surface.proofs.Halves.{cellDir, start, finish, cellCorners, follows-run, run-follows, lowU-index, highU-index, lowV-index, highV-index}
 use Rattle.surface.proofs.Axes.{Axis, axisU, axisV, columns, rows, seamOf, closing, xOf, yOf, kindOf, turn-kind, sideHalf, sideDir, Plain, SeenAlong, strip}
 use Rattle.surface.proofs.Points.{J-is, corner-is}
 

@@ -1,15 +1,15 @@
 -- Steps on a row that may be closed, and the seam mappings by cases. Assumes nothing.
-use Prim.Native.Nat.{ℕ, zero, suc, _+_, _-_, _*_, _/_, _%_, _≤_, _<_}
-use mathlib.Core.Path.{_≡_, refl, sym, ap, _∙_, subst}
+use Prim.Native.Nat.{ℕ, zero, suc, _+_, _-_, _%_, _≤_, _<_}
+use mathlib.Core.Path.{_≡_, refl, sym, ap, _∙_}
 use mathlib.Core.Logic.{_⊎_, inl, inr, ⊎-elim}
 use mathlib.Core.Bool.{Bool, true, false, _&&_}
 use native.Mathlib.Nat.{mod-eq-of-lt, mod-eq-sub-mod, mod-self}
 use native.Mathlib.Omega.{arith}
 use lib.Dec.{eqb, ltb}
-use borrow.Author.Tests.{eqb-true, eqb-false, eq-eqb, ne-eqb, ltb-true, ltb-false, lt-ltb, le-ltb}
+use borrow.Author.Tests.{eqb-true, eqb-false, ne-eqb, ltb-true, ltb-false, lt-ltb, le-ltb}
 use Rattle.cyclic.specs.Mapping.{pick}
 use Rattle.cyclic.specs.Mapping as mapping
-use Rattle.surface.specs.Surface.{Seam, unjoined, forward, reverse, joined, reversed, inverse}
+use Rattle.surface.specs.Surface.{Seam, unjoined, forward, reverse, inverse}
 
 -- a test with what it says
 pub eqb-cases : (a b : ℕ) → ((eqb a b ≡ true) × (a ≡ b)) ⊎ ((eqb a b ≡ false) × (a ≡ b → ⊥))

@@ -2,9 +2,9 @@
 use Prim.Native.Nat.{ℕ}
 use mathlib.Core.Path.{_≡_, refl}
 use mathlib.Core.Bool.{Bool, true}
-use mathlib.Core.List.{List, [], _∷_}
+use mathlib.Core.List.{[], _∷_}
 use Rattle.cyclic.specs.Mapping as mapping
-use Rattle.surface.specs.Surface.{Seam, unjoined, forward, reverse, Shape, Rule, once, twice, Split, falling, rising, cornerBy, corner, Triangle, tri, halfOf, slot, slots, kept, triangles, numberOf, Pair, pair, stepOn, lowU, highU, lowV, highV, process, flipped, joinedBy, J, nth}
+use Rattle.surface.specs.Surface.{Seam, unjoined, forward, reverse, Shape, Rule, once, twice, Split, falling, rising, cornerBy, corner, tri, halfOf, slot, slots, kept, triangles, numberOf, pair, stepOn, lowU, highU, lowV, highV, process, flipped, joinedBy, J, nth}
 
 -- all that a closed result computes through
 unfoldable computed : Bool
