@@ -10,7 +10,7 @@ use lib.Dec.{eqb, ltb}
 use lib.ListN.{length}
 use borrow.Author.Tests.{eq-eqb, ne-eqb, ltb-true, ltb-false, lt-ltb}
 use Rattle.cyclic.specs.Mapping.{pick}
-use Rattle.surface.specs.Surface.{Seam, reverse, reversed, inverse, Shape, slot, proper, triangles, Pair, pair, ordered, insert, Before, Ascending, numberOf, stepOn, process, flipped, lowU, highU, lowV, highV, lowerOf}
+use Rattle.surface.specs.Surface.{Seam, reverse, reversed, inverse, Shape, slot, proper, triangles, Pair, pair, ordered, insert, Before, Ascending, numberOf, stepOn, process, flipped, lowU, highU, lowV, highV, wrapEnds}
 use Rattle.surface.proofs.Steps.{eqb-cases, lt-or-le, Offset, laidOn, reverse-step}
 use Rattle.surface.proofs.Triangles.{number-below}
 use Rattle.surface.proofs.Halves.{lowU-lt, highU-lt, lowV-lt, highV-lt}
@@ -27,7 +27,7 @@ both-ne a b c d h =
 both-eq : (a b c d : ℕ) → a ≡ b → c ≡ d → (eqb a b && eqb c d) ≡ true
 both-eq a b c d p q = ap (λ (t : Bool). t && eqb c d) (eq-eqb a b p) ∙ eq-eqb c d q
 
-lower-up : (n a : ℕ) → 3 ≤ n → lowerOf n (a + 1) a ≡ a
+lower-up : (n a : ℕ) → 3 ≤ n → wrapEnds n (a + 1) a ≡ a
 lower-up n a h =
     rw (
       both-ne (a + 1 + 1) n a 0 (λ p q. omega arith),
@@ -36,7 +36,7 @@ lower-up n a h =
       eq-eqb (a + 1) (a + 1) refl,
     )
 
-lower-end : (n a : ℕ) → 3 ≤ n → a + 1 ≡ n → lowerOf n 0 a ≡ a
+lower-end : (n a : ℕ) → 3 ≤ n → a + 1 ≡ n → wrapEnds n 0 a ≡ a
 lower-end n a h e =
     rw (
       both-ne (0 + 1) n a 0 (λ p q. omega arith),
@@ -48,10 +48,10 @@ pub step-on : (o : ℕ) (c : Bool) (n y : ℕ) → 3 ≤ n → Offset o c n → 
 unfolding stepOn
 step-on o c n y h f k =
     let r = reverse-step o c n y f k in
-    ap (lowerOf n (inverse (reverse o) n y)) (r .0)
+    ap (wrapEnds n (inverse (reverse o) n y)) (r .0)
     ∙ ⊎-elim
-    (λ w. ap (λ (z : ℕ). lowerOf n z (laidOn (reverse o) n y)) w ∙ lower-up n (laidOn (reverse o) n y) h)
-    (λ w. ap (λ (z : ℕ). lowerOf n z (laidOn (reverse o) n y)) (w .0) ∙ lower-end n (laidOn (reverse o) n y) h (w .1))
+    (λ w. ap (λ (z : ℕ). wrapEnds n z (laidOn (reverse o) n y)) w ∙ lower-up n (laidOn (reverse o) n y) h)
+    (λ w. ap (λ (z : ℕ). wrapEnds n z (laidOn (reverse o) n y)) (w .0) ∙ lower-end n (laidOn (reverse o) n y) h (w .1))
     (r .1)
 
 -- ---- into an ascending list

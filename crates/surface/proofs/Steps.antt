@@ -11,6 +11,13 @@ use Rattle.cyclic.specs.Mapping.{pick}
 use Rattle.cyclic.specs.Mapping as mapping
 use Rattle.surface.specs.Surface.{Seam, unjoined, forward, reverse, inverse}
 
+-- two either-ors, case by case
+pub four : {A B C D P : Type 0} → A ⊎ B → C ⊎ D → (A → C → P) → (A → D → P) → (B → C → P) → (B → D → P) → P
+four (inl a) (inl c) f g h k = f a c
+four (inl a) (inr d) f g h k = g a d
+four (inr b) (inl c) f g h k = h b c
+four (inr b) (inr d) f g h k = k b d
+
 -- a test with what it says
 pub eqb-cases : (a b : ℕ) → ((eqb a b ≡ true) × (a ≡ b)) ⊎ ((eqb a b ≡ false) × (a ≡ b → ⊥))
 eqb-cases a b = go (eqb a b) refl
@@ -62,17 +69,11 @@ step-ne c n i h k e = ⊎-elim (λ w. omega arith) (λ w. omega arith) (wrap-two
 
 pub step-two : (c : Bool) (n i j : ℕ) → 3 ≤ n → i < n → j < n → wrap c n (i + 1) ≡ j → wrap c n (j + 1) ≡ i → ⊥
 step-two c n i j h k l e f =
-    ⊎-elim
-    (λ w. ⊎-elim (λ z. omega arith) (λ z. omega arith) (wrap-two c n (j + 1)))
-    (λ w. ⊎-elim (λ z. omega arith) (λ z. omega arith) (wrap-two c n (j + 1)))
-    (wrap-two c n (i + 1))
+    four (wrap-two c n (i + 1)) (wrap-two c n (j + 1)) (λ w z. omega arith) (λ w z. omega arith) (λ w z. omega arith) (λ w z. omega arith)
 
 pub step-inj : (c : Bool) (n i j : ℕ) → i < n → j < n → wrap c n (i + 1) ≡ wrap c n (j + 1) → i ≡ j
 step-inj c n i j k l e =
-    ⊎-elim
-    (λ w. ⊎-elim (λ z. omega arith) (λ z. omega arith) (wrap-two c n (j + 1)))
-    (λ w. ⊎-elim (λ z. omega arith) (λ z. omega arith) (wrap-two c n (j + 1)))
-    (wrap-two c n (i + 1))
+    four (wrap-two c n (i + 1)) (wrap-two c n (j + 1)) (λ w z. omega arith) (λ w z. omega arith) (λ w z. omega arith) (λ w z. omega arith)
 
 -- ---- remainders of numbers below twice the divisor
 
@@ -183,32 +184,20 @@ unfolding laidBack laidOn
 on-back unjoined c n y f h = refl
 on-back (forward o) c n y f h =
     let q : o < n = offset-lt o c n (omega arith) f in
-    ⊎-elim
-    (λ w. ⊎-elim (λ z. omega arith) (λ z. omega arith) (on-forward o n (laidBack (forward o) n y)))
-    (λ w. ⊎-elim (λ z. omega arith) (λ z. omega arith) (on-forward o n (laidBack (forward o) n y)))
-    (back-forward o n y)
+    four (back-forward o n y) (on-forward o n (laidBack (forward o) n y)) (λ w z. omega arith) (λ w z. omega arith) (λ w z. omega arith) (λ w z. omega arith)
 on-back (reverse o) c n y f h =
     let q : o < n = offset-lt o c n (omega arith) f in
-    ⊎-elim
-    (λ w. ⊎-elim (λ z. omega arith) (λ z. omega arith) (on-reverse o n (laidOn (reverse o) n y)))
-    (λ w. ⊎-elim (λ z. omega arith) (λ z. omega arith) (on-reverse o n (laidOn (reverse o) n y)))
-    (on-reverse o n y)
+    four (on-reverse o n y) (on-reverse o n (laidOn (reverse o) n y)) (λ w z. omega arith) (λ w z. omega arith) (λ w z. omega arith) (λ w z. omega arith)
 
 pub on-inj : (m : Seam) (c : Bool) (n y z : ℕ) → Fits m c n → y < n → z < n → laidOn m n y ≡ laidOn m n z → y ≡ z
 unfolding laidOn
 on-inj unjoined c n y z f h k e = e
 on-inj (forward o) c n y z f h k e =
     let q : o < n = offset-lt o c n (omega arith) f in
-    ⊎-elim
-    (λ w. ⊎-elim (λ x. omega arith) (λ x. omega arith) (on-forward o n z))
-    (λ w. ⊎-elim (λ x. omega arith) (λ x. omega arith) (on-forward o n z))
-    (on-forward o n y)
+    four (on-forward o n y) (on-forward o n z) (λ w x. omega arith) (λ w x. omega arith) (λ w x. omega arith) (λ w x. omega arith)
 on-inj (reverse o) c n y z f h k e =
     let q : o < n = offset-lt o c n (omega arith) f in
-    ⊎-elim
-    (λ w. ⊎-elim (λ x. omega arith) (λ x. omega arith) (on-reverse o n z))
-    (λ w. ⊎-elim (λ x. omega arith) (λ x. omega arith) (on-reverse o n z))
-    (on-reverse o n y)
+    four (on-reverse o n y) (on-reverse o n z) (λ w x. omega arith) (λ w x. omega arith) (λ w x. omega arith) (λ w x. omega arith)
 
 wrap-is : (c : Bool) (n i e : ℕ) → i ≡ e → e < n → wrap c n i ≡ e
 wrap-is c n i e p h = ap (wrap c n) p ∙ wrap-below c n e h
@@ -230,16 +219,10 @@ adj-forward zero c n y f h =
 adj-forward (suc o) true n y f h =
     let b = on-below (forward (suc o)) true n y f h in (
       wrap-is true n (inverse (forward (suc o)) n y) (laidOn (forward (suc o)) n y)
-          (⊎-elim
-          (λ w. ⊎-elim (λ z. omega arith) (λ z. omega arith) (on-forward (suc o) n y))
-          (λ w. ⊎-elim (λ z. omega arith) (λ z. omega arith) (on-forward (suc o) n y))
-          (inv-forward (suc o) n y (omega arith) f (omega arith)))
+          (four (inv-forward (suc o) n y (omega arith) f (omega arith)) (on-forward (suc o) n y) (λ w z. omega arith) (λ w z. omega arith) (λ w z. omega arith) (λ w z. omega arith))
           b,
       wrap-eq n (inverse (forward (suc o)) n (y + 1)) (laidOn (forward (suc o)) n y + 1)
-          (⊎-elim
-          (λ w. ⊎-elim (λ z. inl (omega arith)) (λ z. inl (omega arith)) (on-forward (suc o) n y))
-          (λ w. ⊎-elim (λ z. inr (omega arith, omega arith)) (λ z. inl (omega arith)) (on-forward (suc o) n y))
-          (inv-forward (suc o) n (y + 1) (omega arith) f (omega arith)))
+          (four (inv-forward (suc o) n (y + 1) (omega arith) f (omega arith)) (on-forward (suc o) n y) (λ w z. inl (omega arith)) (λ w z. inl (omega arith)) (λ w z. inr (omega arith, omega arith)) (λ w z. inl (omega arith)))
           (omega arith),
     )
 adj-forward (suc o) false n y f h = absurd f
@@ -252,17 +235,11 @@ reverse-step zero c n y f h =
 reverse-step (suc o) true n y f h = (
   ⊎-elim
       (λ w. ⊎-elim (λ z. omega arith) (λ z. omega arith) (on-reverse (suc o) n y))
-      (λ v. ⊎-elim
-      (λ w. ⊎-elim (λ z. omega arith) (λ z. omega arith) (on-reverse (suc o) n y))
-      (λ w. ⊎-elim (λ z. omega arith) (λ z. omega arith) (on-reverse (suc o) n y))
-      v)
+      (λ v. four v (on-reverse (suc o) n y) (λ w z. omega arith) (λ w z. omega arith) (λ w z. omega arith) (λ w z. omega arith))
       (inv-reverse (suc o) n (y + 1) (omega arith) f (omega arith)),
   ⊎-elim
       (λ w. ⊎-elim (λ z. inl (omega arith)) (λ z. inr (omega arith, omega arith)) (on-reverse (suc o) n y))
-      (λ v. ⊎-elim
-      (λ w. ⊎-elim (λ z. inl (omega arith)) (λ z. inl (omega arith)) (on-reverse (suc o) n y))
-      (λ w. ⊎-elim (λ z. inl (omega arith)) (λ z. inl (omega arith)) (on-reverse (suc o) n y))
-      v)
+      (λ v. four v (on-reverse (suc o) n y) (λ w z. inl (omega arith)) (λ w z. inl (omega arith)) (λ w z. inl (omega arith)) (λ w z. inl (omega arith)))
       (inv-reverse (suc o) n y (omega arith) f (omega arith)),
 )
 reverse-step (suc o) false n y f h = absurd f
@@ -287,10 +264,7 @@ carried-ends unjoined n h f = wrap-end n ∙ sym (wrap-below true n 0 h)
 carried-ends (forward zero) n h f = ap (wrap true n) (inv-forward-0 n n) ∙ wrap-end n ∙ sym (wrap-is true n (inverse (forward 0) n 0) 0 (inv-forward-0 n 0) h)
 carried-ends (forward (suc o)) n h f =
     ap (wrap true n)
-    (⊎-elim
-    (λ w. ⊎-elim (λ z. omega arith) (λ z. omega arith) (inv-forward (suc o) n 0 (omega arith) f (omega arith)))
-    (λ w. ⊎-elim (λ z. omega arith) (λ z. omega arith) (inv-forward (suc o) n 0 (omega arith) f (omega arith)))
-    (inv-forward (suc o) n n (omega arith) f (omega arith)))
+    (four (inv-forward (suc o) n n (omega arith) f (omega arith)) (inv-forward (suc o) n 0 (omega arith) f (omega arith)) (λ w z. omega arith) (λ w z. omega arith) (λ w z. omega arith) (λ w z. omega arith))
 carried-ends (reverse zero) n h f =
     wrap-is true n (inverse (reverse 0) n n) 0 (omega (arith, inv-reverse-0 n n)) h
     ∙ sym (wrap-eq n (inverse (reverse 0) n 0) n (inl (omega (arith, inv-reverse-0 n 0))) h ∙ wrap-end n)
