@@ -1,4 +1,6 @@
--- Demand 3, proved: for every covered joining with at least 3 steps each way. Assumes nothing.
+-- Demand 3 for every covered joining with at least 3 steps each way. Seen along one of its seams the surface is a strip, in which all is said of
+-- halves of cells (Owners, Directions); what is left is to say it of triangle numbers, which are the slots' since no triangle is left out.
+-- Assumes nothing.
 use Prim.Native.Nat.{ℕ, _+_, _-_, _*_, _≤_, _<_, min, max}
 use mathlib.Core.Path.{_≡_, refl, sym, ap, _∙_, subst}
 use mathlib.Core.Logic.{_⊎_, inl, inr, ⊎-elim}
@@ -78,7 +80,7 @@ module _ (s : Shape) (m : 3 ≤ s .M) (n : 3 ≤ s .N) (ax : Axis) (seen : SeenA
   unfolding numberOf
   number-is i h = kept-length s i (λ j k. slot-proper j (omega arith))
 
-  -- ---- triangles of the list, and places of the strip
+  -- ---- triangle i of the list is half `halfAt i` of cell (`xAt i`, `yAt i`) of the strip
 
   below : (i : ℕ) → i < length (triangles s) → i < slots s
   below i h = omega (arith, count)

@@ -3,7 +3,7 @@
 use Prim.Native.Nat.{ℕ, zero, suc, _+_, _-_, _≤_, _<_}
 use mathlib.Core.Path.{_≡_, refl, sym, ap, _∙_, subst}
 use mathlib.Core.Logic.{_⊎_, inl, inr, ⊎-elim}
-use mathlib.Core.Bool.{Bool, true, false, _&&_, false≢true}
+use mathlib.Core.Bool.{Bool, true, false, _&&_}
 use mathlib.Core.List.{List, [], _∷_, List·Memᴰ, List·Memᴰ·head, List·Memᴰ·tail, List·Memᴰ·cases-cons, List·Memᴰ·not-nil, Memᴰ·cast}
 use native.Mathlib.Omega.{arith}
 use lib.Dec.{eqb, ltb}
@@ -11,7 +11,7 @@ use lib.ListN.{length}
 use borrow.Author.Tests.{eq-eqb, ne-eqb, ltb-true, ltb-false, lt-ltb}
 use Rattle.cyclic.specs.Mapping.{pick}
 use Rattle.surface.specs.Surface.{Seam, reverse, reversed, inverse, Shape, slot, proper, triangles, Pair, pair, ordered, insert, Before, Ascending, numberOf, stepOn, process, flipped, lowU, highU, lowV, highV, wrapEnds}
-use Rattle.surface.proofs.Steps.{eqb-cases, lt-or-le, Offset, laidOn, reverse-step}
+use Rattle.surface.proofs.Steps.{both-true, eqb-cases, lt-or-le, Offset, laidOn, reverse-step}
 use Rattle.surface.proofs.Triangles.{number-below}
 use Rattle.surface.proofs.Halves.{lowU-lt, highU-lt, lowV-lt, highV-lt}
 
@@ -127,10 +127,6 @@ before-trans p q r (inl a) (inl b) = inl (omega arith)
 before-trans p q r (inl a) (inr b) = inl (omega arith)
 before-trans p q r (inr a) (inl b) = inl (omega arith)
 before-trans p q r (inr a) (inr b) = inr (omega arith)
-
-both-true : (a b : Bool) → (a && b) ≡ true → (a ≡ true) × (b ≡ true)
-both-true true b e = (refl, e)
-both-true false b e = absurd (false≢true e)
 
 pick-case : (t : Bool) (P : List Pair → Type 0) (x y : List Pair) → (t ≡ true → P x) → (t ≡ false → P y) → P (pick t x y)
 pick-case true P x y f g = f refl

@@ -1,4 +1,6 @@
--- A covered joining, seen along one of its seams: J and the corner rule give the points of the strip. Assumes nothing.
+-- J and the corner rule give the points of the strip. Of the two rules, the one for the strip's seam carries the last column to the first; the one
+-- for the other seam does no more than read the last row of a closed column as its first. So a corner in a row before the last needs the v rule
+-- only if the u rule took it to row N, which a covered joining does not let happen. Assumes nothing.
 use Prim.Native.Nat.{ℕ, _+_, _-_, _≤_, _<_}
 use mathlib.Core.Path.{_≡_, refl, sym, ap, _∙_}
 use mathlib.Core.Logic.{_⊎_, inl, inr, ⊎-elim}

@@ -1,4 +1,5 @@
--- A surface seen along an axis: its triangles, rims, edges and flipped pairs are those of the strip. Assumes nothing.
+-- A surface seen along an axis: its triangles, rims, edges and flipped pairs are those of the strip, with u and v in their places or exchanged.
+-- Assumes nothing.
 use Prim.Native.Nat.{ℕ, _-_, _≤_, _<_}
 use mathlib.Core.Path.{_≡_, sym, ap, _∙_, subst}
 use mathlib.Core.Logic.{_⊎_, inl, inr, ⊎-elim}

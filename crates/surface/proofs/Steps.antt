@@ -1,8 +1,10 @@
--- Steps on a row that may be closed, and the seam mappings by cases. Assumes nothing.
+-- Steps along a row, and what a seam does to them. The inverse image carries the two ends of step y of row b to the two ends of one step of row a,
+-- `laidOn`: in their order if the seam is forward, the other way round if it is reversed (`adj-forward`, `adj-reverse`). Every step of row a is
+-- met by exactly one of row b (`on-inj`, `on-back`). Assumes nothing.
 use Prim.Native.Nat.{ℕ, zero, suc, _+_, _-_, _%_, _≤_, _<_}
 use mathlib.Core.Path.{_≡_, refl, sym, ap, _∙_}
 use mathlib.Core.Logic.{_⊎_, inl, inr, ⊎-elim}
-use mathlib.Core.Bool.{Bool, true, false, _&&_}
+use mathlib.Core.Bool.{Bool, true, false, _&&_, false≢true}
 use native.Mathlib.Nat.{mod-eq-of-lt, mod-eq-sub-mod, mod-self}
 use native.Mathlib.Omega.{arith}
 use lib.Dec.{eqb, ltb}
@@ -26,6 +28,10 @@ eqb-cases a b = go (eqb a b) refl
     go true e = inl (e, eqb-true a b e)
     go false e = inr (e, eqb-false a b e)
 
+pub both-true : (a b : Bool) → (a && b) ≡ true → (a ≡ true) × (b ≡ true)
+both-true true b e = (refl, e)
+both-true false b e = absurd (false≢true e)
+
 pub lt-or-le : (a b : ℕ) → (a < b) ⊎ (b ≤ a)
 lt-or-le a b = go (ltb a b) refl
   where
@@ -33,7 +39,9 @@ lt-or-le a b = go (ltb a b) refl
     go true e = inl (ltb-true a b e)
     go false e = inr (ltb-false a b e)
 
--- i, with n read as 0 on a closed row
+-- ---- a row of n steps, closed or open
+
+-- index i of the row, with n read as 0 where the row is closed
 unfoldable pub wrap : Bool → ℕ → ℕ → ℕ
 wrap c n i = pick (c && eqb i n) 0 i
 
@@ -63,7 +71,7 @@ wrap-wrap false n i h = wrap-open n (wrap false n i)
 wrap-wrap true n i h =
     ⊎-elim (λ w. wrap-below true n (wrap true n i) (omega arith)) (λ w. ap (wrap true n) (w .0)) (wrap-closed n i)
 
--- one step on
+-- one step on is not where it was; two steps are not back (3 ≤ n); and steps end apart that start apart
 pub step-ne : (c : Bool) (n i : ℕ) → 3 ≤ n → i < n → wrap c n (i + 1) ≡ i → ⊥
 step-ne c n i h k e = ⊎-elim (λ w. omega arith) (λ w. omega arith) (wrap-two c n (i + 1))
 
@@ -123,12 +131,13 @@ inv-reverse o n b p q r =
 
 -- ---- how a joined seam lays the steps of one row on those of the other
 
--- an offset of a row of n steps that may be closed: off 0 the row is closed
+-- an offset that a row of n steps can have: any below n if the row is closed, else 0
 abbrev pub Offset : ℕ → Bool → ℕ → Type 0
 Offset zero c n = Unit {0}
 Offset (suc o) true n = suc o < n
 Offset (suc o) false n = ⊥
 
+-- and a seam
 abbrev pub Fits : Seam → Bool → ℕ → Type 0
 Fits unjoined c n = Unit {0}
 Fits (forward o) c n = Offset o c n
@@ -140,7 +149,7 @@ laidOn unjoined n y = y
 laidOn (forward o) n y = pick (ltb y o) (y + n - o) (y - o)
 laidOn (reverse o) n y = pick (ltb y o) (o - 1 - y) (o + n - 1 - y)
 
--- and back
+-- and back: the step of row b that lies on step y of row a
 unfoldable pub laidBack : Seam → ℕ → ℕ → ℕ
 laidBack unjoined n y = y
 laidBack (forward o) n y = pick (ltb (y + o) n) (y + o) (y + o - n)
@@ -206,7 +215,8 @@ wrap-eq : (n i e : ℕ) → (i ≡ e) ⊎ ((i ≡ 0) × (e ≡ n)) → 0 < n →
 wrap-eq n i e (inl p) h = ap (wrap true n) p
 wrap-eq n i e (inr p) h = wrap-is true n i 0 (p .0) h ∙ sym (ap (wrap true n) (p .1) ∙ wrap-end n)
 
--- Row b's point y, carried to row a.
+-- ---- the points of a step, carried from row b to row a
+
 unfoldable pub carried : Seam → Bool → ℕ → ℕ → ℕ
 carried m c n y = wrap c n (inverse m n y)
 
