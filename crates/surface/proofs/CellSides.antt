@@ -1,35 +1,43 @@
--- The places of a cell's sides: two for each name, and which triangles hold them. Assumes nothing.
-use Prim.Native.Nat.{ℕ, zero, suc, _+_, _-_, _≤_, _<_}
-use mathlib.Core.Path.{_≡_, refl, sym, ap, _∙_, subst}
+-- The sides of a cell. Each has a low and a high side of each kind, its diagonal being both, and each side of the strip is the low side of one cell
+-- and the high side of one other (of a diagonal, of the same cell); on a rim one of the two is missing. Assumes nothing.
+use Prim.Native.Nat.{ℕ, _+_, _-_, _≤_, _<_}
+use mathlib.Core.Path.{_≡_, refl, sym, ap, _∙_}
 use mathlib.Core.Logic.{_⊎_, inl, inr, ⊎-elim}
 use mathlib.Core.Bool.{Bool, true, false, _&&_, not}
 use native.Mathlib.Omega.{arith}
-use lib.Dec.{eqb, ltb}
-use borrow.Author.Tests.{eqb-true, eqb-false, eq-eqb, ne-eqb}
+use lib.Dec.{eqb}
+use borrow.Author.Tests.{eq-eqb}
 use Rattle.cyclic.specs.Mapping.{pick}
-use Rattle.surface.specs.Surface.{Seam, unjoined, forward, reverse, joined, reversed, inverse, Split, falling, rising, Same}
-use Rattle.surface.proofs.Steps.{eqb-cases, lt-or-le, wrap, wrap-open, wrap-closed, wrap-two, wrap-below, wrap-end, wrap-le, laidOn, laidBack, on-below, back-below, on-back, on-inj, Fits}
-use Rattle.surface.proofs.Strip.{Strip, crossing, colOf, rowOf, pointOf, stepAt, turned, next, Kind, straight, across, diagonal, nameFrom, nameTo, fromY, toX, toY, Valid, one-name, row-below, col-below, step-below, stepAt-lt, col-le, next-le, next-ne, next-inj, col-ne, col-inj, row-next, adjacent, crossing-below}
+use Rattle.surface.specs.Surface.{Seam, unjoined, forward, reverse, joined, Split, falling, rising}
+use Rattle.surface.proofs.Steps.{lt-or-le, wrap, wrap-open, wrap-below, wrap-end, laidOn, laidBack, back-below, on-back, on-inj}
+use Rattle.surface.proofs.Strip.{Strip, crossing, colOf, rowOf, pointOf, stepAt, turned, next, Kind, straight, across, diagonal, nameFrom, nameTo, fromY, toY, Valid, row-below, col-below, step-below, stepAt-lt, col-le, next-le, next-ne, next-inj, col-ne, col-inj, row-next, adjacent}
 
 abbrev pub Cell : Strip → ℕ → ℕ → Type 0
 Cell S x y = (x < S .X) × (y < S .Y)
 
--- the ends of the side of kind k of cell (x, y): the low one (false) or the high one (true); a diagonal is both
-abbrev pub endsOf : Strip → Kind → Split → Bool → ℕ → ℕ → ℕ × ℕ
-endsOf S straight d false x y = (pointOf S x y, pointOf S x (y + 1))
-endsOf S straight d true x y = (pointOf S (x + 1) y, pointOf S (x + 1) (y + 1))
-endsOf S across d false x y = (pointOf S x y, pointOf S (x + 1) y)
-endsOf S across d true x y = (pointOf S x (y + 1), pointOf S (x + 1) (y + 1))
-endsOf S diagonal falling t x y = (pointOf S x (y + 1), pointOf S (x + 1) y)
-endsOf S diagonal rising t x y = (pointOf S x y, pointOf S (x + 1) (y + 1))
+-- no step on, or one
+abbrev pub shift : Bool → ℕ → ℕ
+shift false n = n
+shift true n = n + 1
+
+-- the corner of cell (x, y) that is i columns and j rows on
+abbrev pub corners : Strip → ℕ → ℕ → Bool → Bool → ℕ
+corners S x y i j = pointOf S (shift i x) (shift j y)
+
+-- the two ends of a cell's side, by the cell's corners: the low one (false) or the high one (true) of its kind; a diagonal is both
+abbrev pub endsOf : (Bool → Bool → ℕ) → Kind → Split → Bool → ℕ × ℕ
+endsOf c straight d t = (c t false, c t true)
+endsOf c across d t = (c false t, c true t)
+endsOf c diagonal falling t = (c false true, c true false)
+endsOf c diagonal rising t = (c false false, c true true)
 
 unfoldable pub sideFrom : Strip → Kind → Bool → ℕ → ℕ → ℕ
-sideFrom S k t x y = endsOf S k (S .split) t x y .0
+sideFrom S k t x y = endsOf (corners S x y) k (S .split) t .0
 
 unfoldable pub sideTo : Strip → Kind → Bool → ℕ → ℕ → ℕ
-sideTo S k t x y = endsOf S k (S .split) t x y .1
+sideTo S k t x y = endsOf (corners S x y) k (S .split) t .1
 
--- its name
+-- the name of that side
 abbrev pub nameX : Strip → Kind → Bool → ℕ → ℕ
 nameX S straight false x = x
 nameX S straight true x = colOf S (x + 1)
@@ -43,6 +51,7 @@ nameY S across false x y = y
 nameY S across true x y = next S y
 nameY S diagonal t x y = y
 
+-- whether its ends lie the other way round under its name
 abbrev pub turnedAt : Strip → Kind → Bool → ℕ → Bool
 turnedAt S straight false x = false
 turnedAt S straight true x = turned S (x + 1)
@@ -78,6 +87,7 @@ module _ (S : Strip) where
   unfolding next
   up x y h = pt x (y + 1) x (next S y) (col-below S x h) (row-below S x (y + 1) h)
 
+  -- the ends of a cell's side are those of its name
   abbrev pub Named : Kind → Bool → ℕ → ℕ → Type 0
   Named k t x y =
       ((turnedAt S k t x ≡ false) × (sideFrom S k t x y ≡ nameFrom S k (nameX S k t x) (nameY S k t x y)) × (sideTo S k t x y ≡ nameTo S k (nameX S k t x) (nameY S k t x y)))
@@ -99,12 +109,12 @@ module _ (S : Strip) where
   named diagonal t x y c = go split
     where
       go : (d : Split) →
-          ((false ≡ false) × (endsOf S diagonal d t x y .0 ≡ num x (fromY S diagonal d y)) × (endsOf S diagonal d t x y .1 ≡ num (colOf S (x + 1)) (toY S diagonal d x y)))
-          ⊎ ((false ≡ true) × (endsOf S diagonal d t x y .0 ≡ num (colOf S (x + 1)) (toY S diagonal d x y)) × (endsOf S diagonal d t x y .1 ≡ num x (fromY S diagonal d y)))
+          ((false ≡ false) × (endsOf (corners S x y) diagonal d t .0 ≡ num x (fromY S diagonal d y)) × (endsOf (corners S x y) diagonal d t .1 ≡ num (colOf S (x + 1)) (toY S diagonal d x y)))
+          ⊎ ((false ≡ true) × (endsOf (corners S x y) diagonal d t .0 ≡ num (colOf S (x + 1)) (toY S diagonal d x y)) × (endsOf (corners S x y) diagonal d t .1 ≡ num x (fromY S diagonal d y)))
       go falling = inl (refl, up x y (c .0), pt (x + 1) y (colOf S (x + 1)) (rowOf S (x + 1) y) refl refl)
       go rising = inl (refl, low x y (c .0) (c .1), pt (x + 1) (y + 1) (colOf S (x + 1)) (rowOf S (x + 1) (y + 1)) refl refl)
 
-  -- ---- a place is known by its name
+  -- ---- no two cells have the same low side, or the same high side
 
   step-inj-at : (z a b : ℕ) → a < Y → b < Y → stepAt S z a ≡ stepAt S z b → a ≡ b
   unfolding stepAt
@@ -124,7 +134,7 @@ module _ (S : Strip) where
   one-place across true x y x′ y′ c c′ p q = (p, next-inj S y y′ (c .1) (c′ .1) q)
   one-place diagonal t x y x′ y′ c c′ p q = (p, q)
 
-  -- ---- the other place of a name
+  -- ---- the cell on the other side
 
   seam-cases : (seam ≡ unjoined) ⊎ (joined seam ≡ true)
   seam-cases = go seam refl
@@ -165,6 +175,7 @@ module _ (S : Strip) where
   unfolding next
   next-last y e h = ap (λ (c : Bool). wrap c Y (y + 1)) e ∙ ap (wrap true Y) h ∙ wrap-end Y
 
+  -- cell (x′, y′) has as its high side the low side of cell (x, y), or the other way round
   pub record Partner (k : Kind) (t : Bool) (x y : ℕ) : Type 0 where
     pub x′ : ℕ
     pub y′ : ℕ
@@ -172,6 +183,7 @@ module _ (S : Strip) where
     pub same-x : nameX S k (not t) x′ ≡ nameX S k t x
     pub same-y : nameY S k (not t) x′ y′ ≡ nameY S k t x y
 
+  -- a side is on a rim, or there is such a cell
   pub partner : (k : Kind) (t : Bool) (x y : ℕ) → Cell S x y → RimAt S k t x y ⊎ Partner k t x y
   partner straight false x y c =
       ⊎-elim
@@ -222,7 +234,7 @@ module _ (S : Strip) where
       found h = record { x′ = x; y′ = next S y; cell = (c .0, h); same-x = refl; same-y = refl }
   partner diagonal t x y c = inr (record { x′ = x; y′ = y; cell = c; same-x = refl; same-y = refl })
 
-  -- a side on the rim has no other place
+  -- on a rim there is none
   pub rim-alone : (k : Kind) (t : Bool) (x y x′ y′ : ℕ) → Cell S x′ y′ → RimAt S k t x y →
       nameX S k (not t) x′ ≡ nameX S k t x → nameY S k (not t) x′ y′ ≡ nameY S k t x y → ⊥
   rim-alone straight false x y x′ y′ c r p q = omega (arith, col-unjoined (x′ + 1) (r .0))
@@ -231,7 +243,7 @@ module _ (S : Strip) where
   rim-alone across true x y x′ y′ c r p q = omega (arith, next-open y (r .0))
   rim-alone diagonal t x y x′ y′ c r p q = r
 
-  -- the two places of a name that is no diagonal are in different cells
+  -- and it is another cell, unless the side is a diagonal
   pub partner-apart : (k : Kind) (t : Bool) (x y : ℕ) → Cell S x y → (k ≡ diagonal → ⊥) →
       nameX S k (not t) x ≡ nameX S k t x → nameY S k (not t) x y ≡ nameY S k t x y → ⊥
   partner-apart straight false x y c n p q = col-ne S x (c .0) p

@@ -1,24 +1,25 @@
--- Demand 3, proved: for every covered joining with at least 3 steps each way. Assumes nothing.
-use Prim.Native.Nat.{ℕ, zero, suc, _+_, _-_, _*_, _≤_, _<_, min, max}
+-- Demand 3 for every covered joining with at least 3 steps each way. Seen along one of its seams the surface is a strip, in which all is said of
+-- halves of cells (Owners, Directions); what is left is to say it of triangle numbers, which are the slots' since no triangle is left out.
+-- Assumes nothing.
+use Prim.Native.Nat.{ℕ, _+_, _-_, _*_, _≤_, _<_, min, max}
 use mathlib.Core.Path.{_≡_, refl, sym, ap, _∙_, subst}
 use mathlib.Core.Logic.{_⊎_, inl, inr, ⊎-elim}
-use mathlib.Core.Bool.{Bool, true, false, not}
+use mathlib.Core.Bool.{Bool, true, false}
 use mathlib.Core.List.{List, [], List·Memᴰ, List·Memᴰ·not-nil, Memᴰ·cast}
 use native.Mathlib.Omega.{arith}
-use lib.Dec.{eqb}
 use lib.Arith.{digits-div, digits-mod}
-use lib.ListN.{length, getD}
+use lib.ListN.{length}
 use borrow.Author.Tests.{ne-eqb}
 use Rattle.cyclic.specs.Mapping.{pick}
-use Rattle.surface.specs.Surface.{Seam, unjoined, forward, reverse, reversed, Split, Shape, J, Triangle, tri, halfOf, slot, proper, kept, slots, triangles, Pair, pair, ordered, numberOf, stepOn, process, flipped, Follows, HasSide, nth, Owns, OwnedOnce, OwnedTwice, Same, Rim, SameWay, GridEdge, along-u, along-v, EdgeNumbers, Jₙ, Covered, Meets, Demand3, falls, rises}
+use Rattle.surface.specs.Surface.{Seam, unjoined, forward, reverse, reversed, Shape, J, Triangle, slot, proper, slots, triangles, Pair, pair, ordered, numberOf, stepOn, process, flipped, Follows, nth, Owns, OwnedOnce, OwnedTwice, Rim, SameWay, GridEdge, along-u, along-v, EdgeNumbers, Jₙ, Meets, Demand3, falls, rises}
 use Rattle.surface.proofs.Steps.{lt-or-le, Fits, laidOn, on-below}
-use Rattle.surface.proofs.Strip.{Strip, Kind, straight}
+use Rattle.surface.proofs.Strip.{Strip, straight}
 use Rattle.surface.proofs.CellSides.{Cell}
-use Rattle.surface.proofs.Owners.{Holds, OnRim, SameTri, Other, owned}
-use Rattle.surface.proofs.Directions.{Runs, Turn, Shared, runs-holds, holds-flip, holds-runs, runs-differ, same-way, turn-shared}
-use Rattle.surface.proofs.Points.{covered-along}
-use Rattle.surface.proofs.Views.{View, viewU, viewV, EdgeAt}
-use Rattle.surface.proofs.Triangles.{halfNum, index, halfAt, uAt, vAt, slot-at, uAt-lt, vAt-lt, index-at, index-lt, uAt-index, vAt-index, halfAt-index, kept-length, kept-at}
+use Rattle.surface.proofs.Owners.{Holds, SameTri, Other, owned}
+use Rattle.surface.proofs.Directions.{Runs, Turn, runs-holds, holds-flip, holds-runs, runs-differ, same-way, turn-shared}
+use Rattle.surface.proofs.Axes.{Axis, xOf, yOf, turn-x, turn-y, SeenAlong, strip, covered-along}
+use Rattle.surface.proofs.Seen.{to-runs, from-runs, seen-cell, rim-seen, seen-rim, edge-seen, lows, highs, low-index, high-index, flipped-seen}
+use Rattle.surface.proofs.Triangles.{index, halfAt, uAt, vAt, slot-at, uAt-lt, vAt-lt, index-at, index-lt, uAt-index, vAt-index, halfAt-index, kept-length, kept-at}
 use Rattle.surface.proofs.Pairs.{step-on, pair-eq, mem-in, process-to, process-from}
 
 proper-of : (t : Triangle) → (t .a ≡ t .b → ⊥) → (t .a ≡ t .c → ⊥) → (t .b ≡ t .c → ⊥) → proper t ≡ true
@@ -29,18 +30,21 @@ reversed-step (reverse o) c n y h f e k = step-on o c n y h f k
 reversed-step unjoined c n y h f e k = cc
 reversed-step (forward o) c n y h f e k = cc
 
-module _ (s : Shape) (m : 3 ≤ s .M) (n : 3 ≤ s .N) (W : View s) where
+module _ (s : Shape) (m : 3 ≤ s .M) (n : 3 ≤ s .N) (ax : Axis) (seen : SeenAlong ax s) where
+  abbrev Z : Strip
+  Z = strip s m n ax seen
+
   abbrev Run : Bool → ℕ → ℕ → ℕ → ℕ → Type 0
-  Run = Runs (W .S)
+  Run = Runs Z
 
   abbrev Hold : Bool → ℕ → ℕ → ℕ → ℕ → Type 0
-  Hold = Holds (W .S)
+  Hold = Holds Z
 
   abbrev xAt : ℕ → ℕ
-  xAt i = W .x (uAt s i) (vAt s i)
+  xAt i = xOf ax (uAt s i) (vAt s i)
 
   abbrev yAt : ℕ → ℕ
-  yAt i = W .y (uAt s i) (vAt s i)
+  yAt i = yOf ax (uAt s i) (vAt s i)
 
   u-lt : (i : ℕ) → i < slots s → uAt s i < s .M
   u-lt i h = uAt-lt s i (omega arith) h
@@ -49,10 +53,10 @@ module _ (s : Shape) (m : 3 ≤ s .M) (n : 3 ≤ s .N) (W : View s) where
   v-lt i = vAt-lt s i (omega arith)
 
   slot-runs : (i a b : ℕ) → i < slots s → Follows (slot s i) a b → Run (halfAt i) (xAt i) (yAt i) a b
-  slot-runs i a b h F = W .to-runs (halfAt i) (uAt s i) (vAt s i) a b (u-lt i h) (v-lt i) (subst (λ (t : Triangle). Follows t a b) (slot-at s i) F)
+  slot-runs i a b h F = to-runs s m n ax seen (halfAt i) (uAt s i) (vAt s i) a b (u-lt i h) (v-lt i) (subst (λ (t : Triangle). Follows t a b) (slot-at s i) F)
 
   runs-slot : (i a b : ℕ) → i < slots s → Run (halfAt i) (xAt i) (yAt i) a b → Follows (slot s i) a b
-  runs-slot i a b h r = subst (λ (t : Triangle). Follows t a b) (sym (slot-at s i)) (W .from-runs (halfAt i) (uAt s i) (vAt s i) a b (u-lt i h) (v-lt i) r)
+  runs-slot i a b h r = subst (λ (t : Triangle). Follows t a b) (sym (slot-at s i)) (from-runs s m n ax seen (halfAt i) (uAt s i) (vAt s i) a b (u-lt i h) (v-lt i) r)
 
   slot-proper : (i : ℕ) → i < slots s → proper (slot s i) ≡ true
   slot-proper i h =
@@ -62,7 +66,7 @@ module _ (s : Shape) (m : 3 ≤ s .M) (n : 3 ≤ s .N) (W : View s) where
       (differ (slot s i .b) (slot s i .c) (inr (inl (refl, refl))))
     where
       differ : (a b : ℕ) → Follows (slot s i) a b → a ≡ b → ⊥
-      differ a b F = runs-differ (W .S) (halfAt i) (xAt i) (yAt i) a b (slot-runs i a b h F)
+      differ a b F = runs-differ Z (halfAt i) (xAt i) (yAt i) a b (slot-runs i a b h F)
 
   count : length (triangles s) ≡ slots s
   unfolding triangles
@@ -76,7 +80,7 @@ module _ (s : Shape) (m : 3 ≤ s .M) (n : 3 ≤ s .N) (W : View s) where
   unfolding numberOf
   number-is i h = kept-length s i (λ j k. slot-proper j (omega arith))
 
-  -- ---- triangles of the list, and places of the strip
+  -- ---- triangle i of the list is half `halfAt i` of cell (`xAt i`, `yAt i`) of the strip
 
   below : (i : ℕ) → i < length (triangles s) → i < slots s
   below i h = omega (arith, count)
@@ -90,50 +94,50 @@ module _ (s : Shape) (m : 3 ≤ s .M) (n : 3 ≤ s .N) (W : View s) where
   owns-holds : (a b i : ℕ) → Owns (triangles s) a b i → Hold (halfAt i) (xAt i) (yAt i) a b
   owns-holds a b i o =
       ⊎-elim
-      (λ F. runs-holds (W .S) (halfAt i) (xAt i) (yAt i) a b (nth-runs i a b (o .there) F))
-      (λ F. holds-flip (W .S) (halfAt i) (xAt i) (yAt i) b a (runs-holds (W .S) (halfAt i) (xAt i) (yAt i) b a (nth-runs i b a (o .there) F)))
+      (λ F. runs-holds Z (halfAt i) (xAt i) (yAt i) a b (nth-runs i a b (o .there) F))
+      (λ F. holds-flip Z (halfAt i) (xAt i) (yAt i) b a (runs-holds Z (halfAt i) (xAt i) (yAt i) b a (nth-runs i b a (o .there) F)))
       (o .has)
 
   holds-owns : (a b i : ℕ) → i < slots s → Hold (halfAt i) (xAt i) (yAt i) a b → Owns (triangles s) a b i
   holds-owns a b i h p =
       record {
         there = omega (arith, count);
-        has = ⊎-elim (λ r. inl (runs-nth i a b h r)) (λ r. inr (runs-nth i b a h r)) (holds-runs (W .S) (halfAt i) (xAt i) (yAt i) a b p);
+        has = ⊎-elim (λ r. inl (runs-nth i a b h r)) (λ r. inr (runs-nth i b a h r)) (holds-runs Z (halfAt i) (xAt i) (yAt i) a b p);
       }
 
   -- the number of the triangle of half h of cell (x, y) of the strip
   indexOf : Bool → ℕ → ℕ → ℕ
-  indexOf h x y = index s h (W .u x y) (W .v x y)
+  indexOf h x y = index s h (xOf ax x y) (yOf ax x y)
 
-  indexOf-lt : (h : Bool) (x y : ℕ) → Cell (W .S) x y → indexOf h x y < slots s
+  indexOf-lt : (h : Bool) (x y : ℕ) → Cell Z x y → indexOf h x y < slots s
   unfolding indexOf
-  indexOf-lt h x y c = let b = W .back x y c in index-lt s h (W .u x y) (W .v x y) (b .0) (b .1)
+  indexOf-lt h x y c = let b = seen-cell s m n ax seen x y c in index-lt s h (xOf ax x y) (yOf ax x y) (b .0) (b .1)
 
   half-indexOf : (h : Bool) (x y : ℕ) → halfAt (indexOf h x y) ≡ h
   unfolding indexOf
-  half-indexOf h x y = halfAt-index s h (W .u x y) (W .v x y)
+  half-indexOf h x y = halfAt-index s h (xOf ax x y) (yOf ax x y)
 
-  x-indexOf : (h : Bool) (x y : ℕ) → Cell (W .S) x y → xAt (indexOf h x y) ≡ x
+  x-indexOf : (h : Bool) (x y : ℕ) → Cell Z x y → xAt (indexOf h x y) ≡ x
   unfolding indexOf
-  x-indexOf h x y c = let b = W .back x y c in cc (uAt-index s h (W .u x y) (W .v x y) (b .1), vAt-index s h (W .u x y) (W .v x y) (b .1), b .2)
+  x-indexOf h x y c = let b = seen-cell s m n ax seen x y c in cc (uAt-index s h (xOf ax x y) (yOf ax x y) (b .1), vAt-index s h (xOf ax x y) (yOf ax x y) (b .1), turn-x ax x y)
 
-  y-indexOf : (h : Bool) (x y : ℕ) → Cell (W .S) x y → yAt (indexOf h x y) ≡ y
+  y-indexOf : (h : Bool) (x y : ℕ) → Cell Z x y → yAt (indexOf h x y) ≡ y
   unfolding indexOf
-  y-indexOf h x y c = let b = W .back x y c in cc (uAt-index s h (W .u x y) (W .v x y) (b .1), vAt-index s h (W .u x y) (W .v x y) (b .1), b .3)
+  y-indexOf h x y c = let b = seen-cell s m n ax seen x y c in cc (uAt-index s h (xOf ax x y) (yOf ax x y) (b .1), vAt-index s h (xOf ax x y) (yOf ax x y) (b .1), turn-y ax x y)
 
   indexOf-at : (i : ℕ) → indexOf (halfAt i) (xAt i) (yAt i) ≡ i
   unfolding indexOf
-  indexOf-at i = cc (W .u-of (uAt s i) (vAt s i), W .v-of (uAt s i) (vAt s i), index-at s i)
+  indexOf-at i = cc (turn-x ax (uAt s i) (vAt s i), turn-y ax (uAt s i) (vAt s i), index-at s i)
 
   is-indexOf : (k : ℕ) (h : Bool) (x y : ℕ) → halfAt k ≡ h → xAt k ≡ x → yAt k ≡ y → k ≡ indexOf h x y
   is-indexOf k h x y p q r = cc (indexOf-at k)
 
-  at-index : (P : Bool → ℕ → ℕ → Type 0) (h : Bool) (x y : ℕ) → Cell (W .S) x y → P h x y → P (halfAt (indexOf h x y)) (xAt (indexOf h x y)) (yAt (indexOf h x y))
+  at-index : (P : Bool → ℕ → ℕ → Type 0) (h : Bool) (x y : ℕ) → Cell Z x y → P h x y → P (halfAt (indexOf h x y)) (xAt (indexOf h x y)) (yAt (indexOf h x y))
   at-index P h x y c p = rw (half-indexOf h x y, x-indexOf h x y c, y-indexOf h x y c) p
 
   -- ---- sides
 
-  once-case : (a b i : ℕ) → Owns (triangles s) a b i → ((h′ : Bool) (x′ y′ : ℕ) → Hold h′ x′ y′ a b → SameTri (W .S) (halfAt i) (xAt i) (yAt i) h′ x′ y′) → OwnedOnce (triangles s) a b
+  once-case : (a b i : ℕ) → Owns (triangles s) a b i → ((h′ : Bool) (x′ y′ : ℕ) → Hold h′ x′ y′ a b → SameTri Z (halfAt i) (xAt i) (yAt i) h′ x′ y′) → OwnedOnce (triangles s) a b
   once-case a b i o f =
       record {
         first = i;
@@ -142,13 +146,13 @@ module _ (s : Shape) (m : 3 ≤ s .M) (n : 3 ≤ s .N) (W : View s) where
             is-indexOf k (halfAt i) (xAt i) (yAt i) (e .0) (e .1) (e .2) ∙ indexOf-at i;
       }
 
-  twice-case : (a b i : ℕ) → Owns (triangles s) a b i → Other (W .S) (halfAt i) (xAt i) (yAt i) a b → OwnedTwice (triangles s) a b
+  twice-case : (a b i : ℕ) → Owns (triangles s) a b i → Other Z (halfAt i) (xAt i) (yAt i) a b → OwnedTwice (triangles s) a b
   twice-case a b i o t = ⊎-elim (λ h. in-order h) (λ h. out-of-order h) (lt-or-le i j)
     where
       j : ℕ
       j = indexOf (t .h₂) (t .x₂) (t .y₂)
 
-      c : Cell (W .S) (t .x₂) (t .y₂)
+      c : Cell Z (t .x₂) (t .y₂)
       c = t .holds .cell
 
       o₂ : Owns (triangles s) a b j
@@ -173,21 +177,18 @@ module _ (s : Shape) (m : 3 ≤ s .M) (n : 3 ≤ s .N) (W : View s) where
   side-case : (a b i : ℕ) → Owns (triangles s) a b i → (Rim s a b × OwnedOnce (triangles s) a b) ⊎ ((Rim s a b → ⊥) × OwnedTwice (triangles s) a b)
   side-case a b i o =
       ⊎-elim
-      (λ w. inl (W .rim-from a b (w .0), once-case a b i o (w .1)))
-      (λ w. inr (λ r. w .0 (W .rim-to a b r), twice-case a b i o (w .1)))
-      (owned (W .S) (halfAt i) (xAt i) (yAt i) a b (owns-holds a b i o))
+      (λ w. inl (seen-rim s m n ax seen a b (w .0), once-case a b i o (w .1)))
+      (λ w. inr (λ r. w .0 (rim-seen s m n ax seen a b r), twice-case a b i o (w .1)))
+      (owned Z (halfAt i) (xAt i) (yAt i) a b (owns-holds a b i o))
 
   edge-case : (u v u′ v′ : ℕ) → GridEdge s u v u′ v′ → (i : ℕ) × Owns (triangles s) (J s u v) (J s u′ v′) i
   edge-case u v u′ v′ g =
-      let e = W .edge-to u v u′ v′ g in
-      let h = W .S .half (e .k) (e .t) in
+      let e = edge-seen s m n ax seen u v u′ v′ g in
+      let h = Z .half (e .k) (e .t) in
       let p : Hold h (e .x) (e .y) (J s u v) (J s u′ v′) = record { k = e .k; t = e .t; cell = e .cell; on = refl; ends = e .ends } in
       (indexOf h (e .x) (e .y), holds-owns (J s u v) (J s u′ v′) (indexOf h (e .x) (e .y)) (indexOf-lt h (e .x) (e .y) (e .cell)) (at-index (λ h x y. Hold h x y (J s u v) (J s u′ v′)) h (e .x) (e .y) (e .cell) p))
 
   -- ---- flipped pairs
-
-  abbrev Z : Strip
-  Z = W .S
 
   abbrev TurnW : Bool → ℕ → ℕ → Bool → ℕ → ℕ → Type 0
   TurnW = Turn Z
@@ -196,10 +197,10 @@ module _ (s : Shape) (m : 3 ≤ s .M) (n : 3 ≤ s .N) (W : View s) where
   on y = laidOn (Z .seam) (Z .Y) y
 
   low-half : Bool
-  low-half = W .S .half straight false
+  low-half = Z .half straight false
 
   high-half : Bool
-  high-half = W .S .half straight true
+  high-half = Z .half straight true
 
   far : ℕ
   far = Z .X - 1
@@ -208,13 +209,13 @@ module _ (s : Shape) (m : 3 ≤ s .M) (n : 3 ≤ s .N) (W : View s) where
   unfolding far
   far-is = omega (arith, Z .X≥3)
 
-  low-is : (y : ℕ) → y < Z .Y → W .lows y ≡ indexOf low-half 0 y
-  unfolding indexOf low-half
-  low-is y h = W .low-index y h
+  low-is : (y : ℕ) → y < Z .Y → lows ax s y ≡ indexOf low-half 0 y
+  unfolding indexOf low-half strip
+  low-is y h = low-index s ax y
 
-  high-is : (x y : ℕ) → x + 1 ≡ Z .X → y < Z .Y → W .highs y ≡ indexOf high-half x y
-  unfolding indexOf high-half
-  high-is x y e h = W .high-index x y e h
+  high-is : (x y : ℕ) → x + 1 ≡ Z .X → y < Z .Y → highs ax s y ≡ indexOf high-half x y
+  unfolding indexOf high-half strip
+  high-is x y e h = let last : Z .X - 1 ≡ x = omega arith in high-index s ax y ∙ ap (λ (z : ℕ). index s (Z .half straight true) (xOf ax z y) (yOf ax z y)) last
 
   on-lt : (y : ℕ) → y < Z .Y → on y < Z .Y
   on-lt y h = on-below (Z .seam) (Z .closed) (Z .Y) y (Z .fits) h
@@ -225,28 +226,30 @@ module _ (s : Shape) (m : 3 ≤ s .M) (n : 3 ≤ s .N) (W : View s) where
   high-cell : (y : ℕ) → y < Z .Y → Cell Z far y
   high-cell y h = (omega (arith, far-is), h)
 
-  low-ok : (y : ℕ) → y < Z .Y → (proper (slot s (W .lows y)) ≡ true) × (numberOf s (W .lows y) ≡ W .lows y)
+  low-ok : (y : ℕ) → y < Z .Y → (proper (slot s (lows ax s y)) ≡ true) × (numberOf s (lows ax s y) ≡ lows ax s y)
   low-ok y h =
-      let l : W .lows y < slots s = omega (arith, low-is y h, indexOf-lt low-half 0 y (low-cell y h)) in
-      (slot-proper (W .lows y) l, number-is (W .lows y) l)
+      let l : lows ax s y < slots s = omega (arith, low-is y h, indexOf-lt low-half 0 y (low-cell y h)) in
+      (slot-proper (lows ax s y) l, number-is (lows ax s y) l)
 
-  high-ok : (y : ℕ) → y < Z .Y → (proper (slot s (W .highs y)) ≡ true) × (numberOf s (W .highs y) ≡ W .highs y)
+  high-ok : (y : ℕ) → y < Z .Y → (proper (slot s (highs ax s y)) ≡ true) × (numberOf s (highs ax s y) ≡ highs ax s y)
   high-ok y h =
-      let l : W .highs y < slots s = omega (arith, high-is far y far-is h, indexOf-lt high-half far y (high-cell y h)) in
-      (slot-proper (W .highs y) l, number-is (W .highs y) l)
+      let l : highs ax s y < slots s = omega (arith, high-is far y far-is h, indexOf-lt high-half far y (high-cell y h)) in
+      (slot-proper (highs ax s y) l, number-is (highs ax s y) l)
 
-  flipped-reversed : reversed (Z .seam) ≡ true → flipped s ≡ process s (Z .seam) (Z .Y) (W .lows) (W .highs) (Z .Y) []
-  flipped-reversed e = W .flips ∙ ap (λ (t : Bool). pick t (process s (Z .seam) (Z .Y) (W .lows) (W .highs) (Z .Y) []) []) e
+  flipped-reversed : reversed (Z .seam) ≡ true → flipped s ≡ process s (Z .seam) (Z .Y) (lows ax s) (highs ax s) (Z .Y) []
+  unfolding strip
+  flipped-reversed e = flipped-seen s ax (seen .plain) ∙ ap (λ (t : Bool). pick t (process s (Z .seam) (Z .Y) (lows ax s) (highs ax s) (Z .Y) []) []) e
 
   flipped-none : reversed (Z .seam) ≡ false → flipped s ≡ []
-  flipped-none e = W .flips ∙ ap (λ (t : Bool). pick t (process s (Z .seam) (Z .Y) (W .lows) (W .highs) (Z .Y) []) []) e
+  unfolding strip
+  flipped-none e = flipped-seen s ax (seen .plain) ∙ ap (λ (t : Bool). pick t (process s (Z .seam) (Z .Y) (lows ax s) (highs ax s) (Z .Y) []) []) e
 
   -- the two triangles at a turn, by their numbers
-  turn-low : (i j : ℕ) → TurnW (halfAt i) (xAt i) (yAt i) (halfAt j) (xAt j) (yAt j) → i ≡ W .lows (on (yAt j))
+  turn-low : (i j : ℕ) → TurnW (halfAt i) (xAt i) (yAt i) (halfAt j) (xAt j) (yAt j) → i ≡ lows ax s (on (yAt j))
   unfolding low-half
   turn-low i j t = is-indexOf i low-half 0 (on (yAt j)) (t .low-half) (t .low-x) (t .low-y) ∙ sym (low-is (on (yAt j)) (on-lt (yAt j) (t .below)))
 
-  turn-high : (i j : ℕ) → TurnW (halfAt i) (xAt i) (yAt i) (halfAt j) (xAt j) (yAt j) → j ≡ W .highs (yAt j)
+  turn-high : (i j : ℕ) → TurnW (halfAt i) (xAt i) (yAt i) (halfAt j) (xAt j) (yAt j) → j ≡ highs ax s (yAt j)
   unfolding high-half
   turn-high i j t = is-indexOf j high-half (xAt j) (yAt j) (t .high-half) refl refl ∙ sym (high-is (xAt j) (yAt j) (t .high-x) (t .below))
 
@@ -254,7 +257,7 @@ module _ (s : Shape) (m : 3 ≤ s .M) (n : 3 ≤ s .N) (W : View s) where
   listed i j t =
       mem-in (sym (flipped-reversed (t .rev)))
       (Memᴰ·cast (cc (turn-low i j t, turn-high i j t))
-      (process-from s (Z .seam) (Z .Y) (W .lows) (W .highs) on (λ y h. reversed-step (Z .seam) (Z .closed) (Z .Y) y (Z .Y≥3) (Z .fits) (t .rev) h) on-lt low-ok high-ok (Z .Y) (omega arith) (yAt j) (t .below)))
+      (process-from s (Z .seam) (Z .Y) (lows ax s) (highs ax s) on (λ y h. reversed-step (Z .seam) (Z .closed) (Z .Y) y (Z .Y≥3) (Z .fits) (t .rev) h) on-lt low-ok high-ok (Z .Y) (omega arith) (yAt j) (t .below)))
 
   flip-case : (i j : ℕ) → i < j → SameWay (triangles s) i j → List·Memᴰ (pair i j) (flipped s)
   flip-case i j h w =
@@ -313,7 +316,7 @@ module _ (s : Shape) (m : 3 ≤ s .M) (n : 3 ≤ s .N) (W : View s) where
       go : (t : Bool) → reversed (Z .seam) ≡ t → (p .low < p .high) × SameWay (triangles s) (p .low) (p .high)
       go false e = absurd (List·Memᴰ·not-nil (mem-in (flipped-none e) q))
       go true e =
-          let t = process-to s (Z .seam) (Z .Y) (W .lows) (W .highs) on (λ y h. reversed-step (Z .seam) (Z .closed) (Z .Y) y (Z .Y≥3) (Z .fits) e h) on-lt low-ok high-ok (Z .Y) (omega arith) p (mem-in (flipped-reversed e) q) in
+          let t = process-to s (Z .seam) (Z .Y) (lows ax s) (highs ax s) on (λ y h. reversed-step (Z .seam) (Z .closed) (Z .Y) y (Z .Y≥3) (Z .fits) e h) on-lt low-ok high-ok (Z .Y) (omega arith) p (mem-in (flipped-reversed e) q) in
           let y = t .0 in
           let f : p ≡ ordered (indexOf low-half 0 (on y)) (indexOf high-half far y) = t .2 ∙ cc (low-is (on y) (on-lt y (t .1)), high-is far y far-is (t .1)) in
           ordered-way p (indexOf low-half 0 (on y)) (indexOf high-half far y) f (turn-apart y (t .1)) (shared-way y (t .1) e)
@@ -322,7 +325,7 @@ module _ (s : Shape) (m : 3 ≤ s .M) (n : 3 ≤ s .N) (W : View s) where
   meets = record { sides = side-case; flipped-if = flip-case; flipped-only-if = flop-case; edges = edge-case }
 
 pub demand3 : Demand3
-demand3 s m n c = ⊎-elim (λ w. meets s m n (viewU s m n w)) (λ w. meets s m n (viewV s m n w)) (covered-along s c)
+demand3 s m n c = let w = covered-along s c in meets s m n (w .0) (w .1)
 
 -- J of a point by its number
 pub J-number : (s : Shape) (u v : ℕ) → v ≤ s .N → Jₙ s (u * (s .N + 1) + v) ≡ J s u v

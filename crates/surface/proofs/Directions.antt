@@ -1,17 +1,18 @@
--- Which two triangles run along a side the same way: those on both sides of a reversed seam. Assumes nothing.
-use Prim.Native.Nat.{ℕ, zero, suc, _+_, _-_, _≤_, _<_}
+-- Which way a triangle runs along its sides. Of the two that share a side, one runs along it from the first end of its name to the second and the
+-- other back. Only across a reversed seam the ends lie the other way round on one side, and there the two run the same way. Assumes nothing.
+use Prim.Native.Nat.{ℕ, _+_, _-_, _<_}
 use mathlib.Core.Path.{_≡_, refl, sym, ap, _∙_, subst}
 use mathlib.Core.Logic.{_⊎_, inl, inr, ⊎-elim}
-use mathlib.Core.Bool.{Bool, true, false, _&&_, not}
+use mathlib.Core.Bool.{Bool, true, false, _&&_, not, false≢true}
 use native.Mathlib.Omega.{arith}
 use lib.Dec.{eqb}
 use borrow.Author.Tests.{eqb-true, eq-eqb}
 use Rattle.cyclic.specs.Mapping.{pick}
-use Rattle.surface.specs.Surface.{Seam, unjoined, forward, reverse, joined, reversed, Split, falling, rising, Same}
-use Rattle.surface.proofs.Steps.{laidOn, on-below}
+use Rattle.surface.specs.Surface.{Seam, unjoined, forward, reverse, joined, reversed, Same}
+use Rattle.surface.proofs.Steps.{both-true, laidOn, on-below}
 use Rattle.surface.proofs.Strip.{Strip, Kind, straight, across, diagonal, nameFrom, nameTo, fromY, toX, toY, Valid, x-le, toX-le, fromY-le, toY-le, turned, colOf, stepAt, col-ne, next-ne}
-use Rattle.surface.proofs.CellSides.{Cell, sideFrom, sideTo, nameX, nameY, turnedAt, valid, Named, named, far-col, far-step}
-use Rattle.surface.proofs.Owners.{same-or-not, not-self, Holds, compare, SameTri, Opposite}
+use Rattle.surface.proofs.CellSides.{Cell, sideFrom, sideTo, nameX, nameY, turnedAt, valid, named, far-col, far-step}
+use Rattle.surface.proofs.Owners.{same-flip, not-self, Holds, compare, SameTri, Opposite}
 
 module _ (S : Strip) where
   open Strip S using (X, Y, closed, seam, split, num, X≥3, Y≥3, fits, inj)
@@ -33,24 +34,12 @@ module _ (S : Strip) where
       (λ w. names-differ k (nameX S k t x) (nameY S k t x y) (valid S k t x y c) (sym (w .2) ∙ sym e ∙ w .1))
       (named S k t x y c)
 
+  -- only the last column of a reversed seam lies the other way round
   turned-straight : (k : Kind) (t : Bool) (x : ℕ) → turnedAt S k t x ≡ true → (k ≡ straight) × (t ≡ true) × (turned S (x + 1) ≡ true)
   turned-straight straight true x e = (refl, refl, e)
-  turned-straight straight false x e = let z : _≡_ {A = ℕ} 0 1 = cc in absurd (nope z)
-    where
-      nope : _≡_ {A = ℕ} 0 1 → ⊥
-      nope z = omega arith
-  turned-straight across t x e = let z : _≡_ {A = ℕ} 0 1 = cc in absurd (nope z)
-    where
-      nope : _≡_ {A = ℕ} 0 1 → ⊥
-      nope z = omega arith
-  turned-straight diagonal t x e = let z : _≡_ {A = ℕ} 0 1 = cc in absurd (nope z)
-    where
-      nope : _≡_ {A = ℕ} 0 1 → ⊥
-      nope z = omega arith
-
-  both-true : (a b : Bool) → (a && b) ≡ true → (a ≡ true) × (b ≡ true)
-  both-true true b e = (refl, e)
-  both-true false b e = (e, cc)
+  turned-straight straight false x e = absurd (false≢true e)
+  turned-straight across t x e = absurd (false≢true e)
+  turned-straight diagonal t x e = absurd (false≢true e)
 
   turned-far : (x : ℕ) → turned S x ≡ true → (reversed seam ≡ true) × (x ≡ X)
   unfolding turned
@@ -68,12 +57,15 @@ module _ (S : Strip) where
       go (forward o) e = refl
       go (reverse o) e = refl
 
-module _ (S : Strip) where
-  open Strip S using (X, Y, seam, fits, X≥3, Y≥3, half, half-diagonal, dir, dir-not)
+  -- ---- runs
 
+  open Strip S using (half, half-diagonal, dir, dir-not)
+
+  -- a to b is c to d, or d to c where w is false
   abbrev pub Along : Bool → ℕ → ℕ → ℕ → ℕ → Type 0
   Along w a b c d = ((w ≡ true) × (a ≡ c) × (b ≡ d)) ⊎ ((w ≡ false) × (a ≡ d) × (b ≡ c))
 
+  -- going around half h of cell (x, y), b follows a
   pub record Runs (h : Bool) (x y a b : ℕ) : Type 0 where
     pub k : Kind
     pub t : Bool
@@ -88,7 +80,7 @@ module _ (S : Strip) where
   pub runs-holds : (h : Bool) (x y a b : ℕ) → Runs h x y a b → Holds S h x y a b
   runs-holds h x y a b r = record { k = r .k; t = r .t; cell = r .cell; on = r .on; ends = along-same (r .along) }
 
-  -- the low side of column 0 and the high side of the far column that lies on it the other way round
+  -- across a reversed seam: half h has a low side of column 0, and half h′ the high side of the last column that lies on it the other way round
   pub record Turn (h : Bool) (x y : ℕ) (h′ : Bool) (x′ y′ : ℕ) : Type 0 where
     pub rev : reversed seam ≡ true
     pub below : y′ < Y
@@ -98,7 +90,7 @@ module _ (S : Strip) where
     pub high-half : h′ ≡ half straight true
     pub high-x : x′ + 1 ≡ X
 
-  -- at which end of its name a place that is not turned begins
+  -- a run from a starts at the first end of the side's name or at the second, as its direction says
   Begins : Kind → Bool → ℕ → ℕ → ℕ → Type 0
   Begins k t x y a =
       ((dir k t ≡ true) × (a ≡ nameFrom S k (nameX S k t x) (nameY S k t x y))) ⊎ ((dir k t ≡ false) × (a ≡ nameTo S k (nameX S k t x) (nameY S k t x y)))
@@ -108,12 +100,12 @@ module _ (S : Strip) where
   begins k t x y a b c (inl e) = ⊎-elim (λ w. inr (inl (e .0, e .1 ∙ w .1))) (λ w. inl (w .0)) (named S k t x y c)
   begins k t x y a b c (inr e) = ⊎-elim (λ w. inr (inr (e .0, e .1 ∙ w .2))) (λ w. inl (w .0)) (named S k t x y c)
 
-  -- two opposite places that are not turned do not begin at one end
+  -- two opposite halves do not start at the same end
   clash : (k k′ : Kind) (t t′ : Bool) (x y x′ y′ a : ℕ) → Cell S x y → Opposite S k t x y k′ t′ x′ y′ → Begins k t x y a → Begins k′ t′ x′ y′ a → ⊥
   unfolding Begins
   clash k k′ t t′ x y x′ y′ a c o (inl p) (inl q) = not-self true (cc (o .0, o .1, dir-not k t, p .0, q .0))
-  clash k k′ t t′ x y x′ y′ a c o (inl p) (inr q) = names-differ S k (nameX S k t x) (nameY S k t x y) (valid S k t x y c) (cc (o .0, o .1, o .2, o .3, p .1, q .1))
-  clash k k′ t t′ x y x′ y′ a c o (inr p) (inl q) = names-differ S k (nameX S k t x) (nameY S k t x y) (valid S k t x y c) (cc (o .0, o .1, o .2, o .3, p .1, q .1))
+  clash k k′ t t′ x y x′ y′ a c o (inl p) (inr q) = names-differ k (nameX S k t x) (nameY S k t x y) (valid S k t x y c) (cc (o .0, o .1, o .2, o .3, p .1, q .1))
+  clash k k′ t t′ x y x′ y′ a c o (inr p) (inl q) = names-differ k (nameX S k t x) (nameY S k t x y) (valid S k t x y c) (cc (o .0, o .1, o .2, o .3, p .1, q .1))
   clash k k′ t t′ x y x′ y′ a c o (inr p) (inr q) = not-self false (cc (o .0, o .1, dir-not k t, p .0, q .0))
 
   opposite-low : (k : Kind) (t : Bool) (x y x′ y′ : ℕ) → k ≡ straight → t ≡ true → nameX S k (not t) x′ ≡ nameX S k t x → nameY S k (not t) x′ y′ ≡ nameY S k t x y → (x′ ≡ colOf S (x + 1)) × (y′ ≡ stepAt S (x + 1) y)
@@ -128,17 +120,17 @@ module _ (S : Strip) where
         rev = far .0;
         below = p .cell .1;
         low-half = cc (q .on, o .0, o .1, st .0, st .1, off);
-        low-x = lo .0 ∙ ap (colOf S) (far .1) ∙ far-col S (reversed-joined S (far .0));
-        low-y = lo .1 ∙ ap (λ (z : ℕ). stepAt S z y) (far .1) ∙ far-step S y (reversed-joined S (far .0));
+        low-x = lo .0 ∙ ap (colOf S) (far .1) ∙ far-col S (reversed-joined (far .0));
+        low-y = lo .1 ∙ ap (λ (z : ℕ). stepAt S z y) (far .1) ∙ far-step S y (reversed-joined (far .0));
         high-half = cc (p .on, st .0, st .1);
         high-x = far .1;
       }
     where
       st : (p .k ≡ straight) × (p .t ≡ true) × (turned S (x + 1) ≡ true)
-      st = turned-straight S (p .k) (p .t) x e
+      st = turned-straight (p .k) (p .t) x e
 
       far : (reversed seam ≡ true) × (x + 1 ≡ X)
-      far = turned-far S (x + 1) (st .2)
+      far = turned-far (x + 1) (st .2)
 
       lo : (x′ ≡ colOf S (x + 1)) × (y′ ≡ stepAt S (x + 1) y)
       lo = opposite-low (p .k) (p .t) x y x′ y′ (st .0) (st .1) (o .2) (o .3)
@@ -184,13 +176,13 @@ module _ (S : Strip) where
       cell-high = (omega (arith, r .high-x), r .below)
 
       name-x : colOf S (x′ + 1) ≡ x
-      name-x = ap (colOf S) (r .high-x) ∙ far-col S (reversed-joined S (r .rev)) ∙ sym (r .low-x)
+      name-x = ap (colOf S) (r .high-x) ∙ far-col S (reversed-joined (r .rev)) ∙ sym (r .low-x)
 
       name-y : stepAt S (x′ + 1) y′ ≡ y
-      name-y = ap (λ (z : ℕ). stepAt S z y′) (r .high-x) ∙ far-step S y′ (reversed-joined S (r .rev)) ∙ sym (r .low-y)
+      name-y = ap (λ (z : ℕ). stepAt S z y′) (r .high-x) ∙ far-step S y′ (reversed-joined (r .rev)) ∙ sym (r .low-y)
 
       is-turned : turned S (x′ + 1) ≡ true
-      is-turned = ap (turned S) (r .high-x) ∙ far-turned S (r .rev)
+      is-turned = ap (turned S) (r .high-x) ∙ far-turned (r .rev)
 
       low : (sideFrom S straight false x y ≡ nameFrom S straight x y) × (sideTo S straight false x y ≡ nameTo S straight x y)
       low = ⊎-elim (λ w. (w .1, w .2)) (λ w. absurd (not-self true (w .0))) (named S straight false x y cell-low)
@@ -222,12 +214,12 @@ module _ (S : Strip) where
   along-ends w a b c d (inl e) = (e .1 ∙ ap (λ (z : Bool). pick z c d) (sym (e .0)), e .2 ∙ ap (λ (z : Bool). pick z d c) (sym (e .0)))
   along-ends w a b c d (inr e) = (e .1 ∙ ap (λ (z : Bool). pick z c d) (sym (e .0)), e .2 ∙ ap (λ (z : Bool). pick z d c) (sym (e .0)))
 
+  pub ends-along : (w : Bool) (a b c d : ℕ) → a ≡ pick w c d → b ≡ pick w d c → Along w a b c d
+  ends-along true a b c d p q = inl (refl, p, q)
+  ends-along false a b c d p q = inr (refl, p, q)
+
   pub holds-flip : (h : Bool) (x y a b : ℕ) → Holds S h x y a b → Holds S h x y b a
-  holds-flip h x y a b p = record { k = p .k; t = p .t; cell = p .cell; on = p .on; ends = flip (p .ends) }
-    where
-      flip : {a b c d : ℕ} → Same a b c d → Same b a c d
-      flip (inl e) = inr (e .1, e .0)
-      flip (inr e) = inl (e .1, e .0)
+  holds-flip h x y a b p = record { k = p .k; t = p .t; cell = p .cell; on = p .on; ends = same-flip (p .ends) }
 
   pub holds-runs : (h : Bool) (x y a b : ℕ) → Holds S h x y a b → Runs h x y a b ⊎ Runs h x y b a
   holds-runs h x y a b p = go (dir (p .k) (p .t)) refl (p .ends)
@@ -243,5 +235,5 @@ module _ (S : Strip) where
   runs-differ h x y a b r e = go (r .along)
     where
       go : Along (dir (r .k) (r .t)) a b (sideFrom S (r .k) (r .t) x y) (sideTo S (r .k) (r .t) x y) → ⊥
-      go (inl q) = ends-differ S (r .k) (r .t) x y (r .cell) (sym (q .1) ∙ e ∙ q .2)
-      go (inr q) = ends-differ S (r .k) (r .t) x y (r .cell) (sym (q .2) ∙ sym e ∙ q .1)
+      go (inl q) = ends-differ (r .k) (r .t) x y (r .cell) (sym (q .1) ∙ e ∙ q .2)
+      go (inr q) = ends-differ (r .k) (r .t) x y (r .cell) (sym (q .2) ∙ sym e ∙ q .1)

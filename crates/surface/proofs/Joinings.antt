@@ -2,7 +2,7 @@
 -- and an offset below them; with that, 01's list of joinings is the one that the theorem on shapes is proved for. Assumes nothing.
 use Prim.Native.Nat.{ℕ, zero, suc, _+_, _-_, _≤_, _<_}
 use mathlib.Core.Path.{_≡_, refl, ap, subst}
-use mathlib.Core.Logic.{_⊎_, inl, inr}
+use mathlib.Core.Logic.{inl, inr}
 use mathlib.Core.Bool.{Bool, true, false, _||_, not}
 use mathlib.Core.List.{List}
 use native.Mathlib.Omega.{arith}
@@ -16,8 +16,8 @@ use Rattle.cyclic.specs.declared.seam.Seam.the-variants.{Joined, Unjoined}
 use Rattle.cyclic.specs.declared.seam.SeamSearch.{SeamSearch}
 use Rattle.cyclic.specs.Mapping.{pick, offsetOf}
 use Rattle.cyclic.specs.Search.{Row, Closeness, tryFrom, closed, searchFrom, searchRows, search}
-use Rattle.surface.specs.Surface.{unjoined, forward, reverse, Shape, Covered, neither, only-u, only-v, both-u, both-v, Meets, triangles, Owns, EdgeNumbers, Jₙ}
-use Rattle.surface.specs.Found.{uSearch, vSearch, ofMapping, seamOf, surfaceWith, surfaceOf, ForwardAtZero, ForwardOrOffZero, CoveredJoining, CoveredGrid, SurfaceMeets}
+use Rattle.surface.specs.Surface.{forward, Covered, neither, only-u, only-v, both-u, both-v, Meets, triangles, Owns, EdgeNumbers, Jₙ}
+use Rattle.surface.specs.Found.{uSearch, vSearch, ofMapping, surfaceWith, surfaceOf, ForwardAtZero, CoveredJoining, CoveredGrid, SurfaceMeets}
 use Rattle.surface.proofs.Demand.{demand3, traced}
 
 -- ---- what a search finds

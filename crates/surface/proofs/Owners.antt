@@ -1,16 +1,21 @@
--- Which triangles hold a side: one where it lies on a rim, two elsewhere. Assumes nothing.
-use Prim.Native.Nat.{ℕ, zero, suc, _+_, _-_, _≤_, _<_}
-use mathlib.Core.Path.{_≡_, refl, sym, ap, _∙_, subst}
+-- Which triangles have a side: one where it lies on a rim, two elsewhere (`owned`), since the low side of a cell is the high side of one other and
+-- the two halves of a cell share its diagonal. Assumes nothing.
+use Prim.Native.Nat.{ℕ, _-_}
+use mathlib.Core.Path.{_≡_, refl, sym, _∙_}
 use mathlib.Core.Logic.{_⊎_, inl, inr, ⊎-elim}
-use mathlib.Core.Bool.{Bool, true, false, not}
+use mathlib.Core.Bool.{Bool, true, false, not, true≢false, false≢true}
 use native.Mathlib.Omega.{arith}
-use Rattle.surface.specs.Surface.{Split, falling, rising, Same}
-use Rattle.surface.proofs.Strip.{Strip, Kind, straight, across, diagonal, nameFrom, nameTo, Valid, one-name, Agree, turned}
-use Rattle.surface.proofs.CellSides.{Cell, sideFrom, sideTo, nameX, nameY, RimAt, turnedAt, valid, Named, named, one-place, Partner, partner, rim-alone, partner-apart}
+use Rattle.surface.specs.Surface.{Same}
+use Rattle.surface.proofs.Strip.{Strip, Kind, straight, across, diagonal, nameFrom, nameTo, one-name, Agree}
+use Rattle.surface.proofs.CellSides.{Cell, sideFrom, sideTo, nameX, nameY, RimAt, valid, named, one-place, Partner, partner, rim-alone, partner-apart}
 
 pub same-sym : {a b c d : ℕ} → Same a b c d → Same c d a b
 same-sym (inl e) = inl (sym (e .0), sym (e .1))
 same-sym (inr e) = inr (sym (e .1), sym (e .0))
+
+pub same-flip : {a b c d : ℕ} → Same a b c d → Same b a c d
+same-flip (inl e) = inr (e .1, e .0)
+same-flip (inr e) = inl (e .1, e .0)
 
 pub same-trans : {a b c d e f : ℕ} → Same a b c d → Same c d e f → Same a b e f
 same-trans (inl p) (inl q) = inl (p .0 ∙ q .0, p .1 ∙ q .1)
@@ -25,8 +30,8 @@ same-or-not false true = inr refl
 same-or-not false false = inl refl
 
 pub not-self : (t : Bool) → not t ≡ t → ⊥
-not-self true e = let z : _≡_ {A = ℕ} 0 1 = cc in omega arith
-not-self false e = let z : _≡_ {A = ℕ} 0 1 = cc in omega arith
+not-self true e = false≢true e
+not-self false e = true≢false e
 
 pub kind-cases : (k : Kind) → (k ≡ diagonal) ⊎ (k ≡ diagonal → ⊥)
 kind-cases straight = inr (λ e. let z : _≡_ {A = ℕ} 0 1 = cc in omega arith)
@@ -36,6 +41,7 @@ kind-cases diagonal = inl refl
 module _ (S : Strip) where
   open Strip S using (half, half-diagonal)
 
+  -- half h of cell (x, y) has the side of a and b
   pub record Holds (h : Bool) (x y a b : ℕ) : Type 0 where
     pub k : Kind
     pub t : Bool
@@ -43,6 +49,7 @@ module _ (S : Strip) where
     pub on : half k t ≡ h
     pub ends : Same a b (sideFrom S k t x y) (sideTo S k t x y)
 
+  -- the side of a and b lies on a rim
   pub record OnRim (a b : ℕ) : Type 0 where
     pub k : Kind
     pub t : Bool
@@ -52,13 +59,14 @@ module _ (S : Strip) where
     pub rim : RimAt S k t x y
     pub ends : Same a b (sideFrom S k t x y) (sideTo S k t x y)
 
+  -- the same triangle
   abbrev pub SameTri : Bool → ℕ → ℕ → Bool → ℕ → ℕ → Type 0
   SameTri h x y h′ x′ y′ = (h′ ≡ h) × (x′ ≡ x) × (y′ ≡ y)
 
   named-same : (k : Kind) (t : Bool) (x y : ℕ) → Cell S x y → Same (sideFrom S k t x y) (sideTo S k t x y) (nameFrom S k (nameX S k t x) (nameY S k t x y)) (nameTo S k (nameX S k t x) (nameY S k t x y))
   named-same k t x y c = ⊎-elim (λ w. inl (w .1, w .2)) (λ w. inr (w .1, w .2)) (named S k t x y c)
 
-  -- two places of one side have one name
+  -- two cells that have one side name it alike
   agree : (a b : ℕ) (k k′ : Kind) (t t′ : Bool) (x y x′ y′ : ℕ) → Cell S x y → Cell S x′ y′ →
       Same a b (sideFrom S k t x y) (sideTo S k t x y) → Same a b (sideFrom S k′ t′ x′ y′) (sideTo S k′ t′ x′ y′) →
       Agree S k k′ (nameX S k t x) (nameY S k t x y) (nameX S k′ t′ x′) (nameY S k′ t′ x′ y′)
@@ -66,7 +74,7 @@ module _ (S : Strip) where
       one-name S k k′ (nameX S k t x) (nameY S k t x y) (nameX S k′ t′ x′) (nameY S k′ t′ x′ y′) (valid S k t x y c) (valid S k′ t′ x′ y′ c′)
       (same-trans (same-sym (same-trans p (named-same k t x y c))) (same-trans q (named-same k′ t′ x′ y′ c′)))
 
-  -- so they are one place, or the two places of the name
+  -- so it is the low side, or the high side, of both, which are one cell; or the low side of one and the high side of the other
   abbrev pub Opposite : Kind → Bool → ℕ → ℕ → Kind → Bool → ℕ → ℕ → Type 0
   Opposite k t x y k′ t′ x′ y′ = (k′ ≡ k) × (t′ ≡ not t) × (nameX S k (not t) x′ ≡ nameX S k t x) × (nameY S k (not t) x′ y′ ≡ nameY S k t x y)
 
@@ -95,7 +103,7 @@ module _ (S : Strip) where
       opp-nameY : Ag → t′ ≡ not t → nameY S k (not t) x′ y′ ≡ nameY S k t x y
       opp-nameY e f = cc (e .0, e .2)
 
-  -- the side of a place on the rim is on no other triangle
+  -- on a rim, no other triangle has the side
   pub alone : (h h′ : Bool) (x y x′ y′ a b : ℕ) (p : Holds h x y a b) → RimAt S (p .k) (p .t) x y → Holds h′ x′ y′ a b → SameTri h x y h′ x′ y′
   alone h h′ x y x′ y′ a b p r q =
       ⊎-elim
@@ -106,7 +114,7 @@ module _ (S : Strip) where
       halves : ((q .k ≡ p .k) × (q .t ≡ p .t) × (x′ ≡ x) × (y′ ≡ y)) → half (q .k) (q .t) ≡ half (p .k) (p .t)
       halves w = cc (w .0, w .1)
 
-  -- the other triangle that holds it, elsewhere
+  -- elsewhere one other has it, and no third
   pub record Other (h : Bool) (x y a b : ℕ) : Type 0 where
     pub h₂ : Bool
     pub x₂ : ℕ
@@ -152,7 +160,7 @@ module _ (S : Strip) where
           inr (cc (w .0, w .1, q .on), o .0, o .1))
           (compare a b (p .k) (q .k) (p .t) (q .t) x y x′ y′ (p .cell) (q .cell) (p .ends) (q .ends))
 
-  -- a side that lies on the rim does so at each of its places
+  -- whichever cell a side is looked at from, it lies on a rim or does not
   on-rim : (h : Bool) (x y a b : ℕ) (p : Holds h x y a b) → OnRim a b → RimAt S (p .k) (p .t) x y
   on-rim h x y a b p r =
       ⊎-elim

@@ -1,20 +1,19 @@
 -- The list of flipped pairs: that `insert` keeps it ascending, what `process` puts into it, how long it is at most, and that its numbers are of
 -- triangles in the list. Assumes nothing.
-use Prim.Native.Nat.{ℕ, zero, suc, _+_, _-_, _*_, _/_, _%_, _≤_, _<_, min, max}
+use Prim.Native.Nat.{ℕ, zero, suc, _+_, _-_, _≤_, _<_}
 use mathlib.Core.Path.{_≡_, refl, sym, ap, _∙_, subst}
 use mathlib.Core.Logic.{_⊎_, inl, inr, ⊎-elim}
-use mathlib.Core.Bool.{Bool, true, false, _&&_, false≢true}
-use mathlib.Core.List.{List, [], _∷_, _++_, List·Memᴰ, List·Memᴰ·head, List·Memᴰ·tail, List·Memᴰ·cases-cons, List·Memᴰ·not-nil, Memᴰ·cast}
+use mathlib.Core.Bool.{Bool, true, false, _&&_}
+use mathlib.Core.List.{List, [], _∷_, List·Memᴰ, List·Memᴰ·head, List·Memᴰ·tail, List·Memᴰ·cases-cons, List·Memᴰ·not-nil, Memᴰ·cast}
 use native.Mathlib.Omega.{arith}
-use native.Mathlib.Nat.{mod-lt, div-add-mod', div-lt-iff-lt-mul, mul-comm}
 use lib.Dec.{eqb, ltb}
-use lib.Arith.{digits-div, digits-mod, digits-lt}
-use lib.ListN.{length, getD, length-append, List·getD-append}
-use borrow.Author.Tests.{eqb-true, eqb-false, eq-eqb, ne-eqb, ltb-true, ltb-false, lt-ltb, le-ltb}
+use lib.ListN.{length}
+use borrow.Author.Tests.{eq-eqb, ne-eqb, ltb-true, ltb-false, lt-ltb}
 use Rattle.cyclic.specs.Mapping.{pick}
-use Rattle.surface.specs.Surface.{Seam, unjoined, forward, reverse, joined, reversed, inverse, Shape, Split, Triangle, tri, halfOf, slot, proper, kept, slots, triangles, Pair, pair, ordered, insert, Before, Ascending, numberOf, stepOn, putDown, process, flipped, lowU, highU, lowV, highV, nth, lowerOf}
-use Rattle.surface.proofs.Steps.{eqb-cases, lt-or-le, Offset, Fits, laidOn, on-below, reverse-step}
-use Rattle.surface.proofs.Triangles.{number-below, lowU-lt, highU-lt, lowV-lt, highV-lt}
+use Rattle.surface.specs.Surface.{Seam, reverse, reversed, inverse, Shape, slot, proper, triangles, Pair, pair, ordered, insert, Before, Ascending, numberOf, stepOn, process, flipped, lowU, highU, lowV, highV, wrapEnds}
+use Rattle.surface.proofs.Steps.{both-true, eqb-cases, lt-or-le, Offset, laidOn, reverse-step}
+use Rattle.surface.proofs.Triangles.{number-below}
+use Rattle.surface.proofs.Halves.{lowU-lt, highU-lt, lowV-lt, highV-lt}
 
 -- ---- the step of row a that `process` finds
 
@@ -28,7 +27,7 @@ both-ne a b c d h =
 both-eq : (a b c d : ℕ) → a ≡ b → c ≡ d → (eqb a b && eqb c d) ≡ true
 both-eq a b c d p q = ap (λ (t : Bool). t && eqb c d) (eq-eqb a b p) ∙ eq-eqb c d q
 
-lower-up : (n a : ℕ) → 3 ≤ n → lowerOf n (a + 1) a ≡ a
+lower-up : (n a : ℕ) → 3 ≤ n → wrapEnds n (a + 1) a ≡ a
 lower-up n a h =
     rw (
       both-ne (a + 1 + 1) n a 0 (λ p q. omega arith),
@@ -37,7 +36,7 @@ lower-up n a h =
       eq-eqb (a + 1) (a + 1) refl,
     )
 
-lower-end : (n a : ℕ) → 3 ≤ n → a + 1 ≡ n → lowerOf n 0 a ≡ a
+lower-end : (n a : ℕ) → 3 ≤ n → a + 1 ≡ n → wrapEnds n 0 a ≡ a
 lower-end n a h e =
     rw (
       both-ne (0 + 1) n a 0 (λ p q. omega arith),
@@ -49,10 +48,10 @@ pub step-on : (o : ℕ) (c : Bool) (n y : ℕ) → 3 ≤ n → Offset o c n → 
 unfolding stepOn
 step-on o c n y h f k =
     let r = reverse-step o c n y f k in
-    ap (lowerOf n (inverse (reverse o) n y)) (r .0)
+    ap (wrapEnds n (inverse (reverse o) n y)) (r .0)
     ∙ ⊎-elim
-    (λ w. ap (λ (z : ℕ). lowerOf n z (laidOn (reverse o) n y)) w ∙ lower-up n (laidOn (reverse o) n y) h)
-    (λ w. ap (λ (z : ℕ). lowerOf n z (laidOn (reverse o) n y)) (w .0) ∙ lower-end n (laidOn (reverse o) n y) h (w .1))
+    (λ w. ap (λ (z : ℕ). wrapEnds n z (laidOn (reverse o) n y)) w ∙ lower-up n (laidOn (reverse o) n y) h)
+    (λ w. ap (λ (z : ℕ). wrapEnds n z (laidOn (reverse o) n y)) (w .0) ∙ lower-end n (laidOn (reverse o) n y) h (w .1))
     (r .1)
 
 -- ---- into an ascending list
@@ -128,10 +127,6 @@ before-trans p q r (inl a) (inl b) = inl (omega arith)
 before-trans p q r (inl a) (inr b) = inl (omega arith)
 before-trans p q r (inr a) (inl b) = inl (omega arith)
 before-trans p q r (inr a) (inr b) = inr (omega arith)
-
-both-true : (a b : Bool) → (a && b) ≡ true → (a ≡ true) × (b ≡ true)
-both-true true b e = (refl, e)
-both-true false b e = absurd (false≢true e)
 
 pick-case : (t : Bool) (P : List Pair → Type 0) (x y : List Pair) → (t ≡ true → P x) → (t ≡ false → P y) → P (pick t x y)
 pick-case true P x y f g = f refl
@@ -209,7 +204,7 @@ Listed s ps = (p : Pair) → List·Memᴰ p ps → (p .low < length (triangles s
 insert-listed : (s : Shape) (i j : ℕ) (ps : List Pair) → i < length (triangles s) → j < length (triangles s) → Listed s ps → Listed s (insert (ordered i j) ps)
 insert-listed s i j ps h k l p q = ⊎-elim (λ e. here (ap (λ (z : Pair). z .low) e) (ap (λ (z : Pair). z .high) e)) (λ m. l p m) (insert-cases (ordered i j) ps p q)
   where
-    here : p .low ≡ min i j → p .high ≡ max i j → (p .low < length (triangles s)) × (p .high < length (triangles s))
+    here : p .low ≡ ordered i j .low → p .high ≡ ordered i j .high → (p .low < length (triangles s)) × (p .high < length (triangles s))
     here a b = omega arith
 
 pub flipped-listed : (s : Shape) → 0 < s .M → 0 < s .N → Listed s (flipped s)

@@ -1,106 +1,20 @@
--- A covered joining, seen along one of its seams: J and the corner rule give the points of the strip. Assumes nothing.
-use Prim.Native.Nat.{ℕ, zero, suc, _+_, _-_, _*_, _/_, _%_, _≤_, _<_}
-use mathlib.Core.Path.{_≡_, refl, sym, ap, _∙_, subst}
+-- J and the corner rule give the points of the strip. Of the two rules, the one for the strip's seam carries the last column to the first; the one
+-- for the other seam does no more than read the last row of a closed column as its first. So a corner in a row before the last needs the v rule
+-- only if the u rule took it to row N, which a covered joining does not let happen. Assumes nothing.
+use Prim.Native.Nat.{ℕ, _+_, _-_, _≤_, _<_}
+use mathlib.Core.Path.{_≡_, refl, sym, ap, _∙_}
 use mathlib.Core.Logic.{_⊎_, inl, inr, ⊎-elim}
-use mathlib.Core.Bool.{Bool, true, false, _&&_, not}
+use mathlib.Core.Bool.{Bool, true, false, _&&_, false≢true}
 use native.Mathlib.Omega.{arith}
 use lib.Dec.{eqb}
-use lib.Arith.{digits-div, digits-mod}
-use borrow.Author.Tests.{eqb-true, eqb-false, eq-eqb, ne-eqb}
+use borrow.Author.Tests.{ne-eqb}
 use Rattle.cyclic.specs.Mapping.{pick}
-use Rattle.surface.specs.Surface.{Seam, unjoined, forward, reverse, joined, reversed, inverse, Point, at, Rule, once, twice, Split, falling, rising, Shape, uRule, vRule, number, joinedBy, J, cornerBy, corner, Beside, AtZero, Covered, neither, only-u, only-v, both-u, both-v}
-use Rattle.surface.proofs.Steps.{eqb-cases, wrap, wrap-open, wrap-closed, wrap-below, wrap-le, wrap-wrap, Fits, Offset, carried, carried-wrap, inv-forward-0, inv-forward, inv-reverse}
-use Rattle.surface.proofs.Strip.{Strip, Kind, straight, across, diagonal, colOf, rowOf, pointOf, row-below, col-below}
-
--- ---- which half holds each side, and which way it runs along it
-
-abbrev pub halfU : Split → Kind → Bool → Bool
-halfU falling k t = t
-halfU rising straight t = not t
-halfU rising across t = t
-halfU rising diagonal t = t
-
-abbrev pub dirU : Split → Kind → Bool → Bool
-dirU d straight t = t
-dirU d across t = not t
-dirU d diagonal t = t
-
-abbrev pub halfV : Split → Kind → Bool → Bool
-halfV falling k t = t
-halfV rising straight t = t
-halfV rising across t = not t
-halfV rising diagonal t = t
-
-abbrev pub dirV : Split → Kind → Bool → Bool
-dirV d straight t = not t
-dirV d across t = t
-dirV falling diagonal t = not t
-dirV rising diagonal t = t
-
-pub halfU-diagonal : (d : Split) (t : Bool) → halfU d diagonal t ≡ t
-halfU-diagonal falling t = refl
-halfU-diagonal rising t = refl
-
-pub halfV-diagonal : (d : Split) (t : Bool) → halfV d diagonal t ≡ t
-halfV-diagonal falling t = refl
-halfV-diagonal rising t = refl
-
-pub dirU-not : (d : Split) (k : Kind) (t : Bool) → dirU d k (not t) ≡ not (dirU d k t)
-dirU-not d straight t = refl
-dirU-not d across t = refl
-dirU-not d diagonal t = refl
-
-pub dirV-not : (d : Split) (k : Kind) (t : Bool) → dirV d k (not t) ≡ not (dirV d k t)
-dirV-not d straight t = refl
-dirV-not d across t = refl
-dirV-not falling diagonal t = refl
-dirV-not rising diagonal t = refl
-
--- ---- point numbers
-
-pub digits-inj : (q r q′ r′ m : ℕ) → r < m → r′ < m → q * m + r ≡ q′ * m + r′ → (q ≡ q′) × (r ≡ r′)
-digits-inj q r q′ r′ m h h′ e = (
-  sym (digits-div q h) ∙ ap (λ (z : ℕ). z / m) e ∙ digits-div q′ h′,
-  sym (digits-mod q h) ∙ ap (λ (z : ℕ). z % m) e ∙ digits-mod q′ h′,
-)
-
-unfoldable pub stripU : (s : Shape) → 3 ≤ s .M → 3 ≤ s .N → Fits (s .su) (joined (s .sv)) (s .N) → Strip
-stripU s m n f =
-    record {
-      X = s .M;
-      Y = s .N;
-      closed = joined (s .sv);
-      seam = s .su;
-      split = s .split;
-      num = λ x y. x * (s .N + 1) + y;
-      X≥3 = m;
-      Y≥3 = n;
-      fits = f;
-      inj = λ x y x′ y′ a b c d e. digits-inj x y x′ y′ (s .N + 1) (omega arith) (omega arith) e;
-      half = halfU (s .split);
-      half-diagonal = halfU-diagonal (s .split);
-      dir = dirU (s .split);
-      dir-not = dirU-not (s .split);
-    }
-
-unfoldable pub stripV : (s : Shape) → 3 ≤ s .M → 3 ≤ s .N → Fits (s .sv) (joined (s .su)) (s .M) → Strip
-stripV s m n f =
-    record {
-      X = s .N;
-      Y = s .M;
-      closed = joined (s .su);
-      seam = s .sv;
-      split = s .split;
-      num = λ x y. y * (s .N + 1) + x;
-      X≥3 = n;
-      Y≥3 = m;
-      fits = f;
-      inj = λ x y x′ y′ a b c d e. let r = digits-inj y x y′ x′ (s .N + 1) (omega arith) (omega arith) e in (r .1, r .0);
-      half = halfV (s .split);
-      half-diagonal = halfV-diagonal (s .split);
-      dir = dirV (s .split);
-      dir-not = dirV-not (s .split);
-    }
+use Rattle.surface.specs.Surface.{Seam, joined, inverse, Point, at, Rule, once, twice, Shape, uRule, vRule, number, joinedBy, J, cornerBy, corner}
+use Rattle.surface.proofs.Steps.{eqb-cases, wrap, wrap-open, wrap-closed, wrap-below, wrap-wrap, carried, carried-wrap, inv-forward-0}
+use Rattle.surface.proofs.CellSides.{shift, corners}
+use Rattle.surface.proofs.Halves.{cellCorners}
+use Rattle.surface.proofs.Axes.{Axis, axisU, axisV, columns, rows, xOf, yOf, Plain, KeepsInside, SeenAlong, strip}
+use Rattle.surface.proofs.Strip.{Strip, colOf, rowOf, pointOf, row-below, col-below}
 
 -- ---- the two rules
 
@@ -120,10 +34,6 @@ vRule-form s u v = go (joined (s .sv) && eqb v (s .N))
     go true = refl
     go false = refl
 
--- a seam that is unjoined or forward at offset 0
-abbrev pub Plain : Seam → Type 0
-Plain m = (m ≡ unjoined) ⊎ (m ≡ forward 0)
-
 plain-pick : (m : Seam) → Plain m → (t : Bool) (n b : ℕ) → pick t (inverse m n b) b ≡ b
 plain-pick m (inl e) true n b = ap (λ (z : Seam). inverse z n b) e
 plain-pick m (inr e) true n b = ap (λ (z : Seam). inverse z n b) e ∙ inv-forward-0 n b
@@ -135,37 +45,33 @@ uRule-plain s u v e = uRule-form s u v ∙ ap (at (wrap (joined (s .su)) (s .M) 
 vRule-plain : (s : Shape) (u v : ℕ) → Plain (s .sv) → vRule s (at u v) ≡ at u (wrap (joined (s .sv)) (s .N) v)
 vRule-plain s u v e = vRule-form s u v ∙ ap (λ (z : ℕ). at z (wrap (joined (s .sv)) (s .N) v)) (plain-pick (s .sv) e (joined (s .sv) && eqb v (s .N)) (s .M) u)
 
--- where the other seam is joined, a mapping takes inner points to inner points; the fourfold rule does without
-abbrev pub KeepsInside : Rule → Seam → Bool → ℕ → Type 0
-KeepsInside once m c n = c ≡ true → (b : ℕ) → b < n → inverse m n b < n
-KeepsInside twice m c n = Unit {0}
-
 wrap-fix : (c : Bool) (n i : ℕ) → (c ≡ true → i < n) → wrap c n i ≡ i
 wrap-fix false n i h = wrap-open n i
 wrap-fix true n i h = wrap-below true n i (h refl)
 
 wrap-lt : (c : Bool) (n i : ℕ) → 0 < n → i ≤ n → c ≡ true → wrap c n i < n
 wrap-lt true n i z h e = ⊎-elim (λ w. omega arith) (λ w. omega arith) (wrap-closed n i)
-wrap-lt false n i z h e = absurd (false-true e)
-  where
-    zero-one : _≡_ {A = ℕ} 0 1 → ⊥
-    zero-one z = omega arith
-
-    false-true : false ≡ true → ⊥
-    false-true e = zero-one (cc)
+wrap-lt false n i z h e = absurd (false≢true e)
 
 -- a point that has passed a rule does not pass it again
 settled : (c : Bool) (n i : ℕ) → 0 < n → (c && eqb (wrap c n i) n) ≡ false
 settled false n i z = refl
 settled true n i z = ne-eqb (wrap true n i) n (λ e. ⊎-elim (λ w. omega arith) (λ w. w .1 (sym (w .0) ∙ e)) (wrap-closed n i))
 
+shift-le : (t : Bool) (n : ℕ) → shift t n ≤ n + 1
+shift-le false n = omega arith
+shift-le true n = omega arith
+
 pick-wrap : (t c : Bool) (n i j : ℕ) → pick t (wrap c n i) (wrap c n j) ≡ wrap c n (pick t i j)
 pick-wrap true c n i j = refl
 pick-wrap false c n i j = refl
 
-module _ (s : Shape) (m : 3 ≤ s .M) (n : 3 ≤ s .N) (f : Fits (s .su) (joined (s .sv)) (s .N)) (plain : Plain (s .sv)) where
-  unfoldable pub SU : Strip
-  SU = stripU s m n f
+-- seen along u: after the u rule, the v rule only closes the columns
+module _ (s : Shape) (m : 3 ≤ s .M) (n : 3 ≤ s .N) (w : SeenAlong axisU s) where
+  open SeenAlong w using (plain, inside)
+
+  abbrev SU : Strip
+  SU = strip s m n axisU w
 
   abbrev ju : Bool
   ju = joined (s .su)
@@ -177,11 +83,11 @@ module _ (s : Shape) (m : 3 ≤ s .M) (n : 3 ≤ s .N) (f : Fits (s .su) (joined
   place u v = at (colOf SU u) (rowOf SU u v)
 
   row-form : (u v : ℕ) → rowOf SU u v ≡ wrap jv (s .N) (pick (ju && eqb u (s .M)) (inverse (s .su) (s .N) v) v)
-  unfolding rowOf carried SU stripU
+  unfolding rowOf carried strip
   row-form u v = pick-wrap (ju && eqb u (s .M)) jv (s .N) (inverse (s .su) (s .N) v) v
 
   col-form : (u : ℕ) → colOf SU u ≡ wrap ju (s .M) u
-  unfolding colOf SU stripU
+  unfolding colOf strip
   col-form u = refl
 
   one-round : (u v : ℕ) → vRule s (uRule s (at u v)) ≡ place u v
@@ -223,17 +129,20 @@ module _ (s : Shape) (m : 3 ≤ s .M) (n : 3 ≤ s .N) (f : Fits (s .su) (joined
       inner e true l = t e v l
       inner e false l = l
 
-  pub J-u : (u v : ℕ) → J s u v ≡ pointOf SU u v
-  unfolding J pointOf SU stripU place
+  J-u : (u v : ℕ) → J s u v ≡ pointOf SU u v
+  unfolding J pointOf strip place
   J-u u v = ap (number s) (joined-u (s .rule) u v)
 
-  pub C-u : KeepsInside (s .rule) (s .su) jv (s .N) → (row u v : ℕ) → row < s .N → v ≤ row + 1 → corner s row u v ≡ pointOf SU u v
-  unfolding corner pointOf SU stripU place
-  C-u t row u v h k = ap (number s) (corner-u (s .rule) t row u v h k)
+  C-u : (row u v : ℕ) → row < s .N → v ≤ row + 1 → corner s row u v ≡ pointOf SU u v
+  unfolding corner pointOf strip place
+  C-u row u v h k = ap (number s) (corner-u (s .rule) inside row u v h k)
 
-module _ (s : Shape) (m : 3 ≤ s .M) (n : 3 ≤ s .N) (f : Fits (s .sv) (joined (s .su)) (s .M)) (plain : Plain (s .su)) where
-  unfoldable pub SV : Strip
-  SV = stripV s m n f
+-- seen along v: the u rule closes the columns first, and the v rule then joins them
+module _ (s : Shape) (m : 3 ≤ s .M) (n : 3 ≤ s .N) (w : SeenAlong axisV s) where
+  open SeenAlong w using (fits, plain, inside)
+
+  abbrev SV : Strip
+  SV = strip s m n axisV w
 
   abbrev ku : Bool
   ku = joined (s .su)
@@ -248,11 +157,11 @@ module _ (s : Shape) (m : 3 ≤ s .M) (n : 3 ≤ s .N) (f : Fits (s .sv) (joined
   far v = kv && eqb v (s .N)
 
   rowV-form : (u v : ℕ) → rowOf SV v u ≡ pick (far v) (carried (s .sv) ku (s .M) u) (wrap ku (s .M) u)
-  unfolding rowOf SV stripV far
+  unfolding rowOf strip far
   rowV-form u v = refl
 
   colV-form : (v : ℕ) → colOf SV v ≡ wrap kv (s .N) v
-  unfolding colOf SV stripV
+  unfolding colOf strip
   colV-form v = refl
 
   far-settled : (v : ℕ) → far (wrap kv (s .N) v) ≡ false
@@ -260,11 +169,11 @@ module _ (s : Shape) (m : 3 ≤ s .M) (n : 3 ≤ s .N) (f : Fits (s .sv) (joined
   far-settled v = settled kv (s .N) v (omega arith)
 
   rowV-below : (u v : ℕ) → v < s .N → rowOf SV v u ≡ wrap ku (s .M) u
-  unfolding SV stripV
+  unfolding strip
   rowV-below u v h = row-below SV v u h
 
   colV-below : (v : ℕ) → v < s .N → colOf SV v ≡ v
-  unfolding SV stripV
+  unfolding strip
   colV-below v h = col-below SV v h
 
   -- after one round
@@ -279,7 +188,7 @@ module _ (s : Shape) (m : 3 ≤ s .M) (n : 3 ≤ s .N) (f : Fits (s .sv) (joined
       go : (z : Bool) → pick z (inverse (s .sv) (s .M) (wrap ku (s .M) u)) (wrap ku (s .M) u) ≡ pick z (carried (s .sv) ku (s .M) u) (wrap ku (s .M) u)
       go true =
           sym (wrap-fix ku (s .M) (inverse (s .sv) (s .M) (wrap ku (s .M) u)) (λ e. t e (wrap ku (s .M) u) (wrap-lt ku (s .M) u (omega arith) h e)))
-          ∙ carried-wrap (s .sv) ku (s .M) u (omega arith) f
+          ∙ carried-wrap (s .sv) ku (s .M) u (omega arith) fits
       go false = refl
 
   joined-once : KeepsInside once (s .sv) ku (s .M) → (u v : ℕ) → u ≤ s .M → vRule s (uRule s (at u v)) ≡ placeV u v
@@ -293,20 +202,20 @@ module _ (s : Shape) (m : 3 ≤ s .M) (n : 3 ≤ s .N) (f : Fits (s .sv) (joined
       ∙ first (pick (far v) (inverse (s .sv) (s .M) (wrap ku (s .M) u)) (wrap ku (s .M) u)) (wrap kv (s .N) v)
       ∙ again
     where
-      w : ℕ
-      w = pick (far v) (inverse (s .sv) (s .M) (wrap ku (s .M) u)) (wrap ku (s .M) u)
+      u₁ : ℕ
+      u₁ = pick (far v) (inverse (s .sv) (s .M) (wrap ku (s .M) u)) (wrap ku (s .M) u)
 
       rows : (z : Bool) → wrap ku (s .M) (pick z (inverse (s .sv) (s .M) (wrap ku (s .M) u)) (wrap ku (s .M) u)) ≡ pick z (carried (s .sv) ku (s .M) u) (wrap ku (s .M) u)
-      rows true = carried-wrap (s .sv) ku (s .M) u (omega arith) f
+      rows true = carried-wrap (s .sv) ku (s .M) u (omega arith) fits
       rows false = wrap-wrap ku (s .M) u (omega arith)
 
       stays : far (wrap kv (s .N) v) ≡ false
       stays = far-settled v
 
-      again : at (pick (far (wrap kv (s .N) v)) (inverse (s .sv) (s .M) (wrap ku (s .M) w)) (wrap ku (s .M) w)) (wrap kv (s .N) (wrap kv (s .N) v)) ≡ at (rowOf SV v u) (colOf SV v)
+      again : at (pick (far (wrap kv (s .N) v)) (inverse (s .sv) (s .M) (wrap ku (s .M) u₁)) (wrap ku (s .M) u₁)) (wrap kv (s .N) (wrap kv (s .N) v)) ≡ at (rowOf SV v u) (colOf SV v)
       again =
-          ap (λ (t : Bool). at (pick t (inverse (s .sv) (s .M) (wrap ku (s .M) w)) (wrap ku (s .M) w)) (wrap kv (s .N) (wrap kv (s .N) v))) stays
-          ∙ ap (at (wrap ku (s .M) w)) (wrap-wrap kv (s .N) v (omega arith) ∙ sym (colV-form v))
+          ap (λ (t : Bool). at (pick t (inverse (s .sv) (s .M) (wrap ku (s .M) u₁)) (wrap ku (s .M) u₁)) (wrap kv (s .N) (wrap kv (s .N) v))) stays
+          ∙ ap (at (wrap ku (s .M) u₁)) (wrap-wrap kv (s .N) v (omega arith) ∙ sym (colV-form v))
           ∙ ap (λ (z : ℕ). at z (colOf SV v)) (rows (far v) ∙ sym (rowV-form u v))
 
   joined-v : (r : Rule) → KeepsInside r (s .sv) ku (s .M) → (u v : ℕ) → u ≤ s .M → joinedBy r s (at u v) ≡ placeV u v
@@ -329,69 +238,20 @@ module _ (s : Shape) (m : 3 ≤ s .M) (n : 3 ≤ s .N) (f : Fits (s .sv) (joined
       inside : v < s .N → placeV u v ≡ at (wrap ku (s .M) u) v
       inside b = ap (λ (z : ℕ). at z (colOf SV v)) (rowV-below u v b) ∙ ap (at (wrap ku (s .M) u)) (colV-below v b)
 
-  pub J-v : KeepsInside (s .rule) (s .sv) ku (s .M) → (u v : ℕ) → u ≤ s .M → J s u v ≡ pointOf SV v u
-  unfolding J pointOf SV stripV placeV
-  J-v t u v h = ap (number s) (joined-v (s .rule) t u v h)
+  J-v : (u v : ℕ) → u ≤ s .M → J s u v ≡ pointOf SV v u
+  unfolding J pointOf strip placeV
+  J-v u v h = ap (number s) (joined-v (s .rule) inside u v h)
 
-  pub C-v : KeepsInside (s .rule) (s .sv) ku (s .M) → (row u v : ℕ) → row < s .N → v ≤ row + 1 → u ≤ s .M → corner s row u v ≡ pointOf SV v u
-  unfolding corner pointOf SV stripV placeV
-  C-v t row u v h k l = ap (number s) (corner-v (s .rule) t row u v h k l)
+  C-v : (row u v : ℕ) → row < s .N → v ≤ row + 1 → u ≤ s .M → corner s row u v ≡ pointOf SV v u
+  unfolding corner pointOf strip placeV
+  C-v row u v h k l = ap (number s) (corner-v (s .rule) inside row u v h k l)
 
--- ---- covered joinings
+-- J of a grid point is the strip's point
+pub J-is : (s : Shape) (m : 3 ≤ s .M) (n : 3 ≤ s .N) (a : Axis) (w : SeenAlong a s) (x y : ℕ) → x ≤ columns a s → y ≤ rows a s → J s (xOf a x y) (yOf a x y) ≡ pointOf (strip s m n a w) x y
+J-is s m n axisU w x y h k = J-u s m n w x y
+J-is s m n axisV w x y h k = J-v s m n w y x k
 
-inside-mapping : (m : Seam) (n : ℕ) → Beside once m n → (b : ℕ) → b < n → inverse m n b < n
-inside-mapping unjoined n h b k = absurd h
-inside-mapping (forward zero) n h b k = omega (arith, inv-forward-0 n b)
-inside-mapping (forward (suc o)) n h b k = ⊎-elim (λ w. omega arith) (λ w. omega arith) (inv-forward (suc o) n b (omega arith) h (omega arith))
-inside-mapping (reverse o) n h b k = ⊎-elim (λ w. omega arith) (λ v. ⊎-elim (λ w. omega arith) (λ w. omega arith) v) (inv-reverse o n b (h .0) (h .1) (omega arith))
-
-beside-inside : (r : Rule) (m : Seam) (c : Bool) (n : ℕ) → Beside r m n → KeepsInside r m c n
-beside-inside once m c n h = λ e b k. inside-mapping m n h b k
-beside-inside twice m c n h = tt
-
-open-inside : (r : Rule) (m : Seam) (c : Bool) (n : ℕ) → c ≡ false → KeepsInside r m c n
-open-inside once m c n e = λ d. absurd (true-false (sym d ∙ e))
-  where
-    zero-one : _≡_ {A = ℕ} 0 1 → ⊥
-    zero-one z = omega arith
-
-    true-false : true ≡ false → ⊥
-    true-false d = zero-one (cc)
-open-inside twice m c n e = tt
-
-offset-closed : (o n : ℕ) → o < n → Offset o true n
-offset-closed zero n h = tt
-offset-closed (suc o) n h = h
-
-beside-fits : (r : Rule) (m : Seam) (n : ℕ) → Beside r m n → Fits m true n
-beside-fits r unjoined n h = tt
-beside-fits r (forward o) n h = offset-closed o n h
-beside-fits once (reverse o) n h = offset-closed o n (h .1)
-beside-fits twice (reverse o) n h = offset-closed o n h
-
-offset-zero : (o : ℕ) (c : Bool) (n : ℕ) → o ≡ 0 → Offset o c n
-offset-zero zero c n e = tt
-offset-zero (suc o) c n e = let z : ⊥ = omega arith in absurd z
-
-at-zero-fits : (m : Seam) (c : Bool) (n : ℕ) → AtZero m → Fits m c n
-at-zero-fits unjoined c n h = absurd h
-at-zero-fits (forward o) c n h = offset-zero o c n h
-at-zero-fits (reverse o) c n h = offset-zero o c n h
-
--- seen along u: the v seam is plain; or along v
-pub record AlongU (s : Shape) : Type 0 where
-  pub fits : Fits (s .su) (joined (s .sv)) (s .N)
-  pub plain : Plain (s .sv)
-  pub inside : KeepsInside (s .rule) (s .su) (joined (s .sv)) (s .N)
-
-pub record AlongV (s : Shape) : Type 0 where
-  pub fits : Fits (s .sv) (joined (s .su)) (s .M)
-  pub plain : Plain (s .su)
-  pub inside : KeepsInside (s .rule) (s .sv) (joined (s .su)) (s .M)
-
-pub covered-along : (s : Shape) → Covered s → AlongU s ⊎ AlongV s
-covered-along s (neither p q) = inl (record { fits = subst (λ (m : Seam). Fits m (joined (s .sv)) (s .N)) (sym p) tt; plain = inl q; inside = open-inside (s .rule) (s .su) (joined (s .sv)) (s .N) (ap joined q) })
-covered-along s (only-u p q) = inl (record { fits = at-zero-fits (s .su) (joined (s .sv)) (s .N) p; plain = inl q; inside = open-inside (s .rule) (s .su) (joined (s .sv)) (s .N) (ap joined q) })
-covered-along s (only-v p q) = inr (record { fits = at-zero-fits (s .sv) (joined (s .su)) (s .M) q; plain = inl p; inside = open-inside (s .rule) (s .sv) (joined (s .su)) (s .M) (ap joined p) })
-covered-along s (both-u p q) = inl (record { fits = subst (λ (m : Seam). Fits (s .su) (joined m) (s .N)) (sym q) (beside-fits (s .rule) (s .su) (s .N) p); plain = inr q; inside = beside-inside (s .rule) (s .su) (joined (s .sv)) (s .N) p })
-covered-along s (both-v p q) = inr (record { fits = subst (λ (m : Seam). Fits (s .sv) (joined m) (s .M)) (sym p) (beside-fits (s .rule) (s .sv) (s .M) q); plain = inr p; inside = beside-inside (s .rule) (s .sv) (joined (s .su)) (s .M) q })
+-- and so is a corner of a cell
+pub corner-is : (s : Shape) (m : 3 ≤ s .M) (n : 3 ≤ s .N) (a : Axis) (w : SeenAlong a s) (u v : ℕ) → u < s .M → v < s .N → (i j : Bool) → cellCorners s u v i j ≡ corners (strip s m n a w) (xOf a u v) (yOf a u v) (xOf a i j) (yOf a i j)
+corner-is s m n axisU w u v h k i j = C-u s m n w v (shift i u) (shift j v) k (shift-le j v)
+corner-is s m n axisV w u v h k i j = C-v s m n w v (shift i u) (shift j v) k (shift-le j v) (omega (arith, shift-le i u))

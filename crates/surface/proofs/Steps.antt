@@ -1,15 +1,24 @@
--- Steps on a row that may be closed, and the seam mappings by cases. Assumes nothing.
-use Prim.Native.Nat.{ℕ, zero, suc, _+_, _-_, _*_, _/_, _%_, _≤_, _<_}
-use mathlib.Core.Path.{_≡_, refl, sym, ap, _∙_, subst}
+-- Steps along a row, and what a seam does to them. The inverse image carries the two ends of step y of row b to the two ends of one step of row a,
+-- `laidOn`: in their order if the seam is forward, the other way round if it is reversed (`adj-forward`, `adj-reverse`). Every step of row a is
+-- met by exactly one of row b (`on-inj`, `on-back`). Assumes nothing.
+use Prim.Native.Nat.{ℕ, zero, suc, _+_, _-_, _%_, _≤_, _<_}
+use mathlib.Core.Path.{_≡_, refl, sym, ap, _∙_}
 use mathlib.Core.Logic.{_⊎_, inl, inr, ⊎-elim}
-use mathlib.Core.Bool.{Bool, true, false, _&&_}
+use mathlib.Core.Bool.{Bool, true, false, _&&_, false≢true}
 use native.Mathlib.Nat.{mod-eq-of-lt, mod-eq-sub-mod, mod-self}
 use native.Mathlib.Omega.{arith}
 use lib.Dec.{eqb, ltb}
-use borrow.Author.Tests.{eqb-true, eqb-false, eq-eqb, ne-eqb, ltb-true, ltb-false, lt-ltb, le-ltb}
+use borrow.Author.Tests.{eqb-true, eqb-false, ne-eqb, ltb-true, ltb-false, lt-ltb, le-ltb}
 use Rattle.cyclic.specs.Mapping.{pick}
 use Rattle.cyclic.specs.Mapping as mapping
-use Rattle.surface.specs.Surface.{Seam, unjoined, forward, reverse, joined, reversed, inverse}
+use Rattle.surface.specs.Surface.{Seam, unjoined, forward, reverse, inverse}
+
+-- two either-ors, case by case
+pub four : {A B C D P : Type 0} → A ⊎ B → C ⊎ D → (A → C → P) → (A → D → P) → (B → C → P) → (B → D → P) → P
+four (inl a) (inl c) f g h k = f a c
+four (inl a) (inr d) f g h k = g a d
+four (inr b) (inl c) f g h k = h b c
+four (inr b) (inr d) f g h k = k b d
 
 -- a test with what it says
 pub eqb-cases : (a b : ℕ) → ((eqb a b ≡ true) × (a ≡ b)) ⊎ ((eqb a b ≡ false) × (a ≡ b → ⊥))
@@ -19,6 +28,10 @@ eqb-cases a b = go (eqb a b) refl
     go true e = inl (e, eqb-true a b e)
     go false e = inr (e, eqb-false a b e)
 
+pub both-true : (a b : Bool) → (a && b) ≡ true → (a ≡ true) × (b ≡ true)
+both-true true b e = (refl, e)
+both-true false b e = absurd (false≢true e)
+
 pub lt-or-le : (a b : ℕ) → (a < b) ⊎ (b ≤ a)
 lt-or-le a b = go (ltb a b) refl
   where
@@ -26,7 +39,9 @@ lt-or-le a b = go (ltb a b) refl
     go true e = inl (ltb-true a b e)
     go false e = inr (ltb-false a b e)
 
--- i, with n read as 0 on a closed row
+-- ---- a row of n steps, closed or open
+
+-- index i of the row, with n read as 0 where the row is closed
 unfoldable pub wrap : Bool → ℕ → ℕ → ℕ
 wrap c n i = pick (c && eqb i n) 0 i
 
@@ -56,23 +71,17 @@ wrap-wrap false n i h = wrap-open n (wrap false n i)
 wrap-wrap true n i h =
     ⊎-elim (λ w. wrap-below true n (wrap true n i) (omega arith)) (λ w. ap (wrap true n) (w .0)) (wrap-closed n i)
 
--- one step on
+-- one step on is not where it was; two steps are not back (3 ≤ n); and steps end apart that start apart
 pub step-ne : (c : Bool) (n i : ℕ) → 3 ≤ n → i < n → wrap c n (i + 1) ≡ i → ⊥
 step-ne c n i h k e = ⊎-elim (λ w. omega arith) (λ w. omega arith) (wrap-two c n (i + 1))
 
 pub step-two : (c : Bool) (n i j : ℕ) → 3 ≤ n → i < n → j < n → wrap c n (i + 1) ≡ j → wrap c n (j + 1) ≡ i → ⊥
 step-two c n i j h k l e f =
-    ⊎-elim
-    (λ w. ⊎-elim (λ z. omega arith) (λ z. omega arith) (wrap-two c n (j + 1)))
-    (λ w. ⊎-elim (λ z. omega arith) (λ z. omega arith) (wrap-two c n (j + 1)))
-    (wrap-two c n (i + 1))
+    four (wrap-two c n (i + 1)) (wrap-two c n (j + 1)) (λ w z. omega arith) (λ w z. omega arith) (λ w z. omega arith) (λ w z. omega arith)
 
 pub step-inj : (c : Bool) (n i j : ℕ) → i < n → j < n → wrap c n (i + 1) ≡ wrap c n (j + 1) → i ≡ j
 step-inj c n i j k l e =
-    ⊎-elim
-    (λ w. ⊎-elim (λ z. omega arith) (λ z. omega arith) (wrap-two c n (j + 1)))
-    (λ w. ⊎-elim (λ z. omega arith) (λ z. omega arith) (wrap-two c n (j + 1)))
-    (wrap-two c n (i + 1))
+    four (wrap-two c n (i + 1)) (wrap-two c n (j + 1)) (λ w z. omega arith) (λ w z. omega arith) (λ w z. omega arith) (λ w z. omega arith)
 
 -- ---- remainders of numbers below twice the divisor
 
@@ -122,12 +131,13 @@ inv-reverse o n b p q r =
 
 -- ---- how a joined seam lays the steps of one row on those of the other
 
--- an offset of a row of n steps that may be closed: off 0 the row is closed
+-- an offset that a row of n steps can have: any below n if the row is closed, else 0
 abbrev pub Offset : ℕ → Bool → ℕ → Type 0
 Offset zero c n = Unit {0}
 Offset (suc o) true n = suc o < n
 Offset (suc o) false n = ⊥
 
+-- and a seam
 abbrev pub Fits : Seam → Bool → ℕ → Type 0
 Fits unjoined c n = Unit {0}
 Fits (forward o) c n = Offset o c n
@@ -139,7 +149,7 @@ laidOn unjoined n y = y
 laidOn (forward o) n y = pick (ltb y o) (y + n - o) (y - o)
 laidOn (reverse o) n y = pick (ltb y o) (o - 1 - y) (o + n - 1 - y)
 
--- and back
+-- and back: the step of row b that lies on step y of row a
 unfoldable pub laidBack : Seam → ℕ → ℕ → ℕ
 laidBack unjoined n y = y
 laidBack (forward o) n y = pick (ltb (y + o) n) (y + o) (y + o - n)
@@ -183,32 +193,20 @@ unfolding laidBack laidOn
 on-back unjoined c n y f h = refl
 on-back (forward o) c n y f h =
     let q : o < n = offset-lt o c n (omega arith) f in
-    ⊎-elim
-    (λ w. ⊎-elim (λ z. omega arith) (λ z. omega arith) (on-forward o n (laidBack (forward o) n y)))
-    (λ w. ⊎-elim (λ z. omega arith) (λ z. omega arith) (on-forward o n (laidBack (forward o) n y)))
-    (back-forward o n y)
+    four (back-forward o n y) (on-forward o n (laidBack (forward o) n y)) (λ w z. omega arith) (λ w z. omega arith) (λ w z. omega arith) (λ w z. omega arith)
 on-back (reverse o) c n y f h =
     let q : o < n = offset-lt o c n (omega arith) f in
-    ⊎-elim
-    (λ w. ⊎-elim (λ z. omega arith) (λ z. omega arith) (on-reverse o n (laidOn (reverse o) n y)))
-    (λ w. ⊎-elim (λ z. omega arith) (λ z. omega arith) (on-reverse o n (laidOn (reverse o) n y)))
-    (on-reverse o n y)
+    four (on-reverse o n y) (on-reverse o n (laidOn (reverse o) n y)) (λ w z. omega arith) (λ w z. omega arith) (λ w z. omega arith) (λ w z. omega arith)
 
 pub on-inj : (m : Seam) (c : Bool) (n y z : ℕ) → Fits m c n → y < n → z < n → laidOn m n y ≡ laidOn m n z → y ≡ z
 unfolding laidOn
 on-inj unjoined c n y z f h k e = e
 on-inj (forward o) c n y z f h k e =
     let q : o < n = offset-lt o c n (omega arith) f in
-    ⊎-elim
-    (λ w. ⊎-elim (λ x. omega arith) (λ x. omega arith) (on-forward o n z))
-    (λ w. ⊎-elim (λ x. omega arith) (λ x. omega arith) (on-forward o n z))
-    (on-forward o n y)
+    four (on-forward o n y) (on-forward o n z) (λ w x. omega arith) (λ w x. omega arith) (λ w x. omega arith) (λ w x. omega arith)
 on-inj (reverse o) c n y z f h k e =
     let q : o < n = offset-lt o c n (omega arith) f in
-    ⊎-elim
-    (λ w. ⊎-elim (λ x. omega arith) (λ x. omega arith) (on-reverse o n z))
-    (λ w. ⊎-elim (λ x. omega arith) (λ x. omega arith) (on-reverse o n z))
-    (on-reverse o n y)
+    four (on-reverse o n y) (on-reverse o n z) (λ w x. omega arith) (λ w x. omega arith) (λ w x. omega arith) (λ w x. omega arith)
 
 wrap-is : (c : Bool) (n i e : ℕ) → i ≡ e → e < n → wrap c n i ≡ e
 wrap-is c n i e p h = ap (wrap c n) p ∙ wrap-below c n e h
@@ -217,7 +215,8 @@ wrap-eq : (n i e : ℕ) → (i ≡ e) ⊎ ((i ≡ 0) × (e ≡ n)) → 0 < n →
 wrap-eq n i e (inl p) h = ap (wrap true n) p
 wrap-eq n i e (inr p) h = wrap-is true n i 0 (p .0) h ∙ sym (ap (wrap true n) (p .1) ∙ wrap-end n)
 
--- Row b's point y, carried to row a.
+-- ---- the points of a step, carried from row b to row a
+
 unfoldable pub carried : Seam → Bool → ℕ → ℕ → ℕ
 carried m c n y = wrap c n (inverse m n y)
 
@@ -230,16 +229,10 @@ adj-forward zero c n y f h =
 adj-forward (suc o) true n y f h =
     let b = on-below (forward (suc o)) true n y f h in (
       wrap-is true n (inverse (forward (suc o)) n y) (laidOn (forward (suc o)) n y)
-          (⊎-elim
-          (λ w. ⊎-elim (λ z. omega arith) (λ z. omega arith) (on-forward (suc o) n y))
-          (λ w. ⊎-elim (λ z. omega arith) (λ z. omega arith) (on-forward (suc o) n y))
-          (inv-forward (suc o) n y (omega arith) f (omega arith)))
+          (four (inv-forward (suc o) n y (omega arith) f (omega arith)) (on-forward (suc o) n y) (λ w z. omega arith) (λ w z. omega arith) (λ w z. omega arith) (λ w z. omega arith))
           b,
       wrap-eq n (inverse (forward (suc o)) n (y + 1)) (laidOn (forward (suc o)) n y + 1)
-          (⊎-elim
-          (λ w. ⊎-elim (λ z. inl (omega arith)) (λ z. inl (omega arith)) (on-forward (suc o) n y))
-          (λ w. ⊎-elim (λ z. inr (omega arith, omega arith)) (λ z. inl (omega arith)) (on-forward (suc o) n y))
-          (inv-forward (suc o) n (y + 1) (omega arith) f (omega arith)))
+          (four (inv-forward (suc o) n (y + 1) (omega arith) f (omega arith)) (on-forward (suc o) n y) (λ w z. inl (omega arith)) (λ w z. inl (omega arith)) (λ w z. inr (omega arith, omega arith)) (λ w z. inl (omega arith)))
           (omega arith),
     )
 adj-forward (suc o) false n y f h = absurd f
@@ -252,17 +245,11 @@ reverse-step zero c n y f h =
 reverse-step (suc o) true n y f h = (
   ⊎-elim
       (λ w. ⊎-elim (λ z. omega arith) (λ z. omega arith) (on-reverse (suc o) n y))
-      (λ v. ⊎-elim
-      (λ w. ⊎-elim (λ z. omega arith) (λ z. omega arith) (on-reverse (suc o) n y))
-      (λ w. ⊎-elim (λ z. omega arith) (λ z. omega arith) (on-reverse (suc o) n y))
-      v)
+      (λ v. four v (on-reverse (suc o) n y) (λ w z. omega arith) (λ w z. omega arith) (λ w z. omega arith) (λ w z. omega arith))
       (inv-reverse (suc o) n (y + 1) (omega arith) f (omega arith)),
   ⊎-elim
       (λ w. ⊎-elim (λ z. inl (omega arith)) (λ z. inr (omega arith, omega arith)) (on-reverse (suc o) n y))
-      (λ v. ⊎-elim
-      (λ w. ⊎-elim (λ z. inl (omega arith)) (λ z. inl (omega arith)) (on-reverse (suc o) n y))
-      (λ w. ⊎-elim (λ z. inl (omega arith)) (λ z. inl (omega arith)) (on-reverse (suc o) n y))
-      v)
+      (λ v. four v (on-reverse (suc o) n y) (λ w z. inl (omega arith)) (λ w z. inl (omega arith)) (λ w z. inl (omega arith)) (λ w z. inl (omega arith)))
       (inv-reverse (suc o) n y (omega arith) f (omega arith)),
 )
 reverse-step (suc o) false n y f h = absurd f
@@ -287,10 +274,7 @@ carried-ends unjoined n h f = wrap-end n ∙ sym (wrap-below true n 0 h)
 carried-ends (forward zero) n h f = ap (wrap true n) (inv-forward-0 n n) ∙ wrap-end n ∙ sym (wrap-is true n (inverse (forward 0) n 0) 0 (inv-forward-0 n 0) h)
 carried-ends (forward (suc o)) n h f =
     ap (wrap true n)
-    (⊎-elim
-    (λ w. ⊎-elim (λ z. omega arith) (λ z. omega arith) (inv-forward (suc o) n 0 (omega arith) f (omega arith)))
-    (λ w. ⊎-elim (λ z. omega arith) (λ z. omega arith) (inv-forward (suc o) n 0 (omega arith) f (omega arith)))
-    (inv-forward (suc o) n n (omega arith) f (omega arith)))
+    (four (inv-forward (suc o) n n (omega arith) f (omega arith)) (inv-forward (suc o) n 0 (omega arith) f (omega arith)) (λ w z. omega arith) (λ w z. omega arith) (λ w z. omega arith) (λ w z. omega arith))
 carried-ends (reverse zero) n h f =
     wrap-is true n (inverse (reverse 0) n n) 0 (omega (arith, inv-reverse-0 n n)) h
     ∙ sym (wrap-eq n (inverse (reverse 0) n 0) n (inl (omega (arith, inv-reverse-0 n 0))) h ∙ wrap-end n)

@@ -1,15 +1,16 @@
--- The sides of a joined grid, seen along its seam: x counts the columns that the seam joins, y the points of a column, and a column
--- may be closed. Here (x, y) is (u, v) or (v, u). Assumes nothing.
-use Prim.Native.Nat.{ℕ, zero, suc, _+_, _-_, _*_, _/_, _%_, _≤_, _<_}
-use mathlib.Core.Path.{_≡_, refl, sym, ap, _∙_, subst}
+-- A joined grid as a strip: columns 0 to X of points 0 to Y each, column X joined to column 0 by a seam or not at all, every column closed or
+-- open. Each side has one name (`one-name`): two names with the same two ends, in either order, would need a step that ends where it starts or two
+-- steps that go there and back, and with at least 3 steps each way there are none. Assumes nothing.
+use Prim.Native.Nat.{ℕ, _+_, _-_, _≤_, _<_}
+use mathlib.Core.Path.{_≡_, refl, sym, ap, _∙_}
 use mathlib.Core.Logic.{_⊎_, inl, inr, ⊎-elim}
 use mathlib.Core.Bool.{Bool, true, false, _&&_, not}
 use native.Mathlib.Omega.{arith}
-use lib.Dec.{eqb, ltb}
-use borrow.Author.Tests.{eqb-true, eqb-false, eq-eqb, ne-eqb}
+use lib.Dec.{eqb}
+use borrow.Author.Tests.{ne-eqb}
 use Rattle.cyclic.specs.Mapping.{pick}
-use Rattle.surface.specs.Surface.{Seam, unjoined, forward, reverse, joined, reversed, inverse, Split, falling, rising, Same}
-use Rattle.surface.proofs.Steps.{eqb-cases, lt-or-le, wrap, wrap-open, wrap-closed, wrap-two, wrap-below, wrap-end, wrap-le, wrap-wrap, step-ne, step-two, step-inj, Fits, laidOn, laidBack, on-below, back-below, on-back, on-inj, carried, adj-forward, adj-reverse, carried-ends, carried-le, carried-wrap}
+use Rattle.surface.specs.Surface.{Seam, unjoined, forward, reverse, joined, reversed, Split, falling, rising, Same}
+use Rattle.surface.proofs.Steps.{wrap, wrap-below, wrap-le, wrap-wrap, step-ne, step-two, step-inj, Fits, laidOn, on-below, carried, adj-forward, adj-reverse, carried-le, carried-wrap}
 
 -- a side of a cell goes along a column, across to the next column, or along the cell's diagonal
 pub data Kind : Type 0 where
@@ -18,9 +19,12 @@ pub data Kind : Type 0 where
 pub record Strip : Type 0 where
   pub X : ℕ
   pub Y : ℕ
+  -- whether the columns are closed
   pub closed : Bool
+  -- how column X is joined to column 0
   pub seam : Seam
   pub split : Split
+  -- the number of a point; `inj`: its own
   pub num : ℕ → ℕ → ℕ
   pub X≥3 : 3 ≤ X
   pub Y≥3 : 3 ≤ Y
@@ -37,13 +41,14 @@ pub record Strip : Type 0 where
 abbrev pub crossing : Strip → ℕ → Bool
 crossing S x = joined (S .seam) && eqb x (S .X)
 
+-- the column and the row of the point that grid point (x, y) is joined to
 unfoldable pub colOf : Strip → ℕ → ℕ
 colOf S x = wrap (joined (S .seam)) (S .X) x
 
 unfoldable pub rowOf : Strip → ℕ → ℕ → ℕ
 rowOf S x y = pick (crossing S x) (carried (S .seam) (S .closed) (S .Y) y) (wrap (S .closed) (S .Y) y)
 
--- the point that grid point (x, y) is joined to
+-- that point's number
 unfoldable pub pointOf : Strip → ℕ → ℕ → ℕ
 pointOf S x y = S .num (colOf S x) (rowOf S x y)
 
@@ -55,6 +60,7 @@ stepAt S x y = pick (crossing S x) (laidOn (S .seam) (S .Y) y) y
 unfoldable pub turned : Strip → ℕ → Bool
 turned S x = reversed (S .seam) && eqb x (S .X)
 
+-- the row after row y
 unfoldable pub next : Strip → ℕ → ℕ
 next S y = wrap (S .closed) (S .Y) (y + 1)
 
@@ -174,6 +180,9 @@ module _ (S : Strip) where
 
 -- ---- names of sides
 
+-- The name of a side is its kind and (x, y): a straight side goes from (x, y) to the next row, a side across from (x, y) to what (x+1, y) is joined
+-- to, a diagonal between the two other corners of its cell (falling) or from (x, y) to what (x+1, y+1) is joined to (rising).
+
 abbrev pub fromY : Strip → Kind → Split → ℕ → ℕ
 fromY S straight d y = y
 fromY S across d y = y
@@ -198,6 +207,7 @@ nameFrom S k x y = S .num x (fromY S k (S .split) y)
 unfoldable pub nameTo : Strip → Kind → ℕ → ℕ → ℕ
 nameTo S k x y = S .num (toX S k x) (toY S k (S .split) x y)
 
+-- the names that there are
 abbrev pub Valid : Strip → Kind → ℕ → ℕ → Type 0
 Valid S straight x y = (x ≤ S .X) × (y < S .Y)
 Valid S across x y = (x < S .X) × (y ≤ S .Y)
@@ -228,6 +238,7 @@ module _ (S : Strip) where
   toY-le diagonal falling x y v = row-le S (x + 1) y (omega arith)
   toY-le diagonal rising x y v = row-le S (x + 1) (y + 1) (omega arith)
 
+  -- one name
   abbrev pub Agree : Kind → Kind → ℕ → ℕ → ℕ → ℕ → Type 0
   Agree k k′ x y x′ y′ = (k ≡ k′) × (x ≡ x′) × (y ≡ y′)
 
@@ -264,7 +275,7 @@ module _ (S : Strip) where
   in-turn diagonal across d x y x′ y′ v v′ p q r s = col-two S x x′ (v .0) (v′ .0) r (sym p)
   in-turn diagonal diagonal d x y x′ y′ v v′ p q r s = col-two S x x′ (v .0) (v′ .0) r (sym p)
 
-  -- a side has one name
+  -- so a side has one name
   pub one-name : (k k′ : Kind) (x y x′ y′ : ℕ) → Valid S k x y → Valid S k′ x′ y′ →
       Same (nameFrom S k x y) (nameTo S k x y) (nameFrom S k′ x′ y′) (nameTo S k′ x′ y′) → Agree k k′ x y x′ y′
   unfolding nameFrom nameTo

@@ -12,7 +12,7 @@ use lib.Arith.{digits-div, digits-mod, digits-lt}
 use lib.ListN.{length, getD, length-append, List·getD-append}
 use borrow.Author.Tests.{eq-eqb, ne-eqb}
 use Rattle.cyclic.specs.Mapping.{pick}
-use Rattle.surface.specs.Surface.{Split, falling, rising, Shape, Triangle, tri, halfOf, slot, slots, proper, kept, triangles, numberOf, bySplit, lowU, highU, lowV, highV, nth}
+use Rattle.surface.specs.Surface.{Shape, Triangle, tri, halfOf, slot, slots, proper, kept, triangles, numberOf, nth}
 use Rattle.surface.proofs.Steps.{eqb-cases, lt-or-le}
 
 -- ---- of any shape
@@ -54,31 +54,6 @@ number-below s i h e =
     let more : length (kept s (suc i)) ≡ length (kept s i) + 1 = kept-more s i ∙ ap (λ (t : Bool). length (kept s i) + pick t 1 0) e in
     let up : suc i ≤ slots s = omega arith in
     omega (arith, kept-grows s (suc i) (slots s) up)
-
--- the slots of the rims are among the slots
-slot-of-cell : (s : Shape) (u v i : ℕ) → u < s .M → v < s .N → i ≤ 2 * (u * s .N + v) + 1 → i < slots s
-unfolding slots
-slot-of-cell s u v i p q h = omega (arith, digits-lt p q)
-
-by-split-le : (d : Split) (a b n : ℕ) → a ≤ n → b ≤ n → bySplit d a b ≤ n
-by-split-le falling a b n h k = h
-by-split-le rising a b n h k = k
-
-pub lowU-lt : (s : Shape) (i : ℕ) → 0 < s .M → i < s .N → lowU s i < slots s
-unfolding lowU
-lowU-lt s i h k = slot-of-cell s 0 i (2 * i + bySplit (s .split) 0 1) h k (omega (arith, by-split-le (s .split) 0 1 1 (omega arith) (omega arith)))
-
-pub highU-lt : (s : Shape) (i : ℕ) → 0 < s .M → i < s .N → highU s i < slots s
-unfolding highU
-highU-lt s i h k = slot-of-cell s (s .M - 1) i (2 * ((s .M - 1) * s .N + i) + bySplit (s .split) 1 0) (omega arith) k (omega (arith, by-split-le (s .split) 1 0 1 (omega arith) (omega arith)))
-
-pub lowV-lt : (s : Shape) (i : ℕ) → 0 < s .N → i < s .M → lowV s i < slots s
-unfolding lowV
-lowV-lt s i h k = slot-of-cell s i 0 (2 * (i * s .N)) k h (omega arith)
-
-pub highV-lt : (s : Shape) (i : ℕ) → 0 < s .N → i < s .M → highV s i < slots s
-unfolding highV
-highV-lt s i h k = slot-of-cell s i (s .N - 1) (2 * (i * s .N + (s .N - 1)) + 1) k (omega arith) (omega arith)
 
 -- ---- where every slot emits its triangle
 

@@ -2,9 +2,9 @@
 use Prim.Native.Nat.{ℕ}
 use mathlib.Core.Path.{_≡_, refl}
 use mathlib.Core.Bool.{Bool, true}
-use mathlib.Core.List.{List, [], _∷_}
+use mathlib.Core.List.{[], _∷_}
 use Rattle.cyclic.specs.Mapping as mapping
-use Rattle.surface.specs.Surface.{Seam, unjoined, forward, reverse, Shape, Rule, once, twice, Split, falling, rising, cornerBy, corner, Triangle, tri, halfOf, slot, slots, kept, triangles, numberOf, Pair, pair, stepOn, lowU, highU, lowV, highV, process, flipped, joinedBy, J, nth}
+use Rattle.surface.specs.Surface.{Seam, unjoined, forward, reverse, Shape, Rule, once, twice, Split, falling, rising, cornerBy, corner, tri, halfOf, slot, slots, kept, triangles, numberOf, pair, stepOn, lowU, highU, lowV, highV, process, flipped, joinedBy, J, nth}
 
 -- all that a closed result computes through
 unfoldable computed : Bool
@@ -18,6 +18,11 @@ shape M N su sv rule split = record { M = M; N = N; su = su; sv = sv; rule = rul
 no-seam : triangles (shape 1 1 unjoined unjoined once falling) ≡ tri 0 2 1 ∷ tri 2 3 1 ∷ []
 unfolding computed
 no-seam = refl
+
+-- where the only two columns are joined, no triangle has three numbers
+no-triangle : triangles (shape 1 1 (forward 0) unjoined once falling) ≡ []
+unfolding computed
+no-triangle = refl
 
 -- "M=N=3, u seam Reverse(0), v unjoined: flipped (0,17), (2,15), (4,13)."
 reversed-u : flipped (shape 3 3 (reverse 0) unjoined once falling) ≡ pair 0 17 ∷ pair 2 15 ∷ pair 4 13 ∷ []

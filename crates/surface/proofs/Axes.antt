@@ -1,0 +1,192 @@
+-- A covered joining is a strip when it is seen along one of its two seams: the other seam is unjoined or joins each point to the one opposite, so
+-- it closes the columns or leaves them open, and no more. Assumes nothing.
+use Prim.Native.Nat.{ℕ, zero, suc, _+_, _-_, _*_, _/_, _%_, _≤_, _<_}
+use mathlib.Core.Path.{_≡_, refl, sym, ap, _∙_, subst}
+use mathlib.Core.Logic.{_⊎_, inl, inr, ⊎-elim}
+use mathlib.Core.Bool.{Bool, true, false, not, true≢false}
+use native.Mathlib.Omega.{arith}
+use lib.Arith.{digits-div, digits-mod}
+use Rattle.surface.specs.Surface.{Seam, unjoined, forward, reverse, joined, inverse, Rule, once, twice, Split, falling, rising, Shape, number, at, Beside, AtZero, Covered, neither, only-u, only-v, both-u, both-v}
+use Rattle.surface.proofs.Steps.{Fits, Offset, inv-forward-0, inv-forward, inv-reverse}
+use Rattle.surface.proofs.Strip.{Strip, Kind, straight, across, diagonal}
+use Rattle.surface.proofs.Halves.{cellHalf, cellDir}
+
+-- along u the columns are those of u, along v those of v
+pub data Axis : Type 0 where
+  axisU axisV : Axis
+
+abbrev pub columns : Axis → Shape → ℕ
+columns axisU s = s .M
+columns axisV s = s .N
+
+abbrev pub rows : Axis → Shape → ℕ
+rows axisU s = s .N
+rows axisV s = s .M
+
+-- the seam that joins the last column to the first, and the one that closes the columns
+abbrev pub seamOf : Axis → Shape → Seam
+seamOf axisU s = s .su
+seamOf axisV s = s .sv
+
+abbrev pub closing : Axis → Shape → Seam
+closing axisU s = s .sv
+closing axisV s = s .su
+
+-- the column and the row of (u, v); and, as two turns are none, the u and the v of a column and a row
+abbrev pub xOf : {A : Type 0} → Axis → A → A → A
+xOf axisU i j = i
+xOf axisV i j = j
+
+abbrev pub yOf : {A : Type 0} → Axis → A → A → A
+yOf axisU i j = j
+yOf axisV i j = i
+
+pub turn-x : {A : Type 0} (a : Axis) (i j : A) → xOf a (xOf a i j) (yOf a i j) ≡ i
+turn-x axisU i j = refl
+turn-x axisV i j = refl
+
+pub turn-y : {A : Type 0} (a : Axis) (i j : A) → yOf a (xOf a i j) (yOf a i j) ≡ j
+turn-y axisU i j = refl
+turn-y axisV i j = refl
+
+-- a step of v goes along a column of u and across the columns of v
+abbrev pub kindOf : Axis → Kind → Kind
+kindOf axisU k = k
+kindOf axisV straight = across
+kindOf axisV across = straight
+kindOf axisV diagonal = diagonal
+
+pub turn-kind : (a : Axis) (k : Kind) → kindOf a (kindOf a k) ≡ k
+turn-kind axisU k = refl
+turn-kind axisV straight = refl
+turn-kind axisV across = refl
+turn-kind axisV diagonal = refl
+
+-- which half has a side, and which way it runs along it; a falling diagonal starts at its other end when u and v change places
+abbrev pub sideHalf : Axis → Split → Kind → Bool → Bool
+sideHalf a d k t = cellHalf d (kindOf a k) t
+
+abbrev pub sideDir : Axis → Split → Kind → Bool → Bool
+sideDir axisU d k t = cellDir k t
+sideDir axisV d straight t = not t
+sideDir axisV d across t = t
+sideDir axisV falling diagonal t = not t
+sideDir axisV rising diagonal t = t
+
+pub half-diagonal : (a : Axis) (d : Split) (t : Bool) → sideHalf a d diagonal t ≡ t
+half-diagonal axisU falling t = refl
+half-diagonal axisU rising t = refl
+half-diagonal axisV falling t = refl
+half-diagonal axisV rising t = refl
+
+pub dir-not : (a : Axis) (d : Split) (k : Kind) (t : Bool) → sideDir a d k (not t) ≡ not (sideDir a d k t)
+dir-not axisU d straight t = refl
+dir-not axisU d across t = refl
+dir-not axisU d diagonal t = refl
+dir-not axisV d straight t = refl
+dir-not axisV d across t = refl
+dir-not axisV falling diagonal t = refl
+dir-not axisV rising diagonal t = refl
+
+-- ---- what a shape must be to be seen so
+
+-- a seam that is unjoined, or forward at offset 0
+abbrev pub Plain : Seam → Type 0
+Plain m = (m ≡ unjoined) ⊎ (m ≡ forward 0)
+
+-- Where the columns are closed, a seam takes points inside a column to points inside it; request 8's second round of the rules does without.
+abbrev pub KeepsInside : Rule → Seam → Bool → ℕ → Type 0
+KeepsInside once m c n = c ≡ true → (b : ℕ) → b < n → inverse m n b < n
+KeepsInside twice m c n = Unit {0}
+
+pub record SeenAlong (a : Axis) (s : Shape) : Type 0 where
+  pub fits : Fits (seamOf a s) (joined (closing a s)) (rows a s)
+  pub plain : Plain (closing a s)
+  pub inside : KeepsInside (s .rule) (seamOf a s) (joined (closing a s)) (rows a s)
+
+digits-inj : (q r q′ r′ m : ℕ) → r < m → r′ < m → q * m + r ≡ q′ * m + r′ → (q ≡ q′) × (r ≡ r′)
+digits-inj q r q′ r′ m h h′ e = (
+  sym (digits-div q h) ∙ ap (λ (z : ℕ). z / m) e ∙ digits-div q′ h′,
+  sym (digits-mod q h) ∙ ap (λ (z : ℕ). z % m) e ∙ digits-mod q′ h′,
+)
+
+pub number-inj : (a : Axis) (s : Shape) (x y x′ y′ : ℕ) → x ≤ columns a s → y ≤ rows a s → x′ ≤ columns a s → y′ ≤ rows a s → number s (at (xOf a x y) (yOf a x y)) ≡ number s (at (xOf a x′ y′) (yOf a x′ y′)) → (x ≡ x′) × (y ≡ y′)
+number-inj axisU s x y x′ y′ h k h′ k′ e = digits-inj x y x′ y′ (s .N + 1) (omega arith) (omega arith) e
+number-inj axisV s x y x′ y′ h k h′ k′ e = let r = digits-inj y x y′ x′ (s .N + 1) (omega arith) (omega arith) e in (r .1, r .0)
+
+pub three : (a : Axis) (s : Shape) → 3 ≤ s .M → 3 ≤ s .N → (3 ≤ columns a s) × (3 ≤ rows a s)
+three axisU s m n = (m, n)
+three axisV s m n = (n, m)
+
+unfoldable pub strip : (s : Shape) → 3 ≤ s .M → 3 ≤ s .N → (a : Axis) → SeenAlong a s → Strip
+strip s m n a w =
+    record {
+      X = columns a s;
+      Y = rows a s;
+      closed = joined (closing a s);
+      seam = seamOf a s;
+      split = s .split;
+      num = λ x y. number s (at (xOf a x y) (yOf a x y));
+      X≥3 = three a s m n .0;
+      Y≥3 = three a s m n .1;
+      fits = w .fits;
+      inj = number-inj a s;
+      half = sideHalf a (s .split);
+      half-diagonal = half-diagonal a (s .split);
+      dir = sideDir a (s .split);
+      dir-not = dir-not a (s .split);
+    }
+
+-- ---- the covered joinings
+
+inside-mapping : (m : Seam) (n : ℕ) → Beside once m n → (b : ℕ) → b < n → inverse m n b < n
+inside-mapping unjoined n h b k = absurd h
+inside-mapping (forward zero) n h b k = omega (arith, inv-forward-0 n b)
+inside-mapping (forward (suc o)) n h b k = ⊎-elim (λ w. omega arith) (λ w. omega arith) (inv-forward (suc o) n b (omega arith) h (omega arith))
+inside-mapping (reverse o) n h b k = ⊎-elim (λ w. omega arith) (λ v. ⊎-elim (λ w. omega arith) (λ w. omega arith) v) (inv-reverse o n b (h .0) (h .1) (omega arith))
+
+offset-closed : (o n : ℕ) → o < n → Offset o true n
+offset-closed zero n h = tt
+offset-closed (suc o) n h = h
+
+beside-fits : (r : Rule) (m : Seam) (n : ℕ) → Beside r m n → Fits m true n
+beside-fits r unjoined n h = tt
+beside-fits r (forward o) n h = offset-closed o n h
+beside-fits once (reverse o) n h = offset-closed o n (h .1)
+beside-fits twice (reverse o) n h = offset-closed o n h
+
+offset-zero : (o : ℕ) (c : Bool) (n : ℕ) → o ≡ 0 → Offset o c n
+offset-zero zero c n e = tt
+offset-zero (suc o) c n e = let z : ⊥ = omega arith in absurd z
+
+at-zero-fits : (m : Seam) (c : Bool) (n : ℕ) → AtZero m → Fits m c n
+at-zero-fits unjoined c n h = absurd h
+at-zero-fits (forward o) c n h = offset-zero o c n h
+at-zero-fits (reverse o) c n h = offset-zero o c n h
+
+unjoined-fits : (m : Seam) (c : Bool) (n : ℕ) → m ≡ unjoined → Fits m c n
+unjoined-fits m c n e = rw e tt
+
+module _ (a : Axis) (s : Shape) where
+  -- beside an unjoined seam
+  open-columns : closing a s ≡ unjoined → Fits (seamOf a s) (joined (closing a s)) (rows a s) → SeenAlong a s
+  open-columns e f = record { fits = f; plain = inl e; inside = free (s .rule) }
+    where
+      free : (r : Rule) → KeepsInside r (seamOf a s) (joined (closing a s)) (rows a s)
+      free once = λ d. absurd (true≢false (sym d ∙ ap joined e))
+      free twice = tt
+
+  -- beside a seam that is forward at offset 0
+  closed-columns : closing a s ≡ forward 0 → Beside (s .rule) (seamOf a s) (rows a s) → SeenAlong a s
+  closed-columns e b = record { fits = subst (λ (m : Seam). Fits (seamOf a s) (joined m) (rows a s)) (sym e) (beside-fits (s .rule) (seamOf a s) (rows a s) b); plain = inr e; inside = keeps (s .rule) b }
+    where
+      keeps : (r : Rule) → Beside r (seamOf a s) (rows a s) → KeepsInside r (seamOf a s) (joined (closing a s)) (rows a s)
+      keeps once h = λ d i k. inside-mapping (seamOf a s) (rows a s) h i k
+      keeps twice h = tt
+
+pub covered-along : (s : Shape) → Covered s → (a : Axis) × SeenAlong a s
+covered-along s (neither p q) = (axisU, open-columns axisU s q (unjoined-fits (s .su) (joined (s .sv)) (s .N) p))
+covered-along s (only-u p q) = (axisU, open-columns axisU s q (at-zero-fits (s .su) (joined (s .sv)) (s .N) p))
+covered-along s (only-v p q) = (axisV, open-columns axisV s p (at-zero-fits (s .sv) (joined (s .su)) (s .M) q))
+covered-along s (both-u p q) = (axisU, closed-columns axisU s q p)
+covered-along s (both-v p q) = (axisV, closed-columns axisV s p q)
