@@ -2,15 +2,17 @@
 use mathlib.Core.Path.{_≡_, refl, sym, ap, _∙_}
 use mathlib.Core.Bool.{Bool, true, false, _&&_}
 use Prim.Native.Nat.{ℕ, max}
+use native.Mathlib.Omega.{arith}
 use lib.Ieee.{Float, le, toUnsigned}
 use Rattle.float.specs.Cast.{natFloat}
 use Rattle.refusal.specs.declared.Check.{Check}
 use Rattle.refusal.specs.declared.Check.the-variants.{Passed, Failed}
-use Rattle.refusal.specs.Refusals.{Answer, ok, refused}
+use Rattle.refusal.specs.Refusals.{Answer, ok, refused, unless, passing}
+use Rattle.refusal.specs.declared.Refusal.the-variants.{Steps, Texture, Count}
 use Rattle.grid.specs.Grid.{stepsFit}
 use Rattle.texture.specs.declared.plan.ParametricSurfaceTexture.{ParametricSurfaceTexture}
 use Rattle.texture.specs.declared.plan.ParametricSurfaceTexture.the-variants.{Grid, Swirl, Spiral}
-use Rattle.texture.specs.Plan.{spacingOf, swirlRays, swirlSamples, spiralSamples, raysOf, samplesOf, textureFits, maxCount, planCheck, Plan, planOf, plan}
+use Rattle.texture.specs.Plan.{spacingOf, swirlRays, swirlSamples, spiralSamples, raysOf, samplesOf, textureFits, maxCount, countsFit, planCheck, Plan, planOf, plan}
 
 module _ (m n : ℕ) {t : ParametricSurfaceTexture} {s : Float} where
   pub rays-swirl : {w x r : Float} → t ≡ Swirl s w → x ≡ spacingOf s → r ≡ swirlRays m n x → r ≡ raysOf m n t
@@ -44,3 +46,35 @@ module _ (t : ParametricSurfaceTexture) (m n : ℕ) {b : Bool} (eb : b ≡ steps
       pub plan-ok : {i j : ℕ} → le r maxCount && le s maxCount ≡ true → i ≡ toUnsigned 64 r → j ≡ toUnsigned 64 s → ok (record { rays = i; samples = j }) ≡ plan t m n
       unfolding plan planCheck
       plan-ok l ei ej = rw (← eb, h, ← ef, k, ← er, ← es, l, ei, ej)
+
+-- ---- what follows a plan's own tests
+
+-- the three tests, by what they say
+abbrev chain : Bool → Bool → Bool → Check → Check
+chain a b c after = unless a Steps (unless b Texture (unless c Count after))
+
+never : {A B : Type 0} {x : A} {k : ℕ} → ok x ≡ refused k → B
+never e = let z : _≡_ {A = ℕ} 0 1 = cc in absurd (omega arith)
+
+chain-passed : {A : Type 0} (a b c : Bool) {x : A} (y : A) (after : Check) → ok x ≡ passing (chain a b c Passed) (ok y) → (chain a b c after ≡ after) × (x ≡ y)
+chain-passed true true true y after e = (refl, cc)
+chain-passed true true false y after e = never e
+chain-passed true false c y after e = never e
+chain-passed false b c y after e = never e
+
+chain-failed : {A B : Type 0} (a b c : Bool) (y : A) {k : ℕ} (after : Check) (z : Answer B) → refused k ≡ passing (chain a b c Passed) (ok y) → refused k ≡ passing (chain a b c after) z
+chain-failed true true true y after z e = never (sym e)
+chain-failed true true false y after z e = cc
+chain-failed true false c y after z e = cc
+chain-failed false b c y after z e = cc
+
+module _ (t : ParametricSurfaceTexture) (m n : ℕ) (after : Check) where
+  -- where there is a plan, only the tests after its own are left
+  pub plan-passed : {p : Plan} → ok p ≡ plan t m n → (planCheck t m n after ≡ after) × (p ≡ planOf t m n)
+  unfolding plan planCheck
+  plan-passed e = chain-passed (stepsFit m n) (textureFits t) (countsFit (raysOf m n t) (samplesOf m n t)) (planOf t m n) after e
+
+  -- where there is none, its refusal is the answer
+  pub plan-failed : {A : Type 0} {k : ℕ} (z : Answer A) → refused k ≡ plan t m n → refused k ≡ passing (planCheck t m n after) z
+  unfolding plan planCheck
+  plan-failed z e = chain-failed (stepsFit m n) (textureFits t) (countsFit (raysOf m n t) (samplesOf m n t)) (planOf t m n) after z e

@@ -28,27 +28,27 @@ abbrev pub part : ℕ → ℕ → Float
 part i count = div binary64 (natFloat i) (natFloat count)
 
 -- the angle at which a ray starts
-abbrev pub baseAngle : Plan → ℕ → Float
-baseAngle p ray = mul binary64 (part ray (p .rays)) tau
+abbrev pub baseAngle : ℕ → ℕ → Float
+baseAngle rays ray = mul binary64 (part ray rays) tau
 
--- how far a sample's angle is from its ray's
-abbrev pub turnOf : ParametricSurfaceTexture → ℕ → ℕ → Plan → ℕ → Float
-turnOf Grid m n p i = zero64
-turnOf (Swirl spacing twist) m n p i = div binary64 (mul binary64 (mul binary64 tau twist) (natFloat i)) (natFloat (p .samples))
-turnOf (Spiral spacing arms) m n p i = mul binary64 (mul binary64 (part i (p .samples)) tau) (spiralTurns m n (spacingOf spacing))
+-- how far the angle of sample i of a ray is from the ray's, its samples being `count`
+abbrev pub turnOf : ParametricSurfaceTexture → ℕ → ℕ → ℕ → ℕ → Float
+turnOf Grid m n count i = zero64
+turnOf (Swirl spacing twist) m n count i = div binary64 (mul binary64 (mul binary64 tau twist) (natFloat i)) (natFloat count)
+turnOf (Spiral spacing arms) m n count i = mul binary64 (mul binary64 (part i count) tau) (spiralTurns m n (spacingOf spacing))
 
 unfoldable pub angleOf : ParametricSurfaceTexture → ℕ → ℕ → Plan → ℕ → ℕ → Float
-angleOf t m n p ray i = add binary64 (baseAngle p ray) (turnOf t m n p i)
+angleOf t m n p ray i = add binary64 (baseAngle (p .rays) ray) (turnOf t m n (p .samples) i)
 
 -- how far a sample is from the centre
-abbrev pub distanceOf : ParametricSurfaceTexture → ℕ → ℕ → Plan → ℕ → Float
-distanceOf Grid m n p i = zero64
-distanceOf (Swirl spacing twist) m n p i = div binary64 (mul binary64 (radius m n) (natFloat i)) (natFloat (p .samples))
-distanceOf (Spiral spacing arms) m n p i = mul binary64 (radius m n) (sub binary64 one64 (part i (p .samples)))
+abbrev pub distanceOf : ParametricSurfaceTexture → ℕ → ℕ → ℕ → ℕ → Float
+distanceOf Grid m n count i = zero64
+distanceOf (Swirl spacing twist) m n count i = div binary64 (mul binary64 (radius m n) (natFloat i)) (natFloat count)
+distanceOf (Spiral spacing arms) m n count i = mul binary64 (radius m n) (sub binary64 one64 (part i count))
 
-unfoldable pub pointOf : ParametricSurfaceTexture → ℕ → ℕ → Plan → ℕ → Float → Float → ParamPoint
-pointOf t m n p i cosine sine =
-    let r = distanceOf t m n p i in
+unfoldable pub pointOf : ParametricSurfaceTexture → ℕ → ℕ → ℕ → ℕ → Float → Float → ParamPoint
+pointOf t m n count i cosine sine =
+    let r = distanceOf t m n count i in
     param (add binary64 (centre m) (mul binary64 cosine r)) (add binary64 (centre n) (mul binary64 sine r))
 
 -- ---- the calls
@@ -70,7 +70,7 @@ directionFits cosine sine = atMost cosine one64 && atMost sine one64
 unfoldable pub samplePoint : ParametricSurfaceTexture → ℕ → ℕ → ℕ → ℕ → Float → Float → Answer ParamPoint
 samplePoint t m n ray i cosine sine =
     passing (planCheck t m n (unless (directionFits cosine sine) refusals.Direction (unless (isThere (planOf t m n) ray i) refusals.NotThere Passed)))
-    (ok (pointOf t m n (planOf t m n) i cosine sine))
+    (ok (pointOf t m n (planOf t m n .samples) i cosine sine))
 
 -- 01's number and values of each case
 abbrev pub statedAngle : AngleAnswer → Answer Float

@@ -1,0 +1,57 @@
+-- `texture::sample::sample_point` meets its contract, test by test: the laws are in proofs/Samples.antt. Assumes nothing.
+use Rattle.texture.proofs.Samples.{point-direction, point-ok, point-not-there, point-failed}
+use borrow.Author.Tests.{not-true, not-false}
+use borrow.Author.Needs.{needs}
+use Rattle.texture.proofs.sample.sample_point.Statement.{statement}
+use Rattle.texture.proofs.sample.sample_point.Tie as tie
+
+plan-requires : tie.Need-plan-requires
+plan-requires c κs = search needs
+
+enum-known-rays : tie.Need-enum-known-rays
+enum-known-rays c = search needs
+
+direction-fits-requires : tie.Need-direction-fits-requires
+direction-fits-requires c κs = search needs
+
+returns : tie.Need-returns
+returns c =
+    let r = c .before .before .before in
+    point-direction _ _ _ _ _ (r .before .before .plan .ensures) (r .rays .given .1) _ _ (c .before .direction-fits .ensures) (not-true _ (c .if1 .taken))
+
+point-requires : tie.Need-point-requires
+point-requires c κs = search needs
+
+returns-2 : tie.Need-returns-2
+returns-2 c =
+    let e = c .before .before in
+    let r = e .before .before .before in
+    point-ok _ _ _ _ _ (r .before .before .plan .ensures) (r .rays .given .1) _ _ (e .before .direction-fits .ensures) (not-false _ (e .if1 .left)) (c .before .if2 .taken) (c .point .ensures)
+
+enum-known-k : tie.Need-enum-known-k
+enum-known-k c = search needs
+
+returns-3 : tie.Need-returns-3
+returns-3 c =
+    let e = c .before in
+    let r = e .before .before .before in
+    point-not-there _ _ _ _ _ (r .before .before .plan .ensures) (r .rays .given .1) _ _ (e .before .direction-fits .ensures) (not-false _ (e .if1 .left)) (c .if2 .left)
+
+returns-4 : tie.Need-returns-4
+returns-4 c =
+    let r = c .before in
+    point-failed _ _ _ _ _ (r .before .before .plan .ensures) _ _ (r .k .given .1)
+
+pub sample-point-spec : {M : Type 1} → statement M
+sample-point-spec =
+    tie.close
+    (tie.spec
+    plan-requires
+    enum-known-rays
+    direction-fits-requires
+    returns
+    point-requires
+    returns-2
+    enum-known-k
+    returns-3
+    returns-4)
