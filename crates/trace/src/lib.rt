@@ -1,3 +1,4 @@
 // Pen lines traced across the cells of a grid.
 pub mod crossing;
 pub mod page;
+pub mod walk;
