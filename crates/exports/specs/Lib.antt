@@ -1,3 +1,4 @@
 -- How the answers of open calls cross the C boundary.
 pub mod Floats
+pub mod Seams
 pub mod Vectors

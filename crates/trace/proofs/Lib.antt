@@ -2,6 +2,10 @@
 pub mod Steps
 pub mod Edges
 pub mod Pages
+pub mod Follow
+pub mod Fits
+pub mod Crossed
+pub mod Checks
 pub mod Related
 pub mod Turns
 pub mod Agree

@@ -1,3 +1,5 @@
 // Pen lines traced across the cells of a grid.
 pub mod crossing;
 pub mod page;
+pub mod samples;
+pub mod walk;

@@ -1,7 +1,7 @@
 //! Runs one comparison after another and counts them.
 
 use crate::random::Random;
-use crate::value::Value;
+use crate::value::{Show, Value};
 use std::time::Instant;
 
 /// Nothing, or the first difference in words.
@@ -9,31 +9,50 @@ pub type Compared = Result<(), String>;
 
 pub struct Driver {
     seed: u64,
+    cases: Option<u64>,
     passed: u64,
 }
 
 impl Driver {
-    pub fn new(seed: u64) -> Self {
-        Self { seed, passed: 0 }
+    /// `cases`, where it is there, is how many random inputs each comparison takes.
+    pub fn new(seed: u64, cases: Option<u64>) -> Self {
+        Self {
+            seed,
+            cases,
+            passed: 0,
+        }
     }
 
     pub fn passed(&self) -> u64 {
         self.passed
     }
 
-    /// Holds `library` to `original` on `count` inputs.
-    pub fn compare<I: Value, O: Value>(
+    /// Holds `library` to `original` on random inputs: `count`, or as many as the command line says.
+    pub fn compare<I: Show, O: Value>(
         &mut self,
         name: &str,
         count: u64,
-        input: impl Fn(&mut Random) -> I,
-        library: impl Fn(&I) -> O,
-        original: impl Fn(&I) -> O,
+        mut input: impl FnMut(&mut Random) -> I,
+        library: impl FnMut(&I) -> O,
+        original: impl FnMut(&I) -> O,
+    ) -> Compared {
+        let mut random = Random::new(self.seed + self.passed);
+        let count = self.cases.unwrap_or(count);
+        let inputs = (0..count).map(|_| input(&mut random));
+        self.compare_each(name, inputs, library, original)
+    }
+
+    /// Holds `library` to `original` on each of these inputs.
+    pub fn compare_each<I: Show, O: Value>(
+        &mut self,
+        name: &str,
+        inputs: impl IntoIterator<Item = I>,
+        mut library: impl FnMut(&I) -> O,
+        mut original: impl FnMut(&I) -> O,
     ) -> Compared {
         let start = Instant::now();
-        let mut random = Random::new(self.seed + self.passed);
-        for _ in 0..count {
-            let given = input(&mut random);
+        let mut count = 0;
+        for given in inputs {
             let (ours, theirs) = (library(&given), original(&given));
             if !ours.same(&theirs) {
                 let (given, ours, theirs) = (given.show(), ours.show(), theirs.show());
@@ -41,10 +60,11 @@ impl Driver {
                     "{name} of {given}\n  library  {ours}\n  original {theirs}"
                 ));
             }
+            count += 1;
         }
         self.passed += 1;
         let rate = count as f64 / start.elapsed().as_secs_f64() / 1e6;
-        println!("  {name}: {count} inputs, no difference ({rate:.1} million a second)");
+        println!("  {name}: {count} inputs, no difference ({rate:.3} million a second)");
         Ok(())
     }
 }
@@ -57,7 +77,7 @@ mod tests {
     /// What the driver says of a `library` that stands in for x.floor().
     fn floor(library: impl Fn(f64) -> f64) -> Compared {
         let original = |x: &f64| x.floor();
-        Driver::new(1).compare("floor", 100_000, any, |&x| library(x), original)
+        Driver::new(1, None).compare("floor", 100_000, any, |&x| library(x), original)
     }
 
     #[test]

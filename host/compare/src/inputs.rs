@@ -49,6 +49,28 @@ const EDGES: [f64; 37] = [
     f64::NAN,
 ];
 
+/// The largest magnitude that a coordinate of a grid or a row may have.
+const TWO_40: f64 = 1_099_511_627_776.0;
+
+/// Coordinates that are just allowed.
+pub const COORDINATE_EDGES: [f64; 6] = [TWO_40, -TWO_40, TWO_40.next_down(), 0.0, -0.0, 5e-324];
+
+/// Coordinates that are refused.
+pub const COORDINATE_FAULTS: [f64; 7] = [
+    TWO_40.next_up(),
+    -TWO_40.next_up(),
+    f64::MAX,
+    f64::INFINITY,
+    f64::NEG_INFINITY,
+    f64::NAN,
+    -f64::NAN,
+];
+
+/// Whether all coordinates of a grid or a row are allowed.
+pub fn coordinates_fit(numbers: &[f64]) -> bool {
+    numbers.iter().all(|x| x.is_finite() && x.abs() <= TWO_40)
+}
+
 /// Any float, a NaN among them.
 pub fn any(random: &mut Random) -> f64 {
     let magnitude = match random.below(10) {

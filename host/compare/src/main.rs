@@ -1,7 +1,8 @@
 //! Compares the library with the original, bit by bit, on random and edge inputs.
 //!
-//!     compare [--seed NUMBER] [LAYER..]
+//!     compare [--seed NUMBER] [--cases NUMBER] [LAYER..]
 //!
+//! `--cases` says how many random inputs each comparison takes, in the place of a number of its own.
 //! The first difference ends the run: the inputs are printed by their bits, and the exit status is 1.
 //! Where the sources of the original are absent nothing is compared, and the exit status is 2.
 
@@ -17,6 +18,8 @@ mod inputs;
 mod random;
 #[cfg(larnt)]
 mod run;
+#[cfg(larnt)]
+mod seams;
 #[cfg(larnt)]
 mod value;
 #[cfg(larnt)]

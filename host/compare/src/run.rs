@@ -1,7 +1,7 @@
 //! The command line, and the layers in order.
 
 use crate::driver::{Compared, Driver};
-use crate::{floats, vectors};
+use crate::{floats, seams, vectors};
 use std::process::ExitCode;
 
 const SEED: u64 = 20_260_526;
@@ -9,30 +9,34 @@ const SEED: u64 = 20_260_526;
 /// A layer's name and its comparisons.
 type Layer = (&'static str, fn(&mut Driver) -> Compared);
 
-const LAYERS: [Layer; 2] = [("float", floats::compare), ("vector", vectors::compare)];
+const LAYERS: [Layer; 3] = [
+    ("float", floats::compare),
+    ("vector", vectors::compare),
+    ("cyclic", seams::compare),
+];
+
+/// What the command line asks for.
+struct Request {
+    seed: u64,
+    cases: Option<u64>,
+    layers: Vec<Layer>,
+}
 
 /// Runs the layers that are named, or all, and says how many comparisons passed.
-pub fn run(mut words: impl Iterator<Item = String>) -> ExitCode {
-    let mut seed = SEED;
-    let mut named = Vec::new();
-    while let Some(word) = words.next() {
-        if word == "--seed" {
-            let Some(Ok(number)) = words.next().map(|number| number.parse()) else {
-                return usage("--seed wants a whole number");
-            };
-            seed = number;
-        } else if LAYERS.iter().any(|(layer, _)| *layer == word) {
-            named.push(word);
-        } else {
-            return usage(&format!("there is no layer {word}"));
+pub fn run(words: impl Iterator<Item = String>) -> ExitCode {
+    let request = match read(words) {
+        Ok(request) => request,
+        Err(fault) => {
+            let layers = LAYERS.map(|(layer, _)| layer).join(" ");
+            let usage = "compare [--seed NUMBER] [--cases NUMBER] [LAYER..]";
+            println!("compare: {fault}; usage: {usage}, of {layers}");
+            return ExitCode::FAILURE;
         }
-    }
+    };
+    let seed = request.seed;
     println!("compare: seed {seed}");
-    let mut driver = Driver::new(seed);
-    for (layer, compare) in LAYERS {
-        if !named.is_empty() && !named.iter().any(|name| name == layer) {
-            continue;
-        }
+    let mut driver = Driver::new(seed, request.cases);
+    for (layer, compare) in request.layers {
         if let Err(difference) = compare(&mut driver) {
             println!("compare: a difference in {layer}, seed {seed}\n{difference}");
             println!("compare: {} passed, 1 failed", driver.passed());
@@ -43,8 +47,30 @@ pub fn run(mut words: impl Iterator<Item = String>) -> ExitCode {
     ExitCode::SUCCESS
 }
 
-fn usage(fault: &str) -> ExitCode {
-    let layers = LAYERS.map(|(layer, _)| layer).join(" ");
-    println!("compare: {fault}; usage: compare [--seed NUMBER] [LAYER..], of {layers}");
-    ExitCode::FAILURE
+fn read(mut words: impl Iterator<Item = String>) -> Result<Request, String> {
+    let (mut seed, mut cases, mut layers) = (SEED, None, Vec::new());
+    while let Some(word) = words.next() {
+        if word == "--seed" {
+            seed = number(&word, words.next())?;
+        } else if word == "--cases" {
+            cases = Some(number(&word, words.next())?);
+        } else if let Some(layer) = LAYERS.into_iter().find(|(layer, _)| *layer == word) {
+            layers.push(layer);
+        } else {
+            return Err(format!("there is no layer {word}"));
+        }
+    }
+    if layers.is_empty() {
+        layers = LAYERS.to_vec();
+    }
+    Ok(Request {
+        seed,
+        cases,
+        layers,
+    })
+}
+
+fn number(flag: &str, word: Option<String>) -> Result<u64, String> {
+    word.and_then(|word| word.parse().ok())
+        .ok_or_else(|| format!("{flag} wants a whole number"))
 }

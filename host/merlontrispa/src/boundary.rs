@@ -5,6 +5,30 @@
 
 use crate::Vector;
 
+/// An index, or the number of a refusal.
+#[repr(C)]
+pub struct IndexAnswer {
+    pub refusal: u8,
+    pub index: usize,
+}
+
+/// A seam's mapping, all zero where none was found, and the comparisons made.
+#[repr(C)]
+pub struct Seam {
+    pub found: bool,
+    pub reverse: bool,
+    pub offset: usize,
+    pub steps: usize,
+    pub comparisons: u64,
+}
+
+/// A seam, or the number of a refusal.
+#[repr(C)]
+pub struct SeamAnswer {
+    pub refusal: u8,
+    pub seam: Seam,
+}
+
 unsafe extern "C" {
     pub safe fn mt_abs(x: f64) -> f64;
     pub safe fn mt_is_finite(x: f64) -> bool;
@@ -23,4 +47,24 @@ unsafe extern "C" {
     pub safe fn mt_vector_sub(ax: f64, ay: f64, az: f64, bx: f64, by: f64, bz: f64) -> Vector;
     pub safe fn mt_vector_mul_scalar(ax: f64, ay: f64, az: f64, s: f64) -> Vector;
     pub safe fn mt_vector_all_close(ax: f64, ay: f64, az: f64, bx: f64, by: f64, bz: f64) -> bool;
+
+    pub safe fn mt_is_reverse(reverse: bool, offset: usize, steps: usize) -> bool;
+    pub safe fn mt_map_index(
+        reverse: bool,
+        offset: usize,
+        steps: usize,
+        a_idx: usize,
+    ) -> IndexAnswer;
+    pub safe fn mt_map_index_inv(
+        reverse: bool,
+        offset: usize,
+        steps: usize,
+        b_idx: usize,
+    ) -> IndexAnswer;
+    fn mt_new_vector(a: *const f64, a_len: usize, b: *const f64, b_len: usize) -> SeamAnswer;
+}
+
+pub fn new_vector(a: &[f64], b: &[f64]) -> SeamAnswer {
+    // SAFETY: each pointer and length are those of a slice that is borrowed during the call.
+    unsafe { mt_new_vector(a.as_ptr(), a.len(), b.as_ptr(), b.len()) }
 }

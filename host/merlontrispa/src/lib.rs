@@ -14,6 +14,10 @@
 #[allow(unsafe_code)]
 mod boundary;
 pub mod float;
+mod mapping;
+mod refusal;
 mod vector;
 
+pub use mapping::{Mapping, Seam};
+pub use refusal::Refusal;
 pub use vector::Vector;

@@ -73,9 +73,12 @@ fn flipped_pairs_of_a_twisted_band() {
 #[test]
 fn sides_of_a_trace() {
     let samples: [Sample; 2] = [Some((0.0, 0.25)), Some((0.75, 0.25))];
-    let sides = cell().sides(&samples).expect("no panic");
-    let drawn: Vec<_> = sides[0].iter().map(|s| (s.p, s.q, s.t)).collect();
-    assert_eq!((sides.len(), drawn), (1, vec![(0, 1, 0.25), (2, 1, 0.25)]));
+    let sides = cell().walk(&samples).into_iter().map(|made| {
+        let (_, side) = made.point.expect("no panic");
+        (side.p, side.q, side.t)
+    });
+    let sides: Vec<_> = sides.collect();
+    assert_eq!(sides, [(0, 1, 0.25), (2, 1, 0.25)]);
     assert_eq!(
         cell().trace(&samples).map(|paths| paths.total_len()),
         Some(2)
@@ -92,5 +95,6 @@ fn one_event_is_no_line() {
 fn a_step_that_is_not_there_panics() {
     let samples: [Sample; 2] = [Some((1.0, 1048576.0)), Some((1.0, 1.0 + EPS))];
     assert!(cell().trace(&samples).is_none());
-    assert!(cell().sides(&samples).is_none());
+    let walk = cell().walk(&samples);
+    assert!(walk.iter().any(|made| made.point.is_none()));
 }

@@ -7,7 +7,7 @@ use crate::path::Paths;
 use crate::shape::{RenderArgs, Shape};
 use crate::util::{ParamEdge, ParamPoint, trace_parametric_edge_curve};
 use crate::vector::Vector;
-use std::cell::Cell;
+use std::cell::{Cell, RefCell};
 use std::panic::{self, AssertUnwindSafe};
 use std::sync::Once;
 
@@ -23,6 +23,15 @@ pub struct Side {
     pub q: usize,
     /// How far the point lies from p to q.
     pub t: f64,
+}
+
+/// A point that the walk of a trace makes.
+#[derive(Debug, Clone, Copy)]
+pub struct Made {
+    /// The point and what it was made from, or nothing where the original panics.
+    pub point: Option<(Vector, Side)>,
+    /// Whether it is close to the last pending point, or nothing where no point is pending.
+    pub close: Option<bool>,
 }
 
 /// A surface of `u_steps` by `v_steps` cells.
@@ -69,33 +78,44 @@ impl Surface {
         caught(|| self.0.trace_edge_curve(points(samples)))
     }
 
-    /// What each point of `trace` was made from, in the same lines.
-    pub fn sides(&self, samples: &[Sample]) -> Option<Paths<Side>> {
-        let surface = &self.0;
-        let traced = caught(|| {
-            trace_parametric_edge_curve(
-                surface.u_steps,
-                surface.v_steps,
-                points(samples),
-                |edge, at| (surface.edge_point(edge, at), self.side(edge, at)),
-                |(a, _), (b, _)| a.all_close(*b),
-            )
-        });
-        traced.map(|paths| paths.map(|(_, side)| side))
+    /// The points that the walk of `trace` makes, in order. It goes on where the original panics.
+    ///
+    /// A pending line was flushed before each point at which no point is pending, and at the end.
+    pub fn walk(&self, samples: &[Sample]) -> Vec<Made> {
+        let made = RefCell::new(Vec::new());
+        trace_parametric_edge_curve(
+            self.0.u_steps,
+            self.0.v_steps,
+            points(samples),
+            |edge, at| {
+                let side = self.side(edge, at);
+                let point = side.map(|side| (self.0.edge_point(edge, at), side));
+                made.borrow_mut().push(Made { point, close: None });
+                point
+            },
+            |a: &Option<(Vector, Side)>, b| {
+                let close = a.zip(*b).is_some_and(|((a, _), (b, _))| a.all_close(b));
+                if let Some(last) = made.borrow_mut().last_mut() {
+                    last.close = Some(close);
+                }
+                close
+            },
+        );
+        made.into_inner()
     }
 
-    /// What `edge_point` reads, by its own `step_index` and `grid_index`.
-    fn side(&self, edge: ParamEdge, at: ParamPoint) -> Side {
+    /// What `edge_point` reads, by its own `step_index` and `grid_index`, or nothing where it panics.
+    fn side(&self, edge: ParamEdge, at: ParamPoint) -> Option<Side> {
         let (u_steps, v_steps) = (self.0.u_steps, self.0.v_steps);
         let number = |u, v| ParametricSurface::grid_index(u, v, v_steps);
-        match edge {
+        Some(match edge {
             ParamEdge::U(u) => {
-                let (v, t) = step_index(at.v, v_steps).expect("edge_point has a step here");
+                let (v, t) = step_index(at.v, v_steps)?;
                 let (p, q) = (number(u, v), number(u, v + 1));
                 Side { p, q, t }
             }
             ParamEdge::V(v) => {
-                let (u, t) = step_index(at.u, u_steps).expect("edge_point has a step here");
+                let (u, t) = step_index(at.u, u_steps)?;
                 let (p, q) = (number(u, v), number(u + 1, v));
                 Side { p, q, t }
             }
@@ -104,7 +124,7 @@ impl Surface {
                 let (p, q) = (number(u + 1, v), number(u, v + 1));
                 Side { p, q, t }
             }
-        }
+        })
     }
 }
 

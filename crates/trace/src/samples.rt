@@ -1,0 +1,77 @@
+// The samples of a trace, as pairs and marks, and the refusals that apply before the walk.
+use refusal::Check;
+use refusal::Refusal;
+ghost use mathlib.Core.Path.{_≡_};
+ghost use mathlib.Core.Bool.{_&&_, _||_};
+ghost use Prim.Native.Nat.{_*_};
+ghost use lib.Dec.{eqb};
+ghost use lib.ListN.{length};
+ghost use Rattle.float.specs.Sign.{atMost};
+ghost use Rattle.trace.specs.Trace.{marksFit, maxSample, pairsFit, traceCheck};
+
+// A trace takes at most this many marks.
+pub const MAX_MARKS: usize = 65537;
+
+// The largest magnitude of a marked coordinate.
+const MAX_SAMPLE: f64 = 1048576.0;
+
+// Whether every mark is 0 or 1.
+fn marks_fit(marks: &[u8]) -> bool
+    ensures { λ r. ⌜ r ≡ marksFit (now (marks .entry)) ⌝ }
+{
+    let mut i: usize = 0;
+    while i < marks.len() {
+        let mark = marks[i];
+        if 1 < mark {
+            return false;
+        }
+        i += 1;
+    }
+    true
+}
+
+// A break, or a pair whose coordinates are finite and at most 1,048,576 in magnitude.
+fn sample_fits(mark: u8, u: f64, v: f64) -> bool
+    ensures { λ r. ⌜ r ≡ (eqb mark 0 || (atMost u maxSample && atMost v maxSample)) ⌝ }
+{
+    (mark == 0) | (float::sign::at_most(u, MAX_SAMPLE) & float::sign::at_most(v, MAX_SAMPLE))
+}
+
+fn pairs_fit(pairs: &[f64], marks: &[u8]) -> bool
+    requires { ⌜ length (now pairs) ≡ 2 * length (now marks) ⌝ }
+    ensures { λ r. ⌜ r ≡ pairsFit (now (pairs .entry)) (now (marks .entry)) ⌝ }
+{
+    let mut i: usize = 0;
+    while i < marks.len() {
+        if !sample_fits(marks[i], pairs[2 * i], pairs[2 * i + 1]) {
+            return false;
+        }
+        i += 1;
+    }
+    true
+}
+
+// Refusals 1, 2, 4, 9 and 10.
+pub fn check_trace(grid: &[f64], m: usize, n: usize, pairs: &[f64], marks: &[u8]) -> Check
+    ensures { λ r. ⌜ r ≡ traceCheck (now (grid .entry)) m n (now (pairs .entry)) (now (marks .entry)) ⌝ }
+{
+    if let Check::Failed(refusal) = grid::check_shape(grid, m, n) {
+        return Check::Failed(refusal);
+    }
+    if MAX_MARKS < marks.len() {
+        return Check::Failed(Refusal::Length);
+    }
+    if pairs.len() != 2 * marks.len() {
+        return Check::Failed(Refusal::Length);
+    }
+    if !grid::coordinates_fit(grid) {
+        return Check::Failed(Refusal::Coordinate);
+    }
+    if !marks_fit(marks) {
+        return Check::Failed(Refusal::Mark);
+    }
+    if !pairs_fit(pairs, marks) {
+        return Check::Failed(Refusal::Sample);
+    }
+    Check::Passed
+}

@@ -1,0 +1,132 @@
+// The walk along a step between two samples: which events become points, and where a line ends.
+use crate::crossing::EdgePoint;
+use crate::crossing::edge_point;
+use crate::page::Pen;
+use crate::page::Penned;
+use crate::page::flush_segment;
+use crate::page::push_segment_point;
+use edges::event::EdgeEvent;
+use edges::event::ParamEdge;
+use edges::point::ParamPoint;
+use edges::point::param_in_bounds;
+use float::consts::EPS;
+use refusal::Refusal;
+ghost use mathlib.Core.Path.{_≡_};
+ghost use mathlib.Core.List.{List};
+ghost use Prim.Native.Nat.{ℕ, _+_, _*_, _≤_};
+ghost use lib.ListN.{length};
+ghost use lib.Ieee.{Float};
+ghost use Rattle.edges.specs.Param.{pick};
+ghost use Rattle.trace.specs.Crossing.{edgePoint, EdgeInside};
+ghost use Rattle.trace.specs.Walk.{on, beforeInside, afterInside, pushed, crossed};
+ghost use Rattle.trace.specs.Page.{pageOf, pushPage, flushPage, Pushed, PenFits};
+
+// Whether the step is inside the grid before the event at `lambda`, the event before it at `previous`.
+fn before_inside(
+    m: usize,
+    n: usize,
+    a: ParamPoint,
+    b: ParamPoint,
+    previous: f64,
+    lambda: f64,
+) -> bool
+    ensures { λ r. ⌜ r ≡ beforeInside m n a b previous lambda ⌝ }
+{
+    if previous + EPS < lambda {
+        return param_in_bounds(m, n, a.lerp(b, (previous + lambda) * 0.5));
+    }
+    param_in_bounds(m, n, a.lerp(b, lambda))
+}
+
+// Whether it is inside after the event, the next event at `next`.
+fn after_inside(m: usize, n: usize, a: ParamPoint, b: ParamPoint, lambda: f64, next: f64) -> bool
+    ensures { λ r. ⌜ r ≡ afterInside m n a b lambda next ⌝ }
+{
+    if lambda + EPS < next {
+        return param_in_bounds(m, n, a.lerp(b, (lambda + next) * 0.5));
+    }
+    param_in_bounds(m, n, b)
+}
+
+// The line ends unless the step is inside the grid.
+fn flush_unless(inside: bool, starts: &mut [usize], pen: Pen) -> Penned
+    requires { ⌜ pen .start ≤ pen .count ⌝ }
+    ensures { λ r. ⌜ ((points : List Float) (sides : List ℕ) (fractions : List Float) →
+        Pushed (pick inside (on (pageOf points (now (starts .entry)) sides fractions pen)) (flushPage (pageOf points (now (starts .entry)) sides fractions pen))) r
+        points (now (starts .exit)) sides fractions) ⌝ }
+{
+    if inside {
+        return Penned::Down(pen);
+    }
+    flush_segment(starts, pen)
+}
+
+// Pushes the point of an event at `point`.
+fn push_edge_point(
+    grid: &[f64],
+    m: usize,
+    n: usize,
+    points: &mut [f64],
+    sides: &mut [usize],
+    fractions: &mut [f64],
+    pen: Pen,
+    edge: ParamEdge,
+    point: ParamPoint,
+) -> Penned
+    requires { ⌜ (m ≤ 255) × (n ≤ 255) × (length (now grid) ≡ 3 * ((m + 1) * (n + 1))) × EdgeInside m n edge ⌝ }
+    requires { ⌜ PenFits (now points) pen ⌝ }
+    ensures { λ r. ⌜ ((starts : List ℕ) → Pushed (pushed pushPage flushPage (now (grid .entry)) m n (edgePoint (now (grid .entry)) m n edge point)
+        (pageOf (now (points .entry)) starts (now (sides .entry)) (now (fractions .entry)) pen)) r
+        (now (points .exit)) starts (now (sides .exit)) (now (fractions .exit))) ⌝ }
+{
+    match edge_point(grid, m, n, edge, point) {
+        EdgePoint::On(c) => push_segment_point(points, sides, fractions, pen, c),
+        EdgePoint::NoStep => Penned::Stop(Refusal::NoStep),
+    }
+}
+
+// One event: its point where the step is inside before or after it, and the line's end where it leaves the grid.
+fn cross_event(
+    grid: &[f64],
+    m: usize,
+    n: usize,
+    points: &mut [f64],
+    starts: &mut [usize],
+    sides: &mut [usize],
+    fractions: &mut [f64],
+    pen: Pen,
+    a: ParamPoint,
+    b: ParamPoint,
+    previous: f64,
+    event: EdgeEvent,
+    next: f64,
+) -> Penned
+    requires { ⌜ (m ≤ 255) × (n ≤ 255) × (length (now grid) ≡ 3 * ((m + 1) * (n + 1))) × EdgeInside m n (event .edge) ⌝ }
+    requires { ⌜ PenFits (now points) pen ⌝ }
+    ensures { λ r. ⌜ Pushed (crossed pushPage flushPage (now (grid .entry)) m n a b previous event next
+        (pageOf (now (points .entry)) (now (starts .entry)) (now (sides .entry)) (now (fractions .entry)) pen)) r
+        (now (points .exit)) (now (starts .exit)) (now (sides .exit)) (now (fractions .exit)) ⌝ }
+{
+    let lambda = event.lambda;
+    let edge = event.edge;
+    let before = before_inside(m, n, a, b, previous, lambda);
+    let after = after_inside(m, n, a, b, lambda, next);
+    if before | after {
+        match push_edge_point(
+            grid,
+            m,
+            n,
+            points,
+            sides,
+            fractions,
+            pen,
+            edge,
+            a.lerp(b, lambda),
+        ) {
+            Penned::Down(pushed) => flush_unless(after, starts, pushed),
+            Penned::Stop(refusal) => Penned::Stop(refusal),
+        }
+    } else {
+        flush_unless(after, starts, pen)
+    }
+}

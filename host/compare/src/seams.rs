@@ -1,0 +1,369 @@
+//! Mappings and the seam search against the original's, comparisons counted.
+
+use crate::driver::{Compared, Driver};
+use crate::inputs::{COORDINATE_EDGES, COORDINATE_FAULTS, EPS, coordinates_fit, near, whole};
+use crate::random::Random;
+use crate::value::Show;
+use merlontrispa::{Mapping, Refusal, Seam};
+use original::{CyclicMapping, Vector};
+
+/// Two rows of points, three numbers each.
+struct Rows {
+    a: Vec<f64>,
+    b: Vec<f64>,
+}
+
+impl Show for Rows {
+    fn show(&self) -> String {
+        format!("a {}, b {}", self.a.show(), self.b.show())
+    }
+}
+
+pub fn compare(driver: &mut Driver) -> Compared {
+    for direction in [Direction::AToB, Direction::BToA] {
+        let name = direction.name();
+        let small = (0..=12).flat_map(|steps| (0..=13).map(move |offset| (steps, offset)));
+        let small = small.flat_map(|(steps, offset)| {
+            (0..=13).flat_map(move |index| {
+                [false, true].map(|reverse| (mapping(reverse, offset, steps), index))
+            })
+        });
+        driver.compare_each(
+            &format!("{name}, up to 12 steps"),
+            small,
+            |&(mapping, index)| direction.library(mapping, index),
+            |&(mapping, index)| direction.original(mapping, index),
+        )?;
+        driver.compare(
+            &format!("{name}, any steps"),
+            2_000_000,
+            any_mapping,
+            |&(mapping, index)| direction.library(mapping, index),
+            |&(mapping, index)| direction.original(mapping, index),
+        )?;
+    }
+    driver.compare(
+        "is_reverse",
+        100_000,
+        |random| any_mapping(random).0,
+        |mapping| mapping.is_reverse(),
+        |&mapping| to_original(mapping).is_reverse(),
+    )?;
+    let letters = [[0.0, 0.0, 0.0], [1.0, 0.0, 0.0], [0.0, -2.0, 3.0]];
+    search(
+        driver,
+        "rows of three letters, up to 6 points",
+        small_rows(letters),
+    )?;
+    let letters = [0.0, 0.6, 1.2].map(|x| [0.0, x * EPS, 0.0]);
+    search(
+        driver,
+        "rows of letters that are close by turns",
+        small_rows(letters),
+    )?;
+    search(driver, "rows of up to 65,536 points", long_rows())?;
+    driver.compare(
+        "new_vector, planted",
+        1_000_000,
+        planted,
+        library_search,
+        original_search,
+    )?;
+    search(driver, "rows at the limits", limits())?;
+    driver.compare(
+        "new_vector, refusals",
+        200_000,
+        faulty,
+        library_search,
+        original_search,
+    )
+}
+
+fn search(driver: &mut Driver, name: &str, rows: impl IntoIterator<Item = Rows>) -> Compared {
+    driver.compare_each(
+        &format!("new_vector, {name}"),
+        rows,
+        library_search,
+        original_search,
+    )
+}
+
+fn library_search(rows: &Rows) -> Result<Seam, Refusal> {
+    Mapping::new_vector(&rows.a, &rows.b)
+}
+
+fn original_search(rows: &Rows) -> Result<Seam, Refusal> {
+    let row_fits = |row: &[f64]| row.len() % 3 == 0 && row.len() / 3 <= 65_536;
+    if !row_fits(&rows.a) || !row_fits(&rows.b) {
+        return Err(Refusal::Length);
+    }
+    if !coordinates_fit(&rows.a) || !coordinates_fit(&rows.b) {
+        return Err(Refusal::Coordinate);
+    }
+    Ok(found(&vectors(&rows.a), &vectors(&rows.b)))
+}
+
+/// What the original's search finds, and its comparisons.
+pub fn found(a: &[Vector], b: &[Vector]) -> Seam {
+    let (found, comparisons) = original::seams::search(a, b);
+    let mapping = found.map(|found| match found {
+        CyclicMapping::Forward(offset, steps) => Mapping::Forward { offset, steps },
+        CyclicMapping::Reverse(offset, steps) => Mapping::Reverse { offset, steps },
+    });
+    Seam {
+        mapping,
+        comparisons,
+    }
+}
+
+/// Points of three numbers each in the original's type.
+pub fn vectors(numbers: &[f64]) -> Vec<Vector> {
+    let points = numbers.as_chunks().0.iter();
+    points.map(|&[x, y, z]| Vector::new(x, y, z)).collect()
+}
+
+pub fn mapping(reverse: bool, offset: usize, steps: usize) -> Mapping {
+    if reverse {
+        Mapping::Reverse { offset, steps }
+    } else {
+        Mapping::Forward { offset, steps }
+    }
+}
+
+/// The same mapping in the original's type.
+pub fn to_original(mapping: Mapping) -> CyclicMapping {
+    match mapping {
+        Mapping::Forward { offset, steps } => CyclicMapping::Forward(offset, steps),
+        Mapping::Reverse { offset, steps } => CyclicMapping::Reverse(offset, steps),
+    }
+}
+
+#[derive(Clone, Copy)]
+enum Direction {
+    AToB,
+    BToA,
+}
+
+impl Direction {
+    fn name(self) -> &'static str {
+        match self {
+            Self::AToB => "map_index",
+            Self::BToA => "map_index_inv",
+        }
+    }
+
+    fn library(self, mapping: Mapping, index: usize) -> Result<usize, Refusal> {
+        match self {
+            Self::AToB => mapping.map_index(index),
+            Self::BToA => mapping.map_index_inv(index),
+        }
+    }
+
+    fn original(self, mapping: Mapping, index: usize) -> Result<usize, Refusal> {
+        let (Mapping::Forward { offset, steps } | Mapping::Reverse { offset, steps }) = mapping;
+        if steps == 0 || steps > 65_535 || offset >= steps || index > steps {
+            return Err(Refusal::NotThere);
+        }
+        Ok(match self {
+            Self::AToB => to_original(mapping).map_index(index),
+            Self::BToA => to_original(mapping).map_index_inv(index),
+        })
+    }
+}
+
+/// A mapping and an index, often at the edge of what is there.
+fn any_mapping(random: &mut Random) -> (Mapping, usize) {
+    let steps = match random.below(8) {
+        0 => whole(random),
+        1 => 65_533 + random.below(5) as usize,
+        2 => random.below(3) as usize,
+        _ => 1 + random.below(65_535) as usize,
+    };
+    let offset = up_to(random, steps);
+    let index = up_to(random, steps);
+    (mapping(random.below(2) == 0, offset, steps), index)
+}
+
+/// A number that is mostly at most `top`, and often near 0 or near it.
+fn up_to(random: &mut Random, top: usize) -> usize {
+    match random.below(8) {
+        0 => whole(random),
+        1 => random.below(3) as usize,
+        2 | 3 => top.saturating_add_signed(random.whole(-2, 2) as isize),
+        _ => random.below((top as u64).saturating_add(1).max(1)) as usize,
+    }
+}
+
+/// Each pair of rows of up to 6 points over three letters, and shorter ones of different length.
+fn small_rows(letters: [[f64; 3]; 3]) -> impl Iterator<Item = Rows> {
+    let different = (0..=3).flat_map(|a| (0..=3).map(move |b| (a, b)));
+    let lengths = different.chain((4..=6).map(|n| (n, n)));
+    lengths.flat_map(move |(a, b)| {
+        (0..3u64.pow(a + b)).map(move |word| Rows {
+            a: spell(letters, word, a),
+            b: spell(letters, word / 3u64.pow(a), b),
+        })
+    })
+}
+
+/// The word's digits to the base 3 as letters, the lowest first.
+fn spell(letters: [[f64; 3]; 3], word: u64, length: u32) -> Vec<f64> {
+    let digit = |place| letters[(word / 3u64.pow(place) % 3) as usize];
+    (0..length).flat_map(digit).collect()
+}
+
+/// Rows that fit by a mapping, whole or but for one point that is moved about as far as closeness reaches.
+fn planted(random: &mut Random) -> Rows {
+    let steps = match random.below(4) {
+        0 => 1 + random.below(4) as usize,
+        _ => 1 + random.below(40) as usize,
+    };
+    let points = pattern(random, steps + 1);
+    let mut rows = fitting(
+        &points,
+        random.below(4) != 0,
+        random.below(2) == 0,
+        random.below(steps as u64) as usize,
+    );
+    if random.below(4) != 0 {
+        let row = if random.below(2) == 0 {
+            &mut rows.a
+        } else {
+            &mut rows.b
+        };
+        let place = random.below(row.len() as u64) as usize;
+        row[place] = near(random, row[place]);
+    }
+    rows
+}
+
+/// Points that repeat often, now and then or never.
+fn pattern(random: &mut Random, count: usize) -> Vec<[f64; 3]> {
+    let period = match random.below(3) {
+        0 => 1 + random.below(3) as usize,
+        1 => 1 + random.below(count as u64) as usize,
+        _ => count,
+    };
+    let letters = random.of(&[2, 4, 1 << 20]);
+    let mut number = || match random.below(4) {
+        0 => random.unit(),
+        _ => random.below(letters) as f64,
+    };
+    let one = (0..period)
+        .map(|_| [number(), number(), number()])
+        .collect::<Vec<_>>();
+    (0..count).map(|j| one[j % period]).collect()
+}
+
+/// Row a of these points, the last the same as the first where it is closed, and the row b that it fits.
+fn fitting(points: &[[f64; 3]], closed: bool, reverse: bool, offset: usize) -> Rows {
+    let steps = points.len() - 1;
+    let offset = if closed { offset } else { 0 };
+    let mapping = to_original(mapping(reverse, offset, steps));
+    let mut a = points.to_vec();
+    if closed {
+        a[steps] = a[0];
+    }
+    let mut b = a.clone();
+    for (j, &point) in a.iter().enumerate() {
+        b[mapping.map_index(j)] = point;
+    }
+    if closed {
+        b[steps] = b[0];
+    }
+    Rows {
+        a: a.into_flattened(),
+        b: b.into_flattened(),
+    }
+}
+
+/// The longest rows that are taken: a seam at the first, the second and the last offset, and none.
+fn long_rows() -> impl Iterator<Item = Rows> {
+    let points: Vec<_> = (0..65_536).map(|j| [f64::from(j), 0.5, -1.0]).collect();
+    let found = [(true, 0), (true, 1), (true, 65_534), (false, 0)];
+    let found = found.into_iter().flat_map(|(closed, offset)| {
+        [false, true].map(|reverse| fitting(&points, closed, reverse, offset))
+    });
+    let mut rows: Vec<_> = found.collect();
+    let mut none = fitting(&points, true, false, 65_534);
+    none.b[3 * 65_534] = -1.0;
+    rows.push(none);
+    rows.into_iter()
+}
+
+/// Rows as long as is allowed and longer, with each coordinate at an edge.
+fn limits() -> Vec<Rows> {
+    let lengths = [
+        0, 1, 2, 3, 5, 6, 196_605, 196_608, 196_609, 196_610, 196_611,
+    ];
+    let mut rows = Vec::new();
+    for a in lengths {
+        for b in lengths {
+            for last in [1.0, f64::NAN] {
+                let mut row = Rows {
+                    a: vec![1.0; a],
+                    b: vec![1.0; b],
+                };
+                if let Some(x) = row.b.last_mut() {
+                    *x = last;
+                }
+                rows.push(row);
+            }
+        }
+    }
+    for edge in COORDINATE_EDGES.into_iter().chain(COORDINATE_FAULTS) {
+        for place in 0..6 {
+            let (mut a, mut b) = (vec![edge; 6], vec![edge; 6]);
+            a[place] = 2.0;
+            b[place] = 2.0;
+            rows.push(Rows { a, b });
+        }
+    }
+    rows
+}
+
+/// Rows with none, one or both of the faults that are refused, or with coordinates at their limits.
+fn faulty(random: &mut Random) -> Rows {
+    let mut rows = planted(random);
+    for row in [&mut rows.a, &mut rows.b] {
+        if random.below(3) == 0 {
+            row.truncate(row.len() - 1 - random.below(2) as usize);
+        }
+        let place = random.below(row.len() as u64) as usize;
+        match random.below(6) {
+            0 => row[place] = random.of(&COORDINATE_FAULTS),
+            1 => row[place] = random.of(&COORDINATE_EDGES),
+            _ => {}
+        }
+    }
+    rows
+}
+
+#[cfg(test)]
+mod tests {
+    use super::*;
+
+    #[test]
+    fn planted_rows_fit_or_just_do_not() {
+        let mut random = Random::new(1);
+        let (mut forward, mut reverse, mut late, mut none) = (0, 0, 0, 0);
+        for _ in 0..10_000 {
+            match original_search(&planted(&mut random)).map(|seam| seam.mapping) {
+                Ok(Some(Mapping::Forward { offset, .. })) => {
+                    forward += 1;
+                    late += u32::from(offset > 0);
+                }
+                Ok(Some(Mapping::Reverse { offset, .. })) => {
+                    reverse += 1;
+                    late += u32::from(offset > 0);
+                }
+                Ok(None) => none += 1,
+                Err(refusal) => panic!("{refusal}"),
+            }
+        }
+        assert!(
+            [forward, reverse, late, none].iter().all(|&n| n > 1_000),
+            "{forward} {reverse} {late} {none}"
+        );
+    }
+}

@@ -1,0 +1,99 @@
+use crate::boundary;
+use crate::refusal::Refusal;
+
+/// How the points of a row a meet those of a row b, each of `steps + 1` points.
+#[derive(Debug, Clone, Copy, PartialEq, Eq, Hash)]
+pub enum Mapping {
+    /// Point j of a meets point `(offset + j) mod steps` of b, for offset 0 point j.
+    Forward {
+        /// Where in b the first point of a lies.
+        offset: usize,
+        /// One less than the points of a row.
+        steps: usize,
+    },
+    /// Point j of a meets point `(offset + steps - (j mod steps)) mod steps` of b, for offset 0 point
+    /// `steps - j`.
+    Reverse {
+        /// Where in b the first point of a lies.
+        offset: usize,
+        /// One less than the points of a row.
+        steps: usize,
+    },
+}
+
+/// What a search found between two rows.
+#[derive(Debug, Clone, Copy, PartialEq, Eq, Hash)]
+pub struct Seam {
+    /// The mapping, or `None` where the rows do not meet.
+    pub mapping: Option<Mapping>,
+    /// How often the search asked whether two points are close.
+    pub comparisons: u64,
+}
+
+impl Mapping {
+    /// The seam between two rows of points, three numbers each: the first offset at which a fits b,
+    /// forward before reverse. Rows whose ends are close are tried at all offsets, others at 0.
+    ///
+    /// # Errors
+    /// 2 where a row is no multiple of 3 or has more than 65,536 points, 4 where a coordinate is not
+    /// finite or over 2^40 in magnitude.
+    pub fn new_vector(a: &[f64], b: &[f64]) -> Result<Seam, Refusal> {
+        let answer = boundary::new_vector(a, b);
+        Refusal::check(answer.refusal)?;
+        Ok(answer.seam.into())
+    }
+
+    /// Whether the rows run against each other.
+    pub fn is_reverse(self) -> bool {
+        let (reverse, offset, steps) = self.parts();
+        boundary::mt_is_reverse(reverse, offset, steps)
+    }
+
+    /// The index of b that index `a_idx` of a meets.
+    ///
+    /// # Errors
+    /// 8 where `steps` is 0 or over 65,535, the offset not below it, or the index above it.
+    pub fn map_index(self, a_idx: usize) -> Result<usize, Refusal> {
+        let (reverse, offset, steps) = self.parts();
+        let answer = boundary::mt_map_index(reverse, offset, steps, a_idx);
+        Refusal::check(answer.refusal).map(|()| answer.index)
+    }
+
+    /// The index of a that index `b_idx` of b meets.
+    ///
+    /// # Errors
+    /// 8 where `steps` is 0 or over 65,535, the offset not below it, or the index above it.
+    pub fn map_index_inv(self, b_idx: usize) -> Result<usize, Refusal> {
+        let (reverse, offset, steps) = self.parts();
+        let answer = boundary::mt_map_index_inv(reverse, offset, steps, b_idx);
+        Refusal::check(answer.refusal).map(|()| answer.index)
+    }
+
+    fn parts(self) -> (bool, usize, usize) {
+        match self {
+            Self::Forward { offset, steps } => (false, offset, steps),
+            Self::Reverse { offset, steps } => (true, offset, steps),
+        }
+    }
+}
+
+impl From<boundary::Seam> for Seam {
+    fn from(seam: boundary::Seam) -> Self {
+        let boundary::Seam {
+            found,
+            reverse,
+            offset,
+            steps,
+            comparisons,
+        } = seam;
+        let mapping = found.then_some(if reverse {
+            Mapping::Reverse { offset, steps }
+        } else {
+            Mapping::Forward { offset, steps }
+        });
+        Self {
+            mapping,
+            comparisons,
+        }
+    }
+}
