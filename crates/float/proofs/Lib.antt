@@ -2,6 +2,7 @@
 pub mod Signs
 pub mod Orders
 pub mod Value
+pub mod Less
 pub mod Cut
 pub mod Bounds
 pub mod Round

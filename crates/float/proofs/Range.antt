@@ -12,7 +12,7 @@ use lib.Ieee.Fits.{up-pos, down-pos}
 use lib.Ieee.Exact.{HasValue}
 use borrow.Author.Tests.{leb-true, eqb-true}
 use Rattle.float.specs.Cast.{natFloat}
-use Rattle.float.proofs.Value.{le-whole}
+use Rattle.float.proofs.Less.{le-whole}
 use Rattle.float.proofs.Bounds.{nat-value}
 
 abbrev z64 : Float
