@@ -23,10 +23,10 @@ abbrev loss : Bool → ℕ → ℕ
 loss s a = cond s a 0
 
 below-is : (s : Bool) (a : ℕ) (t : Bool) (b : ℕ) → below s a t b ≡ ltb (gain s a + loss t b) (gain t b + loss s a)
-below-is false a false b = rw (add-zero, add-zero)
+below-is false a false b = simp add-zero
 below-is false a true b = sym (le-ltb (a + b) 0 (omega arith))
 below-is true a false b = ap (ltb 0) (add-comm a b)
-below-is true a true b = rw (zero-add, zero-add)
+below-is true a true b = simp zero-add
 
 gain-scale : (s : Bool) (a k : ℕ) → gain s (a * k) ≡ gain s a * k
 gain-scale true a k = sym (zero-mul k)
@@ -38,7 +38,7 @@ loss-scale false a k = sym (zero-mul k)
 
 -- ±x / a against ±y / b
 cross-is : (s : Bool) (x b : ℕ) (t : Bool) (y a : ℕ) → below s (x * b) t (y * a) ≡ ltb (gain s x * b + loss t y * a) (gain t y * a + loss s x * b)
-cross-is s x b t y a = below-is s (x * b) t (y * a) ∙ rw (gain-scale, gain-scale, loss-scale, loss-scale)
+cross-is s x b t y a = below-is s (x * b) t (y * a) ∙ simp (gain-scale, loss-scale)
 
 -- ---- less
 pub lt-irreflexive : (x : Float) → lt x x ≡ false

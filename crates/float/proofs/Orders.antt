@@ -1,9 +1,20 @@
 -- `totalOrder` by the tests of `total_cmp`. Assumes nothing.
-use mathlib.Core.Path.{_≡_, refl, sym}
-use mathlib.Core.Bool.{Bool, true, false, not, _&&_, true≢false}
-use lib.Ieee.{Float, lt}
+use mathlib.Core.Path.{_≡_, refl, sym, ap, _∙_}
+use mathlib.Core.Logic.{_⊎_, inl, inr}
+use Prim.Native.Nat.{ℕ, _+_, _-_, _*_, _/_, _^_}
+use native.Mathlib.Nat.{le-antisymm, mul-right-comm}
+use native.Mathlib.Omega.{arith}
+use mathlib.Core.Bool.{Bool, true, false, not, _&&_, cond, true≢false}
+use lib.IntN.{ℤ}
+use lib.Dec.{T}
+use lib.Ieee.{Float, nan, inf, fin, binary64, up, down, below, lt, size, isNan, fits, hid, top, ofBits, toBits}
+use lib.Ieee.Fits.{down-pos}
+use lib.Ieee.Nearest.{div-same}
+use lib.Ieee.Bits.{ofBits-toBits}
+use borrow.Author.Tests.{ltb-false}
 use Rattle.float.specs.Sign.{negative}
-use Rattle.float.specs.Order.{signOrder, totalOrder}
+use Rattle.float.specs.Order.{pickOrdering, signOrder, totalOrder}
+use Rattle.float.proofs.Less.{lt-irreflexive, lt-asymmetric, lt-transitive, not-lt-trans}
 use Rattle.float.specs.declared.order.Ordering.{Ordering}
 use Rattle.float.specs.declared.order.Ordering.the-variants.{Less, Equal, Greater}
 
@@ -44,3 +55,126 @@ module _ (x y : Float) (h : lt x y ≡ false) (k : lt y x ≡ false) {s t : Bool
   pub zeros-equal : s && not t ≡ false → t && not s ≡ false → Equal ≡ totalOrder x y
   unfolding totalOrder
   zeros-equal l m = simp (h, k, ← p, ← q) (sym (sign-equal s t l m))
+
+-- ---- turned round, the answer is the other one
+abbrev pub flip : Ordering → Ordering
+flip Less = Greater
+flip Equal = Equal
+flip Greater = Less
+
+pub order-flip : (x y : Float) → totalOrder y x ≡ flip (totalOrder x y)
+unfolding totalOrder
+order-flip x y = go (lt x y) (lt y x) (negative x) (negative y) (lt-asymmetric x y)
+  where
+    go : (p q s t : Bool) → (p ≡ true → q ≡ false) → pickOrdering q Less (pickOrdering p Greater (signOrder t s)) ≡ flip (pickOrdering p Less (pickOrdering q Greater (signOrder s t)))
+    go true true s t h = absurd (true≢false (h refl))
+    go true false s t h = refl
+    go false true s t h = refl
+    go false false true true h = refl
+    go false false true false h = refl
+    go false false false true h = refl
+    go false false false false h = refl
+
+pub less-greater : (x y : Float) → totalOrder x y ≡ Less → totalOrder y x ≡ Greater
+less-greater x y h = order-flip x y ∙ ap flip h
+
+pub greater-less : (x y : Float) → totalOrder x y ≡ Greater → totalOrder y x ≡ Less
+greater-less x y h = order-flip x y ∙ ap flip h
+
+-- ---- what an answer says
+abbrev Level : Float → Float → Type 0
+Level x y = (lt x y ≡ false) × (lt y x ≡ false)
+
+less-says : (x y : Float) → totalOrder x y ≡ Less → (lt x y ≡ true) ⊎ (Level x y × (negative x ≡ true) × (negative y ≡ false))
+unfolding totalOrder
+less-says x y = go (lt x y) (lt y x) (negative x) (negative y)
+  where
+    go : (p q s t : Bool) → pickOrdering p Less (pickOrdering q Greater (signOrder s t)) ≡ Less → (p ≡ true) ⊎ (((p ≡ false) × (q ≡ false)) × (s ≡ true) × (t ≡ false))
+    go true q s t h = inl refl
+    go false true s t h = absurd (let z : _≡_ {A = ℕ} 0 1 = cc in omega arith)
+    go false false true true h = absurd (let z : _≡_ {A = ℕ} 0 1 = cc in omega arith)
+    go false false true false h = inr ((refl, refl), refl, refl)
+    go false false false true h = absurd (let z : _≡_ {A = ℕ} 0 1 = cc in omega arith)
+    go false false false false h = absurd (let z : _≡_ {A = ℕ} 0 1 = cc in omega arith)
+
+equal-says : (x y : Float) → totalOrder x y ≡ Equal → Level x y × (negative x ≡ negative y)
+unfolding totalOrder
+equal-says x y = go (lt x y) (lt y x) (negative x) (negative y)
+  where
+    go : (p q s t : Bool) → pickOrdering p Less (pickOrdering q Greater (signOrder s t)) ≡ Equal → ((p ≡ false) × (q ≡ false)) × (s ≡ t)
+    go true q s t h = absurd (let z : _≡_ {A = ℕ} 0 1 = cc in omega arith)
+    go false true s t h = absurd (let z : _≡_ {A = ℕ} 0 1 = cc in omega arith)
+    go false false true true h = ((refl, refl), refl)
+    go false false true false h = absurd (let z : _≡_ {A = ℕ} 0 1 = cc in omega arith)
+    go false false false true h = absurd (let z : _≡_ {A = ℕ} 0 1 = cc in omega arith)
+    go false false false false h = ((refl, refl), refl)
+
+-- ---- transitive
+-- where y and x are level, the one is less than z where the other is
+lt-level : (x y z : Float) → isNan x ≡ false → isNan y ≡ false → Level x y → (lt x z ≡ lt y z) × (lt z x ≡ lt z y)
+lt-level x y z m n l = (same (lt x z) (lt y z) (not-lt-trans y x z m (l .1)) (not-lt-trans x y z n (l .0)), same (lt z x) (lt z y) (λ h. not-lt-trans z x y m h (l .0)) (λ h. not-lt-trans z y x n h (l .1)))
+  where
+    same : (s t : Bool) → (s ≡ false → t ≡ false) → (t ≡ false → s ≡ false) → s ≡ t
+    same true true f g = refl
+    same true false f g = g refl
+    same false t f g = sym (f refl)
+
+pub order-equal-left : (x y z : Float) → isNan x ≡ false → isNan y ≡ false → totalOrder x y ≡ Equal → totalOrder x z ≡ totalOrder y z
+unfolding totalOrder
+order-equal-left x y z m n h =
+    let e = equal-says x y h in
+    let l = lt-level x y z m n (e .0) in
+    simp (l .0, l .1, e .1)
+
+pub order-equal-right : (x y z : Float) → isNan y ≡ false → isNan z ≡ false → totalOrder y z ≡ Equal → totalOrder x y ≡ totalOrder x z
+order-equal-right x y z m n h = order-flip y x ∙ ap flip (order-equal-left y z x m n h) ∙ sym (order-flip z x)
+
+pub less-transitive : (x y z : Float) → isNan x ≡ false → isNan y ≡ false → isNan z ≡ false → totalOrder x y ≡ Less → totalOrder y z ≡ Less → totalOrder x z ≡ Less
+less-transitive x y z l m n h k = go (less-says x y h) (less-says y z k)
+  where
+    go : (lt x y ≡ true) ⊎ (Level x y × (negative x ≡ true) × (negative y ≡ false)) → (lt y z ≡ true) ⊎ (Level y z × (negative y ≡ true) × (negative z ≡ false)) → totalOrder x z ≡ Less
+    go (inl p) (inl q) = sym (order-less x z (lt-transitive x y z p q))
+    go (inl p) (inr q) = sym (order-less x z (sym (lt-level y z x m n (q .0) .1) ∙ p))
+    go (inr p) (inl q) = sym (order-less x z (lt-level x y z l m (p .0) .0 ∙ q))
+    go (inr p) (inr q) = absurd (true≢false (sym (q .1) ∙ p .2))
+
+-- ---- equal answers are equal data, where the format holds both: the bits depend on the sign and the size alone
+abbrev bits : Bool → ℕ → ℕ
+bits s n = let k = size n - 53 in cond s (top binary64) 0 + k * hid binary64 + n / 2 ^ k
+
+bits-are : (s : Bool) (m : ℕ) (e : ℤ) → toBits binary64 (fin s m e) ≡ bits s (m * up e * 2 ^ 1074 / down e)
+unfolding toBits
+bits-are s m e = refl
+
+same-data : (s : Bool) (m : ℕ) (e : ℤ) (n : ℕ) (d : ℤ) → T (fits binary64 (fin s m e)) → T (fits binary64 (fin s n d)) → m * up e * down d ≡ n * up d * down e → fin s m e ≡ fin s n d
+same-data s m e n d f g h =
+    let units : m * up e * 2 ^ 1074 / down e ≡ n * up d * 2 ^ 1074 / down d = div-same (m * up e * 2 ^ 1074) (down e) (n * up d * 2 ^ 1074) (down d) (down-pos e) (down-pos d) (mul-right-comm (m * up e) (2 ^ 1074) (down d) ∙ ap (λ (x : ℕ). x * 2 ^ 1074) h ∙ mul-right-comm (n * up d) (down e) (2 ^ 1074)) in
+    sym (ofBits-toBits binary64 (fin s m e) f) ∙ ap (ofBits binary64) (bits-are s m e ∙ ap (bits s) units ∙ sym (bits-are s n d)) ∙ ofBits-toBits binary64 (fin s n d) g
+
+same-size : (s : Bool) (a b : ℕ) → below s a s b ≡ false → below s b s a ≡ false → a ≡ b
+same-size true a b h k = le-antisymm (ltb-false b a h) (ltb-false a b k)
+same-size false a b h k = le-antisymm (ltb-false b a k) (ltb-false a b h)
+
+level-same : (x y : Float) → isNan x ≡ false → isNan y ≡ false → T (fits binary64 x) → T (fits binary64 y) → Level x y → negative x ≡ negative y → x ≡ y
+unfolding lt negative isNan
+level-same nan y m n f g l h = absurd (true≢false m)
+level-same (inf s) nan m n f g l h = absurd (true≢false n)
+level-same (inf s) (inf t) m n f g l h = ap inf h
+level-same (inf s) (fin t k d) m n f g l h = absurd (true≢false (sym (ap not (l .0)) ∙ l .1))
+level-same (fin s i e) nan m n f g l h = absurd (true≢false n)
+level-same (fin s i e) (inf t) m n f g l h = absurd (true≢false (sym (ap not (l .1)) ∙ l .0))
+level-same (fin true i e) (fin true k d) m n f g l h = same-data true i e k d f g (same-size true (i * up e * down d) (k * up d * down e) (l .0) (l .1))
+level-same (fin true i e) (fin false k d) m n f g l h = absurd (true≢false h)
+level-same (fin false i e) (fin true k d) m n f g l h = absurd (true≢false (sym h))
+level-same (fin false i e) (fin false k d) m n f g l h = same-data false i e k d f g (same-size false (i * up e * down d) (k * up d * down e) (l .0) (l .1))
+
+pub order-equal : (x y : Float) → isNan x ≡ false → isNan y ≡ false → T (fits binary64 x) → T (fits binary64 y) → totalOrder x y ≡ Equal → x ≡ y
+order-equal x y m n f g h = let e = equal-says x y h in level-same x y m n f g (e .0) (e .1)
+
+pub order-self : (x : Float) → totalOrder x x ≡ Equal
+unfolding totalOrder
+order-self x = simp (lt-irreflexive x) (go (negative x))
+  where
+    go : (s : Bool) → signOrder s s ≡ Equal
+    go true = refl
+    go false = refl
