@@ -1,6 +1,8 @@
 -- Laws that belong to no one function.
 pub mod Signs
 pub mod Orders
+pub mod Rounding
+pub mod Differences
 pub mod Value
 pub mod Less
 pub mod Cut
