@@ -1,49 +1,98 @@
--- Bounds on whole numbers: a count as a float has the count's value, `clamped` lies between its ends, and the floor of a value that is at most n and not within EPS of n is a count below n. Assumes nothing.
+-- A count as a float is exact and stands to others as the counts do; `clamped` lies between its ends; and a value between counts has its floor and its ceiling between them.
+-- Assumes nothing.
 use mathlib.Core.Path.{_≡_, refl, sym, ap, _∙_, subst}
 use mathlib.Core.Logic.{_⊎_, inl, inr}
-use Prim.Native.Nat.{ℕ, zero, suc, _+_, _-_, _*_, _/_, _%_, _^_, _≤_, _<_, min, compare}
-use native.Mathlib.Nat.{le-trans, lt-of-le-of-lt, lt-of-lt-of-le, le-of-lt, le-of-eq, eq-or-lt-of-le, mul-one, one-mul, zero-mul, mul-comm, mul-right-comm, zero-lt-suc, mul-pos, div-lt-iff-lt-mul, div-eq-of-lt, mod-eq-of-lt, eq-of-mul-eq-mul-right}
+use Prim.Native.Nat.{ℕ, zero, suc, _+_, _-_, _*_, _/_, _%_, _^_, _≤_, _<_, min}
+use native.Mathlib.Nat.{le-trans, lt-of-lt-of-le, eq-or-lt-of-le, mul-one, zero-mul, zero-lt-suc, mul-comm, mul-right-comm, le-of-eq, div-lt-iff-lt-mul, div-le-of-le-mul, le-div-iff-mul-le, div-mul-le-self, div-eq-of-lt, mod-eq-of-lt, lt-of-mul-lt-mul-right}
 use native.Mathlib.Omega.{arith}
-use mathlib.Core.Bool.{Bool, true, false, not, _&&_, _||_, cond, true≢false}
+use mathlib.Core.Bool.{Bool, true, false, not, cond, true≢false}
 use lib.IntN.{ℤ, pos, negsuc, negℤ, natAbs}
-use lib.Signed.{mag, nonNeg}
-use lib.Dec.{T, ltb, leb, eqb, ltb→lt, lt→ltb, lit≤, lit<}
-use lib.Ieee.{Float, nan, inf, fin, Format, binary64, prec, emax, low, minus, up, down, lt, eq, neg, odd, units, size, nearest, round, sum, add, sub, ofInt, ofBits, fits}
-use lib.Count.{trailingZeros}
-use lib.Ieee.Fits.{up-pos, down-pos, core, round-is}
-use lib.Ieee.Exact.{HasValue, round-exact}
+use lib.Signed.{nonNeg}
+use lib.Dec.{T, ltb, leb, eqb, lit≤}
+use lib.Ieee.{Float, nan, inf, fin, binary64, up, down, lt, le, sub, round, ofInt, ofBits, isNan, fits}
+use lib.Ieee.Fits.{down-pos, ofInt-fits}
+use lib.Ieee.Exact.{HasValue}
 use lib.Ieee.Back.{round-whole}
-use borrow.Author.Tests.{ltb-true, lt-ltb, le-ltb, ltb-false, eq-eqb, ne-eqb, eqb-false}
-use Rattle.float.specs.Sign.{absolute}
+use borrow.Author.Tests.{le-ltb, ltb-false}
+use Rattle.float.specs.Sign.{absolute, isFinite}
 use Rattle.float.specs.Order.{clamped}
-use Rattle.float.specs.Whole.{over, under, int64, floorZ}
-use Rattle.float.specs.Consts.{eps}
+use Rattle.float.specs.Whole.{over, floorZ, ceilZ}
+use Rattle.float.specs.Consts.{eps, zero64}
 use Rattle.float.specs.Cast.{natFloat, count}
-use Rattle.float.proofs.Value.{whole-lt, lt-whole}
-
-abbrev z64 : Float
-z64 = ofBits binary64 0
+use Rattle.float.proofs.Rounding.{round-both}
+use Rattle.float.proofs.Value.{lt-values, lt-value, lt-whole, whole-lt}
+use Rattle.float.proofs.Less.{lt-irreflexive, not-ltb, le-is, le-not-nan, le-of-not-lt, not-lt-of-le, value-not-nan}
+use Rattle.float.proofs.Differences.{sub-level}
+use Rattle.float.proofs.Cut.{over-more, over-same, over-ge}
 
 -- ---- a count as a float
+
+-- up to 2^53 nothing is rounded
 pub nat-value : (n : ℕ) → n ≤ 2 ^ 53 → HasValue (natFloat n) false n 1
 unfolding natFloat ofInt
 nat-value n h = round-whole binary64 false n h
 
--- ---- clamp's ends
-lt-irrefl-float : (x : Float) → lt x x ≡ false
-unfolding lt
-lt-irrefl-float nan = refl
-lt-irrefl-float (inf true) = refl
-lt-irrefl-float (inf false) = refl
-lt-irrefl-float (fin true m e) = le-ltb (m * up e * down e) (m * up e * down e) (le-of-eq refl)
-lt-irrefl-float (fin false m e) = le-ltb (m * up e * down e) (m * up e * down e) (le-of-eq refl)
+-- the format holds it
+pub nat-fits : (n : ℕ) → T (fits binary64 (natFloat n))
+unfolding natFloat
+nat-fits n = ofInt-fits binary64 (pos n)
 
+value-finite : (x : Float) (s : Bool) (a c : ℕ) → HasValue x s a c → isFinite x ≡ true
+unfolding isFinite
+value-finite nan s a c v = absurd v
+value-finite (inf t) s a c v = absurd v
+value-finite (fin t m e) s a c v = refl
+
+pub nat-finite : (n : ℕ) → n ≤ 2 ^ 53 → isFinite (natFloat n) ≡ true
+nat-finite n h = value-finite (natFloat n) false n 1 (nat-value n h)
+
+pub nat-not-nan : (n : ℕ) → n ≤ 2 ^ 53 → isNan (natFloat n) ≡ false
+nat-not-nan n h = value-not-nan (natFloat n) false n 1 (nat-value n h)
+
+-- counts as floats compare as the counts
+pub nat-lt : (a b : ℕ) → a ≤ 2 ^ 53 → b ≤ 2 ^ 53 → lt (natFloat a) (natFloat b) ≡ ltb a b
+nat-lt a b h k = lt-values (natFloat a) (natFloat b) false a 1 false b 1 (zero-lt-suc 0) (zero-lt-suc 0) (nat-value a h) (nat-value b k) ∙ simp mul-one
+
+pub nat-le : (a b : ℕ) → a ≤ 2 ^ 53 → b ≤ 2 ^ 53 → le (natFloat a) (natFloat b) ≡ leb a b
+nat-le a b h k = le-is (natFloat a) (natFloat b) (nat-not-nan a h) (nat-not-nan b k) ∙ ap not (nat-lt b a k h) ∙ not-ltb a b
+
+-- a count as a float is not negative, however large
+pub nat-nonneg : (n : ℕ) → lt (natFloat n) zero64 ≡ false
+unfolding natFloat ofInt
+nat-nonneg n = round-both (λ x y. lt x zero64 ≡ false) false false (λ m e. unfold lt ofBits in le-ltb (m * up e * 1) (0 * down e) (none (m * up e * 1) (0 * down e) (zero-mul (down e)))) (unfold lt ofBits in refl) binary64 n 1
+  where
+    none : (a b : ℕ) → b ≡ 0 → b ≤ a
+    none a b h = omega arith
+
+-- ---- clamp
+
+-- a value between the ends stays as it is, -0 between 0 and 1 too
+pub clamp-between : (x lo hi : Float) → lt x lo ≡ false → lt hi x ≡ false → clamped x lo hi ≡ x
+unfolding clamped
+clamp-between x lo hi h k = simp (h, k)
+
+-- the result is the value or an end: what holds of all three holds of it
+pub clamp-keeps : (P : Float → Type 0) (x lo hi : Float) → P x → P lo → P hi → P (clamped x lo hi)
+unfolding clamped
+clamp-keeps P x lo hi p l h = one (lt hi (cond (lt x lo) lo x)) hi (cond (lt x lo) lo x) h (one (lt x lo) lo x l p)
+  where
+    one : (t : Bool) (a b : Float) → P a → P b → P (cond t a b)
+    one true a b p q = p
+    one false a b p q = q
+
+pub clamp-finite : (x lo hi : Float) → isFinite x ≡ true → isFinite lo ≡ true → isFinite hi ≡ true → isFinite (clamped x lo hi) ≡ true
+clamp-finite = clamp-keeps (λ y. isFinite y ≡ true)
+
+pub clamp-fits : (x lo hi : Float) → T (fits binary64 x) → T (fits binary64 lo) → T (fits binary64 hi) → T (fits binary64 (clamped x lo hi))
+clamp-fits = clamp-keeps (λ y. T (fits binary64 y))
+
+-- the result is not above the upper end, nor, where the ends are in order, below the lower one
 pub clamp-not-above : (x lo hi : Float) → lt hi (clamped x lo hi) ≡ false
 unfolding clamped
 clamp-not-above x lo hi = go (cond (lt x lo) lo x)
   where
     at : (y : Float) (t : Bool) → lt hi y ≡ t → lt hi (cond t hi y) ≡ false
-    at y true p = lt-irrefl-float hi
+    at y true p = lt-irreflexive hi
     at y false p = p
 
     go : (y : Float) → lt hi (cond (lt hi y) hi y) ≡ false
@@ -58,75 +107,26 @@ clamp-not-below x lo hi h = first (lt x lo) refl
     second y p false = p
 
     first : (t : Bool) → lt x lo ≡ t → lt (cond (lt hi (cond t lo x)) hi (cond t lo x)) lo ≡ false
-    first true p = second lo (lt-irrefl-float lo) (lt hi lo)
+    first true p = second lo (lt-irreflexive lo) (lt hi lo)
     first false p = second x p (lt hi x)
 
-nonneg-value : (y : Float) (n : ℕ) → HasValue y false n 1 → lt y z64 ≡ false
-unfolding lt ofBits
-nonneg-value nan n v = absurd v
-nonneg-value (inf s) n v = absurd v
-nonneg-value (fin true m e) n v = absurd (true≢false (v .0))
-nonneg-value (fin false m e) n v = le-ltb (m * up e * 1) (0 * down e) (zero-le (0 * down e) (m * up e * 1) (zero-mul (down e)))
-  where
-    zero-le : (a b : ℕ) → a ≡ 0 → a ≤ b
-    zero-le a b h = omega arith
+-- of a value that is no NaN and ends in order, the result lies between the ends
+module _ (x lo hi : Float) (n : isNan x ≡ false) (h : le lo hi ≡ true) where
+  clamp-not-nan : isNan (clamped x lo hi) ≡ false
+  clamp-not-nan = clamp-keeps (λ y. isNan y ≡ false) x lo hi n (le-not-nan lo hi h .0) (le-not-nan lo hi h .1)
 
--- ---- a value that is n is close to n
-zero-first : (m u c : ℕ) → m * u * c ≡ 0 → 0 < c → m * u ≡ 0
-zero-first m u c h C = go (m * u) refl
-  where
-    go : (a : ℕ) → m * u ≡ a → m * u ≡ 0
-    go zero p = p
-    go (suc a) p = absurd (clash (m * u * c) h (subst (λ (x : ℕ). 0 < x * c) (sym p) (mul-pos (zero-lt-suc a) C)))
-      where
-        clash : (x : ℕ) → x ≡ 0 → 0 < x → ⊥
-        clash x a b = omega arith
+  pub clamp-above : le lo (clamped x lo hi) ≡ true
+  clamp-above = le-of-not-lt lo (clamped x lo hi) (le-not-nan lo hi h .0) clamp-not-nan (clamp-not-below x lo hi (not-lt-of-le lo hi h))
 
-eps-is : eps ≡ fin false 0x112E0BE826D695 (negsuc 81)
-unfolding eps ofBits
-eps-is = refl
+  pub clamp-below : le (clamped x lo hi) hi ≡ true
+  clamp-below = le-of-not-lt (clamped x lo hi) hi clamp-not-nan (le-not-nan lo hi h .1) (clamp-not-above x lo hi)
 
-under-eps : (m : ℕ) (e : ℤ) → m * up e ≡ 0 → lt (fin false m e) (fin false 0x112E0BE826D695 (negsuc 81)) ≡ true
-unfolding lt
-under-eps m e z =
-    lt-ltb (m * up e * 2 ^ 82) (0x112E0BE826D695 * 1 * down e)
-    (subst (λ (x : ℕ). x < 0x112E0BE826D695 * 1 * down e) (sym (ap (λ (x : ℕ). x * 2 ^ 82) z))
-    (mul-pos (lit< {m = 0} {n = 0x112E0BE826D695} tt) (down-pos e)))
+-- what is clamped to 0 and a count is not negative
+pub clamped-nonneg : (v : Float) (n : ℕ) → lt (clamped v zero64 (natFloat n)) zero64 ≡ false
+clamped-nonneg v n = clamp-not-below v zero64 (natFloat n) (nat-nonneg n)
 
-tiny : (y : Float) (c : ℕ) → 0 < c → HasValue y false 0 c → lt (absolute y) eps ≡ true
-unfolding absolute
-tiny nan c C v = absurd v
-tiny (inf s) c C v = absurd v
-tiny (fin true m e) c C v = absurd (true≢false (v .0))
-tiny (fin false m e) c C v = ap (lt (fin false m e)) eps-is ∙ under-eps m e (zero-first m (up e) c (v .1 ∙ zero-mul (down e)) C)
+-- ---- floors and ceilings
 
-sum-same : (a b c : ℕ) → a ≡ b → sum binary64 false a true b c ≡ round binary64 false 0 c
-unfolding sum
-sum-same a b c h = ap (λ (t : Bool). cond t (round binary64 true (b - a) c) (round binary64 (false && ltb b a) (a - b) c)) (le-ltb a b (le-of-eq (sym h))) ∙ ap (λ (x : ℕ). round binary64 false x c) (gone a b h)
-  where
-    gone : (x y : ℕ) → x ≡ y → x - y ≡ 0
-    gone x y p = omega arith
-
-zero-round : (c : ℕ) → 0 < c → HasValue (round binary64 false 0 c) false 0 c
-zero-round c C = round-exact binary64 false 0 c 0 0 C (lit< tt) (lit< tt) (sym (zero-mul c))
-
-sub-opened : (m : ℕ) (e : ℤ) (n : ℕ) (d : ℤ) → sub binary64 (fin false m e) (fin false n d) ≡ sum binary64 false (m * up e * down d) true (n * up d * down e) (down e * down d)
-unfolding sub
-sub-opened m e n d = refl
-
-same-close : (m : ℕ) (e : ℤ) (y : Float) (n : ℕ) → HasValue y false n 1 → m * up e ≡ n * down e → lt (absolute (sub binary64 (fin false m e) y)) eps ≡ true
-same-close m e nan n v h = absurd v
-same-close m e (inf s) n v h = absurd v
-same-close m e (fin true k d) n v h = absurd (true≢false (v .0))
-same-close m e (fin false k d) n v h =
-    let a = m * up e * down d in
-    let b = k * up d * down e in
-    let same : a ≡ b = ap (λ (x : ℕ). x * down d) h ∙ mul-right-comm n (down e) (down d) ∙ ap (λ (x : ℕ). x * down e) (sym (v .1) ∙ mul-one (k * up d)) in
-    let c = down e * down d in
-    let C : 0 < c = mul-pos (down-pos e) (down-pos d) in
-    ap (λ (x : Float). lt (absolute x) eps) (sub-opened m e k d ∙ sum-same a b c same) ∙ tiny (round binary64 false 0 c) c C (zero-round c C)
-
--- ---- the floor of what is not above n and not close to n is below n
 count-neg : (k : ℕ) → count (negℤ (pos k)) ≡ 0
 count-neg zero = refl
 count-neg (suc k) = refl
@@ -134,31 +134,49 @@ count-neg (suc k) = refl
 min-lt : (q c n : ℕ) → q < n → min q c < n
 min-lt q c n h = omega arith
 
-no-inf : (y : Float) (n : ℕ) → HasValue y false n 1 → lt y (inf false) ≡ false → ⊥
-unfolding lt
-no-inf nan n v h = absurd v
-no-inf (inf s) n v h = absurd v
-no-inf (fin s m e) n v h = true≢false h
+-- a value that is n is within EPS of n
+same-close : (m : ℕ) (e : ℤ) (y : Float) (n : ℕ) → HasValue y false n 1 → m * up e ≡ n * down e → lt (absolute (sub binary64 (fin false m e) y)) eps ≡ true
+same-close m e nan n v h = absurd v
+same-close m e (inf s) n v h = absurd v
+same-close m e (fin true k d) n v h = absurd (true≢false (v .0))
+same-close m e (fin false k d) n v h =
+    let same : m * up e * down d ≡ k * up d * down e = ap (λ (x : ℕ). x * down d) h ∙ mul-right-comm n (down e) (down d) ∙ ap (λ (x : ℕ). x * down e) (sym (v .1) ∙ mul-one (k * up d)) in
+    ap (λ (x : Float). lt (absolute x) eps) (sub-level false m e k d same) ∙ unfold lt absolute eps ofBits in refl
 
+-- a finite value lies between the infinities
+pub inside : (y : Float) (s : Bool) (a c : ℕ) → HasValue y s a c → (lt y (inf false) ≡ true) × (lt (inf true) y ≡ true)
+unfolding lt
+inside nan s a c v = absurd v
+inside (inf t) s a c v = absurd v
+inside (fin t m e) s a c v = (refl, refl)
+
+-- a finite value not above n is at most n as a fraction
+most : (m : ℕ) (e : ℤ) (n : ℕ) → n ≤ 2 ^ 53 → lt (natFloat n) (fin false m e) ≡ false → m * up e ≤ n * down e
+most m e n h l = ltb-false (n * down e) (m * up e) (sym (whole-lt m e n (natFloat n) (nat-value n h)) ∙ l)
+
+-- the floor of what is not above n, and not within EPS of n, is a count below n
 pub floor-below : (v : Float) (n : ℕ) → 0 < n → n ≤ 2 ^ 53 → lt (natFloat n) v ≡ false → lt (absolute (sub binary64 v (natFloat n))) eps ≡ false → count (floorZ v) < n
 unfolding floorZ
 floor-below nan n N h l c = N
 floor-below (inf true) n N h l c = N
-floor-below (inf false) n N h l c = absurd (no-inf (natFloat n) n (nat-value n h) l)
+floor-below (inf false) n N h l c = absurd (true≢false (sym (inside (natFloat n) false n 1 (nat-value n h) .0) ∙ l))
 floor-below (fin true m e) n N h l c = subst (λ (x : ℕ). x < n) (sym (count-neg (min (over (m * up e) (down e)) (2 ^ 63)))) N
 floor-below (fin false m e) n N h l c =
-    let le : m * up e ≤ n * down e = ltb-false (n * down e) (m * up e) (sym (whole-lt m e n (natFloat n) (nat-value n h)) ∙ l) in
-    min-lt (m * up e / down e) (2 ^ 63 - 1) n (div-lt-iff-lt-mul (down-pos e) .1 (strict (eq-or-lt-of-le le)))
+    min-lt (m * up e / down e) (2 ^ 63 - 1) n (div-lt-iff-lt-mul (down-pos e) .1 (strict (eq-or-lt-of-le (most m e n h l))))
   where
     strict : (m * up e ≡ n * down e) ⊎ (m * up e < n * down e) → m * up e < n * down e
     strict (inl p) = absurd (true≢false (sym (same-close m e (natFloat n) n (nat-value n h) p) ∙ c))
     strict (inr q) = q
 
--- ---- the floor of a clamped value is not negative
+-- the floor of a value clamped to 0 and n, and not within EPS of n, is a count below n
+pub floor-count : (v : Float) (n : ℕ) → 0 < n → n ≤ 2 ^ 53 → lt (absolute (sub binary64 (clamped v zero64 (natFloat n)) (natFloat n))) eps ≡ false → count (floorZ (clamped v zero64 (natFloat n))) < n
+floor-count v n N h c = floor-below (clamped v zero64 (natFloat n)) n N h (clamp-not-above v zero64 (natFloat n)) c
+
+-- the floor of what is not below 0 is not negative
 none-left : (d : ℕ) → 0 < d → over 0 d ≡ 0
 none-left d D = ap (λ (x : ℕ). x + cond (eqb (0 % d) 0) 0 1) (div-eq-of-lt D) ∙ ap (λ (x : ℕ). 0 + cond (eqb x 0) 0 1) (mod-eq-of-lt D)
 
-pub floor-nonneg : (v : Float) → lt v z64 ≡ false → T (nonNeg (floorZ v))
+pub floor-nonneg : (v : Float) → lt v zero64 ≡ false → T (nonNeg (floorZ v))
 unfolding floorZ lt ofBits
 floor-nonneg nan h = tt
 floor-nonneg (inf true) h = absurd (true≢false h)
@@ -172,38 +190,70 @@ floor-nonneg (fin true m e) h =
     gone : (a b : ℕ) → a * 1 + b ≤ 0 → a ≡ 0
     gone a b l = omega arith
 
+-- where a whole number is not negative, its count is its magnitude
 pub abs-count : (z : ℤ) → T (nonNeg z) → natAbs z ≡ count z
 abs-count (pos n) h = refl
 abs-count (negsuc n) h = absurd h
 
--- ---- a count as a float is not negative, however large
-odd-nonneg : (d q k l : ℕ) → lt (odd d false q k l) z64 ≡ false
-unfolding odd lt ofBits
-odd-nonneg d zero k l = refl
-odd-nonneg d (suc q) k l = le-ltb _ _ (nothing _ _ (zero-mul (down (minus (k + trailingZeros d (suc q)) l))))
+-- a value that is not above n has its floor and its ceiling at most n
+over-le : (a d n : ℕ) → a ≤ n * d → over a d ≤ n
+over-le a d n h = go (eq-or-lt-of-le (div-mul-le-self a d))
   where
-    nothing : (a b : ℕ) → b ≡ 0 → b ≤ a
-    nothing a b h = omega arith
+    go : (a / d * d ≡ a) ⊎ (a / d * d < a) → over a d ≤ n
+    go (inl p) = le-trans (le-of-eq (over-same a d (le-of-eq (sym p)))) (div-le-of-le-mul d (le-trans h (le-of-eq (mul-comm n d))))
+    go (inr p) = le-trans (le-of-eq (over-more a d p)) (lt-of-mul-lt-mul-right d (lt-of-lt-of-le p h))
 
-units-nonneg : (f : Format) (q k : ℕ) → lt (units f false q k) z64 ≡ false
-unfolding units
-units-nonneg f q k = go (ltb (q * 2 ^ k) (2 ^ (low f + suc (emax f))))
+nothing : (n : ℕ) → 0 ≤ n
+nothing n = omega arith
+
+min-le : (q c n : ℕ) → q ≤ n → min q c ≤ n
+min-le q c n h = omega arith
+
+pub whole-at-most : (v : Float) (n : ℕ) → n ≤ 2 ^ 53 → lt (natFloat n) v ≡ false → (count (floorZ v) ≤ n) × (count (ceilZ v) ≤ n)
+unfolding floorZ ceilZ
+whole-at-most nan n h l = (nothing n, nothing n)
+whole-at-most (inf true) n h l = (nothing n, nothing n)
+whole-at-most (inf false) n h l = absurd (true≢false (sym (inside (natFloat n) false n 1 (nat-value n h) .0) ∙ l))
+whole-at-most (fin true m e) n h l = (
+  subst (λ (x : ℕ). x ≤ n) (sym (count-neg (min (over (m * up e) (down e)) (2 ^ 63)))) (nothing n),
+  subst (λ (x : ℕ). x ≤ n) (sym (count-neg (min (m * up e / down e) (2 ^ 63)))) (nothing n),
+)
+whole-at-most (fin false m e) n h l =
+    let up-to = over-le (m * up e) (down e) n (most m e n h l) in
+    (min-le (m * up e / down e) (2 ^ 63 - 1) n (le-trans (over-ge (m * up e) (down e)) up-to), min-le (over (m * up e) (down e)) (2 ^ 63 - 1) n up-to)
+
+pub floor-at-most : (v : Float) (n : ℕ) → le v (natFloat n) ≡ true → n ≤ 2 ^ 53 → count (floorZ v) ≤ n
+floor-at-most v n l h = whole-at-most v n h (not-lt-of-le v (natFloat n) l) .0
+
+pub ceil-at-most : (v : Float) (n : ℕ) → le v (natFloat n) ≡ true → n ≤ 2 ^ 53 → count (ceilZ v) ≤ n
+ceil-at-most v n l h = whole-at-most v n h (not-lt-of-le v (natFloat n) l) .1
+
+-- a value at least n has its floor and its ceiling at least n
+le-min : (n q : ℕ) → n ≤ 9007199254740992 → n ≤ q → n ≤ min q 9223372036854775807
+le-min n q h k = omega arith
+
+pub whole-at-least : (v : Float) (n : ℕ) → n ≤ 2 ^ 53 → le (natFloat n) v ≡ true → (n ≤ count (floorZ v)) × (n ≤ count (ceilZ v))
+unfolding floorZ ceilZ
+whole-at-least nan n h l = absurd (true≢false (unfold isNan in le-not-nan (natFloat n) nan l .1))
+whole-at-least (inf true) n h l = absurd (true≢false (sym (inside (natFloat n) false n 1 (nat-value n h) .1) ∙ not-lt-of-le (natFloat n) (inf true) l))
+whole-at-least (inf false) n h l = (le-trans h (lit≤ tt), le-trans h (lit≤ tt))
+whole-at-least (fin true m e) n h l =
+    let none : m * up e + n * down e ≤ 0 = ltb-false 0 (m * up e + n * down e) (sym (lt-value true m e false n (natFloat n) (nat-value n h)) ∙ not-lt-of-le (natFloat n) (fin true m e) l) in
+    let z : n ≡ 0 = is-zero (m * up e) n (down e) (down-pos e) none in
+    (le-of-zero n (count (negℤ (pos (min (over (m * up e) (down e)) (2 ^ 63))))) z, le-of-zero n (count (negℤ (pos (min (m * up e / down e) (2 ^ 63))))) z)
   where
-    go : (b : Bool) → lt (cond b (odd (suc (prec f)) false q k (low f)) (inf false)) z64 ≡ false
-    go true = odd-nonneg (suc (prec f)) q k (low f)
-    go false = unfold lt ofBits in refl
+    is-zero : (a k d : ℕ) → 0 < d → a + k * d ≤ 0 → k ≡ 0
+    is-zero a k d D b = let small : k < 1 = lt-of-mul-lt-mul-right d (omega arith) in omega arith
 
-core-nonneg : (f : Format) (n den k : ℕ) → lt (core f false n den k) z64 ≡ false
-core-nonneg f n den k = units-nonneg f (nearest (n / (den * 2 ^ k)) (compare (n % (den * 2 ^ k) * 2) (den * 2 ^ k))) k
+    le-of-zero : (a b : ℕ) → a ≡ 0 → a ≤ b
+    le-of-zero a b z = omega arith
+whole-at-least (fin false m e) n h l =
+    let least : n * down e ≤ m * up e = ltb-false (m * up e) (n * down e) (sym (lt-whole m e n (natFloat n) (nat-value n h)) ∙ not-lt-of-le (natFloat n) (fin false m e) l) in
+    let down-to : n ≤ m * up e / down e = le-div-iff-mul-le (down-pos e) .1 least in
+    (le-min n (m * up e / down e) h down-to, le-min n (over (m * up e) (down e)) h (le-trans down-to (over-ge (m * up e) (down e))))
 
-pub nat-nonneg : (n : ℕ) → lt (natFloat n) z64 ≡ false
-unfolding natFloat ofInt
-nat-nonneg n = ap (λ (x : Float). lt x z64) (round-is binary64 false n 1) ∙ core-nonneg binary64 (n * 2 ^ 1074) 1 (size (n * 2 ^ 1074 / 1) - 53)
+pub floor-at-least : (v : Float) (n : ℕ) → le (natFloat n) v ≡ true → n ≤ 2 ^ 53 → n ≤ count (floorZ v)
+floor-at-least v n l h = whole-at-least v n h l .0
 
--- the clamped value of `step_index`
-pub clamped-nonneg : (v : Float) (n : ℕ) → lt (clamped v z64 (natFloat n)) z64 ≡ false
-clamped-nonneg v n = clamp-not-below v z64 (natFloat n) (nat-nonneg n)
-
--- the floor of the clamped value, which is not close to n, is a count below n
-pub floor-count : (v : Float) (n : ℕ) → 0 < n → n ≤ 2 ^ 53 → lt (absolute (sub binary64 (clamped v z64 (natFloat n)) (natFloat n))) eps ≡ false → count (floorZ (clamped v z64 (natFloat n))) < n
-floor-count v n N h c = floor-below (clamped v z64 (natFloat n)) n N h (clamp-not-above v z64 (natFloat n)) c
+pub ceil-at-least : (v : Float) (n : ℕ) → le (natFloat n) v ≡ true → n ≤ 2 ^ 53 → n ≤ count (ceilZ v)
+ceil-at-least v n l h = whole-at-least v n h l .1

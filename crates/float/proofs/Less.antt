@@ -223,7 +223,7 @@ not-ltb a b = go (ltb b a) refl
     go true p = sym (lt-leb a b (ltb-true b a p))
     go false p = sym (le-leb a b (ltb-false b a p))
 
-value-not-nan : (y : Float) (s : Bool) (a c : ℕ) → HasValue y s a c → isNan y ≡ false
+pub value-not-nan : (y : Float) (s : Bool) (a c : ℕ) → HasValue y s a c → isNan y ≡ false
 unfolding isNan
 value-not-nan nan s a c v = absurd v
 value-not-nan (inf t) s a c v = refl
