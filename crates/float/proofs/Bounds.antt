@@ -151,7 +151,7 @@ inside (inf t) s a c v = absurd v
 inside (fin t m e) s a c v = (refl, refl)
 
 -- a finite value not above n is at most n as a fraction
-most : (m : ℕ) (e : ℤ) (n : ℕ) → n ≤ 2 ^ 53 → lt (natFloat n) (fin false m e) ≡ false → m * up e ≤ n * down e
+pub most : (m : ℕ) (e : ℤ) (n : ℕ) → n ≤ 2 ^ 53 → lt (natFloat n) (fin false m e) ≡ false → m * up e ≤ n * down e
 most m e n h l = ltb-false (n * down e) (m * up e) (sym (whole-lt m e n (natFloat n) (nat-value n h)) ∙ l)
 
 -- the floor of what is not above n, and not within EPS of n, is a count below n
