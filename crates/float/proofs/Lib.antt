@@ -5,6 +5,7 @@ pub mod Rounding
 pub mod Differences
 pub mod Value
 pub mod Less
+pub mod Larger
 pub mod Cut
 pub mod Bounds
 pub mod Round

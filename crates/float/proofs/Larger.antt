@@ -1,0 +1,74 @@
+-- Laws of `larger`: it is below e where both are, a NaN left out, and a NaN only where both are. Assumes nothing.
+use mathlib.Core.Path.{_≡_, refl, sym, ap, _∙_}
+use mathlib.Core.Bool.{Bool, true, false, _&&_, _||_, cond, true≢false}
+use lib.Ieee.{Float, nan, inf, fin, lt, isNan}
+use Rattle.float.specs.Sign.{absolute}
+use Rattle.float.specs.Order.{larger}
+use Rattle.float.proofs.Less.{lt-transitive, not-lt-trans}
+
+pub abs-nan : (x : Float) → isNan (absolute x) ≡ isNan x
+unfolding isNan absolute
+abs-nan nan = refl
+abs-nan (inf s) = refl
+abs-nan (fin s m e) = refl
+
+larger-is : (x y : Float) → isNan x ≡ false → larger x y ≡ cond (lt x y) y x
+unfolding larger isNan
+larger-is nan y n = absurd (true≢false n)
+larger-is (inf s) y n = refl
+larger-is (fin s m e) y n = refl
+
+neither : (b : Bool) (x y : Float) → isNan x ≡ false → isNan y ≡ false → isNan (cond b x y) ≡ false
+neither true x y m n = m
+neither false x y m n = n
+
+-- of two that are no NaN
+pub larger-below : (x y e : Float) → isNan x ≡ false → isNan y ≡ false → lt (larger x y) e ≡ lt x e && lt y e
+larger-below x y e m n = ap (λ (z : Float). lt z e) (larger-is x y m) ∙ go (lt x y) (lt x e) (lt y e) refl refl refl
+  where
+    go : (p q r : Bool) → lt x y ≡ p → lt x e ≡ q → lt y e ≡ r → lt (cond p y x) e ≡ q && r
+    go true true r a b c = c
+    go true false true a b c = absurd (true≢false (sym (lt-transitive x y e a c) ∙ b))
+    go true false false a b c = c
+    go false false r a b c = b
+    go false true true a b c = b
+    go false true false a b c = absurd (true≢false (sym b ∙ not-lt-trans x y e n a c))
+
+-- of any two
+pub larger-nan : (x y : Float) → isNan (larger x y) ≡ isNan x && isNan y
+unfolding larger lt isNan
+larger-nan nan y = refl
+larger-nan (inf s) nan = refl
+larger-nan (inf s) (inf t) = neither (lt (inf s) (inf t)) (inf t) (inf s) refl refl
+larger-nan (inf s) (fin t n d) = neither (lt (inf s) (fin t n d)) (fin t n d) (inf s) refl refl
+larger-nan (fin s m e) nan = refl
+larger-nan (fin s m e) (inf t) = neither (lt (fin s m e) (inf t)) (inf t) (fin s m e) refl refl
+larger-nan (fin s m e) (fin t n d) = neither (lt (fin s m e) (fin t n d)) (fin t n d) (fin s m e) refl refl
+
+or-false : (t : Bool) → t || false ≡ t
+or-false true = refl
+or-false false = refl
+
+and-true : (t : Bool) → t && true ≡ t
+and-true true = refl
+and-true false = refl
+
+under-both : (x y e : Float) → isNan x ≡ false → isNan y ≡ false → lt (larger x y) e || isNan (larger x y) ≡ (lt x e || isNan x) && (lt y e || isNan y)
+under-both x y e m n = simp (larger-below x y e m n, larger-nan x y, m, n, or-false)
+
+-- below e or a NaN
+pub larger-under : (x y e : Float) → lt (larger x y) e || isNan (larger x y) ≡ (lt x e || isNan x) && (lt y e || isNan y)
+larger-under nan y e = unfold larger lt isNan in refl
+larger-under (inf s) nan e = unfold larger lt isNan in sym (and-true (lt (inf s) e || false))
+larger-under (inf s) (inf t) e = under-both (inf s) (inf t) e (unfold isNan in refl) (unfold isNan in refl)
+larger-under (inf s) (fin t n d) e = under-both (inf s) (fin t n d) e (unfold isNan in refl) (unfold isNan in refl)
+larger-under (fin s m g) nan e = unfold larger lt isNan in sym (and-true (lt (fin s m g) e || false))
+larger-under (fin s m g) (inf t) e = under-both (fin s m g) (inf t) e (unfold isNan in refl) (unfold isNan in refl)
+larger-under (fin s m g) (fin t n d) e = under-both (fin s m g) (fin t n d) e (unfold isNan in refl) (unfold isNan in refl)
+
+-- a NaN is below nothing
+pub nan-not-below : (x e : Float) → isNan x ≡ true → lt x e ≡ false
+unfolding isNan lt
+nan-not-below nan e h = refl
+nan-not-below (inf s) e h = absurd (true≢false (sym h))
+nan-not-below (fin s m g) e h = absurd (true≢false (sym h))
