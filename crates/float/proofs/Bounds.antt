@@ -9,7 +9,7 @@ use mathlib.Core.Bool.{Bool, true, false, not, cond, true≢false}
 use lib.IntN.{ℤ, pos, negsuc, negℤ, natAbs}
 use lib.Signed.{nonNeg}
 use lib.Dec.{T, ltb, leb, eqb, lit≤}
-use lib.Ieee.{Float, nan, inf, fin, binary64, up, down, lt, le, sub, round, ofInt, ofBits, isNan, fits}
+use lib.Ieee.{Float, nan, inf, fin, binary64, up, down, lt, le, sub, ofInt, ofBits, isNan, fits}
 use lib.Ieee.Fits.{down-pos, ofInt-fits}
 use lib.Ieee.Exact.{HasValue}
 use lib.Ieee.Back.{round-whole}

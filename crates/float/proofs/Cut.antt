@@ -2,21 +2,20 @@
 use mathlib.Core.Path.{_≡_, refl, sym, ap, _∙_, subst}
 use mathlib.Core.Logic.{_⊎_, inl, inr}
 use Prim.Native.Nat.{ℕ, zero, suc, _+_, _-_, _*_, _/_, _%_, _^_, _≤_, _<_, min}
-use native.Mathlib.Nat.{le-trans, lt-of-le-of-lt, lt-of-lt-of-le, le-of-lt, le-of-eq, mul-one, one-mul, mul-comm, div-one, zero-lt-suc, add-zero, div-le-self, div-mul-le-self, div-add-mod', div-le-of-le-mul, div-lt-iff-lt-mul, le-div-iff-mul-le, lt-of-mul-lt-mul-right, mul-pos}
+use native.Mathlib.Nat.{le-trans, lt-of-le-of-lt, lt-of-lt-of-le, le-of-lt, le-of-eq, mul-one, mul-comm, div-one, add-zero, div-le-self, div-mul-le-self, div-add-mod', div-le-of-le-mul, div-lt-iff-lt-mul, le-div-iff-mul-le, lt-of-mul-lt-mul-right}
 use native.Mathlib.Numerals.{add-one}
 use native.Mathlib.Omega.{arith}
-use mathlib.Core.Bool.{Bool, true, false, not, _&&_, _||_, cond, true≢false}
-use lib.IntN.{ℤ, pos, negsuc, negℤ, _+ℤ_, _-ℤ_, predℤ, sucℤ, -ℤ-one, +ℤ-one}
-use lib.Signed.{mag}
-use lib.Dec.{T, ltb, leb, eqb, ltb→lt, lt→ltb, nltb→le, eqb→eq}
-use lib.Ieee.{Float, nan, inf, fin, Format, binary64, up, down, lt, eq, le, ne, round, ofInt, toSigned, fits}
-use lib.Ieee.Fits.{up-pos, down-pos, and-l, and-r}
+use mathlib.Core.Bool.{Bool, true, false, _&&_, _||_, cond, true≢false}
+use lib.IntN.{ℤ, pos, negsuc, negℤ, _+ℤ_, _-ℤ_, predℤ, -ℤ-one, +ℤ-one}
+use lib.Dec.{T, ltb, eqb, ltb→lt, eqb→eq}
+use lib.Ieee.{Float, nan, inf, fin, binary64, up, down, lt, eq, le, ne, ofInt, toSigned, fits}
+use lib.Ieee.Fits.{down-pos}
 use lib.Ieee.Compare.{differs-from-itself}
-use borrow.Author.Tests.{ltb-true, lt-ltb, le-ltb, ltb-false, eq-eqb, ne-eqb, eqb-true, eqb-false}
+use borrow.Author.Tests.{ltb-true, le-ltb, ltb-false, eq-eqb, ne-eqb}
 use mir.Syntax.{w64}
 use mir.Val.{SFits}
-use Rattle.float.specs.Whole.{over, under, int64, floorZ, ceilZ}
-use Rattle.float.proofs.Value.{digits, lt-whole, whole-lt, Minus, lt-minus, minus-lt, back-pos, back-neg}
+use Rattle.float.specs.Whole.{over, floorZ, ceilZ}
+use Rattle.float.proofs.Value.{digits, lt-whole, whole-lt, lt-minus, minus-lt, back-pos, back-neg}
 
 -- ---- quotients
 module _ (n d : ℕ) where

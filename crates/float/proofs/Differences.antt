@@ -1,12 +1,12 @@
 -- Differences: x - x is +0, |x - y| is |y - x|, a difference of finite values is no NaN, and |x| < EPS is two comparisons. Assumes nothing.
 use mathlib.Core.Path.{_≡_, refl, sym, ap, _∙_}
 use Prim.Native.Nat.{ℕ, _+_, _-_, _*_, _<_}
-use native.Mathlib.Nat.{le-of-eq, add-comm, mul-comm, mul-pos, mul-one, zero-mul}
+use native.Mathlib.Nat.{le-of-eq, add-comm, mul-comm, mul-pos, zero-mul}
 use native.Mathlib.Omega.{arith}
 use mathlib.Core.Bool.{Bool, true, false, not, _&&_, Bool·beq, cond, true≢false}
 use lib.IntN.{ℤ, pos, negsuc}
 use lib.Dec.{ltb, lit<}
-use lib.Ieee.{Float, nan, inf, fin, binary64, up, down, lt, neg, round, sum, add, sub, ofBits, isNan}
+use lib.Ieee.{Float, nan, inf, fin, binary64, up, down, lt, neg, round, sum, sub, ofBits, isNan}
 use lib.Ieee.Fits.{up-pos, down-pos}
 use lib.Ieee.Scale.{round-same}
 use borrow.Author.Tests.{ltb-true, lt-ltb, le-ltb, ltb-false}

@@ -1,20 +1,19 @@
 -- `rounded` from the whole part of twice the magnitude. Assumes nothing.
 use mathlib.Core.Path.{_≡_, refl, sym, ap, _∙_, subst}
-use mathlib.Core.Logic.{_⊎_, inl, inr}
 use Prim.Native.Nat.{ℕ, zero, suc, _+_, _-_, _*_, _/_, _%_, _^_, _≤_, _<_, min}
-use native.Mathlib.Nat.{le-trans, lt-of-le-of-lt, lt-of-lt-of-le, le-of-lt, le-of-eq, lt-of-not-le, lt-irrefl, mul-one, one-mul, zero-mul, mul-comm, mul-assoc, mul-left-comm, mul-right-comm, zero-lt-suc, mul-pos, mul-le-mul-right, mul-le-mul-left, mul-lt-mul-of-pos-right, lt-of-mul-lt-mul-right, div-lt-iff-lt-mul, div-one, mul-add-div-right, pow-suc, div-div-eq-div-mul, add-comm}
+use native.Mathlib.Nat.{le-trans, lt-of-lt-of-le, le-of-eq, lt-irrefl, mul-one, one-mul, mul-assoc, mul-right-comm, zero-lt-suc, mul-pos, mul-le-mul-right, mul-lt-mul-of-pos-right, lt-of-mul-lt-mul-right, div-lt-iff-lt-mul, div-one, mul-add-div-right, pow-suc, div-div-eq-div-mul}
 use native.Mathlib.Numerals.{add-one}
 use native.Mathlib.Omega.{arith}
-use mathlib.Core.Bool.{Bool, true, false, not, _&&_, _||_, cond, true≢false}
+use mathlib.Core.Bool.{Bool, true, false, _&&_, cond, true≢false}
 use lib.IntN.{ℤ, pos, negsuc}
-use lib.Dec.{T, ltb, leb, eqb, ltb→lt, lt→ltb, leb→le, eqb→eq, lit≤, lit<}
-use lib.Pow.{pow-add, pow-pos, pow-mono, pow-lt}
-use lib.Ieee.{Float, nan, inf, fin, Format, binary64, prec, emax, low, up, down, lt, neg, size, nearest, odd, units, round, mul, ofInt, ofBits, toUnsigned, fits}
+use lib.Dec.{T, ltb, leb, eqb, lt→ltb, leb→le, eqb→eq, lit≤}
+use lib.Pow.{pow-add, pow-pos, pow-lt}
+use lib.Ieee.{Float, nan, inf, fin, Format, binary64, prec, emax, low, up, down, lt, neg, odd, units, round, mul, ofInt, ofBits, toUnsigned, fits}
 use lib.Ieee.Fits.{up-pos, down-pos, and-l, and-r, round-fits, round-is}
 use lib.Ieee.Exact.{HasValue, round-exact}
 use lib.Ieee.Back.{whole-unique}
 use lib.Ieee.Nearest.{div-same}
-use borrow.Author.Tests.{ltb-true, lt-ltb, le-ltb, ltb-false, eqb-true, leb-true, leb-false}
+use borrow.Author.Tests.{ltb-true, ltb-false, leb-true, leb-false}
 use Rattle.float.specs.Sign.{negative, absolute}
 use Rattle.float.specs.Whole.{near, over, under, rounded, ceiled}
 use Rattle.float.proofs.Value.{digits, cut-exact, whole-lt, back-pos}

@@ -1,15 +1,15 @@
 -- What the tests of `is_negative` say of a float's sign. Assumes nothing.
-use mathlib.Core.Path.{_≡_, refl, sym, ap, _∙_, subst}
-use Prim.Native.Nat.{ℕ, zero, suc, _+_, _*_, _≤_, _<_}
+use mathlib.Core.Path.{_≡_, refl, sym, _∙_, subst}
+use Prim.Native.Nat.{ℕ, zero, suc, _+_, _*_}
 use native.Mathlib.Nat.{mul-pos, zero-mul, zero-lt-suc}
 use native.Mathlib.Omega.{arith}
-use mathlib.Core.Bool.{Bool, true, false, not, _&&_, _||_, cond, true≢false}
-use lib.IntN.{ℤ, pos}
+use mathlib.Core.Bool.{Bool, true, false, _&&_, _||_, true≢false}
+use lib.IntN.{ℤ}
 use lib.Dec.{T, ltb, eqb}
-use lib.Ieee.{Float, nan, inf, fin, Format, binary64, up, down, lt, eq, div, ofBits, neg, ne}
-use lib.Ieee.Fits.{up-pos, down-pos}
+use lib.Ieee.{Float, nan, inf, fin, binary64, up, down, lt, eq, div, ofBits, neg, ne}
+use lib.Ieee.Fits.{up-pos}
 use lib.Ieee.Compare.{differs-from-itself}
-use borrow.Author.Tests.{ltb-true, ltb-false, eqb-true, eqb-false, eq-eqb}
+use borrow.Author.Tests.{ltb-true, ltb-false, eqb-true, eq-eqb}
 use Rattle.float.specs.Sign.{negative, absolute, isFinite}
 use Rattle.float.specs.Order.{larger}
 

@@ -1,14 +1,14 @@
 -- Known results of the helpers, by computation. Assumes nothing.
 use mathlib.Core.Path.{_≡_, refl}
-use mathlib.Core.Bool.{Bool, true, false}
-use lib.IntN.{ℤ, pos, negsuc}
-use lib.Ieee.{Float, fin, binary64, ofBits, ofInt, neg, lt, le, eq, add, sub, round, toUnsigned}
+use mathlib.Core.Bool.{Bool, true}
+use lib.IntN.{pos, negsuc}
+use lib.Ieee.{binary64, ofBits, ofInt, neg, lt, le, eq, add, sub, round, toUnsigned}
 use Rattle.float.specs.Consts.{eps, tau, sqrt2}
 use Rattle.float.specs.Sign.{negative, absolute}
 use Rattle.float.specs.Order.{larger, clamped, totalOrder}
 use Rattle.float.specs.Whole.{floorZ, ceilZ, rounded, ceiled}
 use Rattle.float.specs.Cast.{natFloat}
-use Rattle.float.specs.declared.order.Ordering.the-variants.{Less, Equal, Greater}
+use Rattle.float.specs.declared.order.Ordering.the-variants.{Less, Greater}
 
 -- `unfolding computed` opens every definition of this crate and of lib.Ieee that a closed result needs
 unfoldable pub computed : Bool

@@ -1,8 +1,8 @@
 -- `allClose` from what the calls gave, and its laws. The largest of three is below EPS where each is, but `larger` leaves a NaN out: so a NaN difference
 -- is passed over, and only three of them are never close. Assumes nothing.
-use mathlib.Core.Path.{_≡_, refl, sym, ap, _∙_}
+use mathlib.Core.Path.{_≡_, refl, ap, _∙_}
 use mathlib.Core.Bool.{Bool, true, false, not, _&&_, _||_, true≢false}
-use lib.Ieee.{Float, nan, binary64, lt, sub, isNan}
+use lib.Ieee.{Float, nan, lt, isNan}
 use Rattle.float.specs.Consts.{eps, zero64, one64}
 use Rattle.float.specs.Sign.{absolute, isFinite}
 use Rattle.float.specs.Order.{larger}

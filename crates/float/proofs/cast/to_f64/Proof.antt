@@ -2,9 +2,6 @@ use Rattle.float.specs.Cast.{natFloat}
 use borrow.Author.Needs.{needs}
 use Rattle.float.proofs.cast.to_f64.Statement.{statement}
 use Rattle.float.proofs.cast.to_f64.Tie as tie
-use Rattle.float.proofs.cast.to_f64.Reads as reads
-use Rattle.float.proofs.cast.to_f64.Lts as lts
-use Rattle.std.proofs.num.nearest_u64_to_f64.Reads as nearest-u64-to-f64-reads
 
 -- src/step.rt:17:5
 nearest-u64-to-f64-requires : tie.Need-nearest-u64-to-f64-requires

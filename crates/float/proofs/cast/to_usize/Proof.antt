@@ -2,7 +2,6 @@
 use mathlib.Core.Path.{sym, subst}
 use lib.Dec.{T}
 use lib.Ieee.{ofBits}
-use borrow.Author.Needs.{needs}
 use Rattle.std.proofs.num.Truncating.{below-one, under-one}
 use Rattle.float.proofs.Casts.{above-minus, from-p64}
 use Rattle.float.proofs.cast.to_usize.Statement.{statement}

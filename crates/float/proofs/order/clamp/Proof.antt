@@ -1,8 +1,6 @@
 use Rattle.float.specs.Order.{clamped}
 use Rattle.float.proofs.order.clamp.Statement.{statement}
 use Rattle.float.proofs.order.clamp.Tie as tie
-use Rattle.float.proofs.order.clamp.Reads as reads
-use Rattle.float.proofs.order.clamp.Lts as lts
 
 -- src/basic.rt:32:1
 returns : tie.Need-returns

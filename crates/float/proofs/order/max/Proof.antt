@@ -1,8 +1,6 @@
 use Rattle.float.proofs.Signs.{larger-lt, larger-nan, larger-not}
 use Rattle.float.proofs.order.max.Statement.{statement}
 use Rattle.float.proofs.order.max.Tie as tie
-use Rattle.float.proofs.order.max.Reads as reads
-use Rattle.float.proofs.order.max.Lts as lts
 
 -- src/basic.rt:22:1
 returns : tie.Need-returns

@@ -3,9 +3,6 @@ use Rattle.float.proofs.Signs.{abs-neg, abs-same}
 use borrow.Author.Needs.{needs}
 use Rattle.float.proofs.sign.abs.Statement.{statement}
 use Rattle.float.proofs.sign.abs.Tie as tie
-use Rattle.float.proofs.sign.abs.Reads as reads
-use Rattle.float.proofs.sign.abs.Lts as lts
-use Rattle.float.proofs.sign.is_negative.Reads as is-negative-reads
 
 -- src/basic.rt:19:8
 is-negative-requires : tie.Need-is-negative-requires

@@ -1,9 +1,6 @@
 use borrow.Author.Needs.{needs}
 use Rattle.float.proofs.sign.at_most.Statement.{statement}
 use Rattle.float.proofs.sign.at_most.Tie as tie
-use Rattle.float.proofs.sign.at_most.Reads as reads
-use Rattle.float.proofs.sign.at_most.Lts as lts
-use Rattle.float.proofs.sign.abs.Reads as abs-reads
 
 -- src/basic.rt:55:5
 abs-requires : tie.Need-abs-requires

@@ -4,9 +4,6 @@ use Rattle.float.proofs.Signs.{finite-is}
 use borrow.Author.Needs.{needs}
 use Rattle.float.proofs.sign.is_finite.Statement.{statement}
 use Rattle.float.proofs.sign.is_finite.Tie as tie
-use Rattle.float.proofs.sign.is_finite.Reads as reads
-use Rattle.float.proofs.sign.is_finite.Lts as lts
-use Rattle.float.proofs.sign.abs.Reads as abs-reads
 
 -- src/basic.rt:49:5
 abs-requires : tie.Need-abs-requires

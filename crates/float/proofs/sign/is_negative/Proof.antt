@@ -2,8 +2,6 @@ use mathlib.Core.Path.{sym}
 use Rattle.float.proofs.Signs.{below-zero, zero-sign, not-below}
 use Rattle.float.proofs.sign.is_negative.Statement.{statement}
 use Rattle.float.proofs.sign.is_negative.Tie as tie
-use Rattle.float.proofs.sign.is_negative.Reads as reads
-use Rattle.float.proofs.sign.is_negative.Lts as lts
 
 -- src/basic.rt:6:1
 returns : tie.Need-returns

@@ -1,6 +1,6 @@
 -- `float::whole::ceil` meets its contract: the laws are in proofs/Round.antt. Assumes nothing.
 use mathlib.Core.Path.{_≡_, sym, ap, _∙_, subst}
-use mathlib.Core.Bool.{true, false}
+use mathlib.Core.Bool.{false}
 use Prim.Native.Nat.{ℕ, _+_, _^_, _<_}
 use native.Mathlib.Omega.{arith}
 use lib.Dec.{T}
@@ -8,7 +8,6 @@ use lib.IntN.{pos}
 use lib.Ieee.{Float, binary64, ofBits, neg, lt, ofInt, toUnsigned, fits}
 use borrow.Author.Needs.{needs}
 use Rattle.float.specs.Sign.{negative, absolute}
-use Rattle.float.specs.Whole.{ceiled}
 use Rattle.float.proofs.Round.{Cuts, ceil-small, ceil-large}
 use Rattle.float.proofs.whole.ceil.Statement.{statement}
 use Rattle.float.proofs.whole.ceil.Tie as tie

@@ -1,8 +1,7 @@
 -- `float::whole::ceil_i64` meets its contract: the laws are in proofs/Cut.antt. Assumes nothing.
 use mathlib.Core.Path.{_≡_, sym, ap, _∙_, subst}
-use mathlib.Core.Bool.{true, false}
 use lib.Dec.{T}
-use lib.IntN.{ℤ, pos, _+ℤ_, _-ℤ_}
+use lib.IntN.{ℤ, pos, _+ℤ_}
 use lib.Ieee.{Float, binary64, ofBits, neg, le, lt, ofInt, toSigned, fits}
 use Rattle.float.specs.Whole.{ceilZ}
 use lib.Ieee.Casts.{toSigned-in}

@@ -1,14 +1,12 @@
 -- `float::whole::round` meets its contract: the laws are in proofs/Round.antt. Assumes nothing.
 use mathlib.Core.Path.{_≡_, sym, ap, _∙_, subst}
-use mathlib.Core.Bool.{true, false}
 use Prim.Native.Nat.{ℕ, _+_, _/_, _^_, _<_}
 use native.Mathlib.Omega.{arith}
 use lib.Dec.{T}
 use lib.IntN.{pos}
 use lib.Ieee.{Float, binary64, ofBits, neg, lt, mul, ofInt, toUnsigned, fits}
 use borrow.Author.Needs.{needs}
-use Rattle.float.specs.Sign.{negative, absolute}
-use Rattle.float.specs.Whole.{rounded}
+use Rattle.float.specs.Sign.{absolute}
 use Rattle.float.proofs.Round.{two, Small, round-small, round-large}
 use Rattle.float.proofs.whole.round.Statement.{statement}
 use Rattle.float.proofs.whole.round.Tie as tie
