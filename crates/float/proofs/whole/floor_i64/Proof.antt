@@ -1,64 +1,35 @@
--- `float::whole::floor_i64` meets its contract: the laws are in proofs/Cut.antt. Assumes nothing.
-use mathlib.Core.Path.{_≡_, sym, ap, _∙_, subst}
+-- `float::whole::floor_i64` meets its contract: in the range it is the cut toward zero or one below it, and out of it the end of the range (proofs/Cut.antt).
+-- Assumes nothing.
+use mathlib.Core.Path.{sym, subst}
 use lib.Dec.{T}
-use lib.IntN.{ℤ, pos, _-ℤ_}
-use lib.Ieee.{Float, binary64, ofBits, neg, le, lt, ofInt, toSigned, fits}
-use Rattle.float.specs.Whole.{floorZ}
-use lib.Ieee.Casts.{toSigned-in}
+use lib.Ieee.{ofBits, neg}
 use borrow.Author.Needs.{needs}
-use mir.Syntax.{w64}
-use mir.Val.{SFits, toZ, ofZ}
-use mir.ValLaws.{toZ-ofZ}
-use Rattle.float.proofs.Cut.{lowest, highest, floor-step, floor-stay, high-end, low-end, nan-end}
+use Rattle.float.proofs.Cut.{Cut, kept, kept-is, cut-of, high-end, low-end, nan-end}
 use Rattle.float.proofs.whole.floor_i64.Statement.{statement}
 use Rattle.float.proofs.whole.floor_i64.Tie as tie
 
--- what owning an f64 tells: the format holds it
-held : (c : tie.Start) → T (fits binary64 (c .args .x))
-held c = subst T (sym (c .good .0 .1)) tt
-
--- the range, as the callee asks it
-low : (c : tie.Then2) → T (le lowest (c .before .before .args .x))
-unfolding ofBits neg
-low c = subst T (sym (c .before .if1 .taken)) tt
-
-high : (c : tie.Then2) → T (lt (c .before .before .args .x) highest)
-unfolding ofBits
-high c = subst T (sym (c .if2 .taken)) tt
-
--- what the callee returned, as the code holds it
-cut : (c : tie.After-truncating-f64-to-i64) → toZ w64 (ofZ w64 (c .truncating-f64-to-i64 .result)) ≡ toSigned 63 (c .before .before .before .args .x)
-cut c =
-    let x = c .before .before .before .args .x in
-    ap (λ (z : ℤ). toZ w64 (ofZ w64 z)) (c .truncating-f64-to-i64 .ensures) ∙ toZ-ofZ w64 (toSigned 63 x) (record { sfits = toSigned-in 63 x })
-
--- the float that the test compares with
-back : (c : tie.After-nearest-i64-to-f64) → c .nearest-i64-to-f64 .result ≡ ofInt binary64 (toSigned 63 (c .before .before .before .before .args .x))
-back c = c .nearest-i64-to-f64 .ensures ∙ ap (ofInt binary64) (cut (c .before))
-
 truncating-f64-to-i64-requires : tie.Need-truncating-f64-to-i64-requires
-truncating-f64-to-i64-requires c κs = (low c, high c)
+unfolding ofBits neg
+truncating-f64-to-i64-requires c κs = (subst T (sym (c .before .if1 .taken)) tt, subst T (sym (c .if2 .taken)) tt)
 
 nearest-i64-to-f64-requires : tie.Need-nearest-i64-to-f64-requires
 nearest-i64-to-f64-requires c κs = search needs
 
-stepped : (c : tie.Then3) → SFits w64 (toSigned 63 (c .before .before .before .before .before .args .x) -ℤ pos 1) × (toSigned 63 (c .before .before .before .before .before .args .x) -ℤ pos 1 ≡ floorZ (c .before .before .before .before .before .args .x))
-stepped c =
-    let x = c .before .before .before .before .before .args .x in
-    floor-step x (held (c .before .before .before .before .before)) (low (c .before .before .before)) (high (c .before .before .before)) (ap (λ (y : Float). lt x y) (sym (back (c .before))) ∙ c .if3 .taken)
+cut : (c : tie.After-nearest-i64-to-f64) → Cut (c .before .before .before .before .args .x) (kept (c .before .truncating-f64-to-i64 .result)) (c .nearest-i64-to-f64 .result)
+unfolding ofBits neg
+cut c =
+    let t = c .before .before in
+    let s = t .before .before in
+    cut-of (s .args .x) (subst T (sym (s .good .0 .1)) tt) (t .before .if1 .taken) (t .if2 .taken) (c .before .truncating-f64-to-i64 .ensures) (c .nearest-i64-to-f64 .ensures)
 
 sub-result : tie.Need-sub-result
-sub-result c = subst (λ (z : ℤ). SFits w64 (z -ℤ pos 1)) (sym (cut (c .before .before))) (stepped c .0)
+sub-result c = cut (c .before) .below (c .if3 .taken) .0
 
 returns : tie.Need-returns
-returns c =
-    toZ-ofZ w64 (toZ w64 (ofZ w64 (c .before .before .truncating-f64-to-i64 .result)) -ℤ pos 1) (sub-result c)
-    ∙ ap (λ (z : ℤ). z -ℤ pos 1) (cut (c .before .before)) ∙ stepped c .1
+returns c = kept-is (cut (c .before) .below (c .if3 .taken))
 
 returns-2 : tie.Need-returns-2
-returns-2 c =
-    let x = c .before .before .before .before .before .args .x in
-    cut (c .before .before) ∙ floor-stay x (held (c .before .before .before .before .before)) (low (c .before .before .before)) (high (c .before .before .before)) (ap (λ (y : Float). lt x y) (sym (back (c .before))) ∙ c .if3 .left)
+returns-2 c = cut (c .before) .floor-is (c .if3 .left)
 
 returns-3 : tie.Need-returns-3
 unfolding ofBits neg
@@ -72,5 +43,4 @@ unfolding ofBits neg
 returns-5 c = low-end (c .before .before .args .x) (c .before .if1 .left) (c .if4 .left) .0
 
 pub floor-i64-spec : {M : Type 1} → statement M
-floor-i64-spec =
-    tie.close (tie.spec truncating-f64-to-i64-requires nearest-i64-to-f64-requires sub-result returns returns-2 returns-3 returns-4 returns-5)
+floor-i64-spec = tie.close (tie.spec truncating-f64-to-i64-requires nearest-i64-to-f64-requires sub-result returns returns-2 returns-3 returns-4 returns-5)
