@@ -17,7 +17,7 @@ use mir.Syntax.{w64}
 use mir.Val.{SFits, toZ, ofZ}
 use mir.ValLaws.{toZ-ofZ}
 use Rattle.float.specs.Whole.{over, int64, floorZ, ceilZ}
-use Rattle.float.proofs.Value.{digits, lt-value, lt-whole, whole-lt, lt-minus, minus-lt, back-pos, back-neg}
+use Rattle.float.proofs.Value.{held, lt-value, lt-whole, whole-lt, lt-minus, minus-lt, back-pos, back-neg}
 use Rattle.float.proofs.Less.{le-is, not-lt-of-le}
 
 -- ---- quotients
@@ -56,7 +56,7 @@ module _ (m : ℕ) (e : ℤ) where
 
 -- where something is cut off, little is left
 cut-small : (s : Bool) (m : ℕ) (e : ℤ) → T (fits binary64 (fin s m e)) → m * up e / down e * down e < m * up e → m * up e / down e < 2 ^ 53
-cut-small s m (negsuc k) f h = lt-of-le-of-lt (div-le-self (m * 1) (2 ^ suc k)) (subst (λ (x : ℕ). x < 2 ^ 53) (sym (mul-one m)) (digits m s (negsuc k) f))
+cut-small s m (negsuc k) f h = lt-of-le-of-lt (div-le-self (m * 1) (2 ^ suc k)) (subst (λ (x : ℕ). x < 2 ^ 53) (sym (mul-one m)) (held s m (negsuc k) f .0))
 cut-small s m (pos k) f h = absurd (same (m * 2 ^ k) (m * 2 ^ k / 1) (div-one (m * 2 ^ k)) h)
   where
     same : (a b : ℕ) → b ≡ a → b * 1 < a → ⊥

@@ -1,7 +1,9 @@
--- Laws of `larger`: it is below e where both are, a NaN left out, and a NaN only where both are. Assumes nothing.
-use mathlib.Core.Path.{_≡_, refl, sym, ap, _∙_}
+-- `larger` by the tests of `max`, and its laws: it is below e where both are, a NaN left out, and a NaN only where both are. Assumes nothing.
+use mathlib.Core.Path.{_≡_, refl, sym, ap, _∙_, subst}
 use mathlib.Core.Bool.{Bool, true, false, _&&_, _||_, cond, true≢false}
-use lib.Ieee.{Float, nan, inf, fin, lt, isNan}
+use lib.Dec.{T}
+use lib.Ieee.{Float, nan, inf, fin, lt, ne, isNan}
+use lib.Ieee.Compare.{differs-from-itself}
 use Rattle.float.specs.Sign.{absolute}
 use Rattle.float.specs.Order.{larger}
 use Rattle.float.proofs.Less.{lt-transitive, not-lt-trans}
@@ -21,6 +23,22 @@ larger-is (fin s m e) y n = refl
 neither : (b : Bool) (x y : Float) → isNan x ≡ false → isNan y ≡ false → isNan (cond b x y) ≡ false
 neither true x y m n = m
 neither false x y m n = n
+
+-- by the two tests of `max`
+pub larger-second : (x y : Float) → lt x y ≡ true → y ≡ larger x y
+unfolding larger
+larger-second nan y h = refl
+larger-second (inf s) y h = rw h
+larger-second (fin s m e) y h = rw h
+
+pub larger-other : (x y : Float) → ne x x ≡ true → y ≡ larger x y
+larger-other x y h = subst (λ (z : Float). y ≡ larger z y) (sym (differs-from-itself x (subst T (sym h) tt))) (unfold larger in refl)
+
+pub larger-first : (x y : Float) → lt x y ≡ false → ne x x ≡ false → x ≡ larger x y
+unfolding larger ne
+larger-first nan y h k = absurd (true≢false k)
+larger-first (inf s) y h k = rw h
+larger-first (fin s m e) y h k = rw h
 
 -- of two that are no NaN
 pub larger-below : (x y e : Float) → isNan x ≡ false → isNan y ≡ false → lt (larger x y) e ≡ lt x e && lt y e

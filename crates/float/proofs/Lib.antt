@@ -1,13 +1,13 @@
--- Laws that belong to no one function.
-pub mod Signs
-pub mod Orders
-pub mod Rounding
-pub mod Differences
+-- Laws that belong to no one function. Callers of other crates use Less, Orders, Larger, Differences, Bounds and Range.
 pub mod Value
 pub mod Less
+pub mod Rounding
+pub mod Signs
+pub mod Orders
 pub mod Larger
+pub mod Differences
 pub mod Cut
-pub mod Bounds
 pub mod Round
-pub mod Range
 pub mod Casts
+pub mod Bounds
+pub mod Range

@@ -1,20 +1,17 @@
--- What the tests of `is_negative` say of a float's sign. Assumes nothing.
-use mathlib.Core.Path.{_≡_, refl, sym, _∙_, subst}
+-- What the tests of `is_negative`, `abs` and `is_finite` say: below 0 the sign is negative, above it is not, and 1 divided by a zero is the infinity of its sign.
+-- Assumes nothing.
+use mathlib.Core.Path.{_≡_, refl, sym, _∙_}
 use Prim.Native.Nat.{ℕ, zero, suc, _+_, _*_}
 use native.Mathlib.Nat.{mul-pos, zero-mul, zero-lt-suc}
 use native.Mathlib.Omega.{arith}
 use mathlib.Core.Bool.{Bool, true, false, _&&_, _||_, true≢false}
 use lib.IntN.{ℤ}
-use lib.Dec.{T, ltb, eqb}
-use lib.Ieee.{Float, nan, inf, fin, binary64, up, down, lt, eq, div, ofBits, neg, ne}
+use lib.Dec.{ltb, eqb}
+use lib.Ieee.{Float, nan, inf, fin, binary64, up, down, lt, eq, div, ofBits, neg}
 use lib.Ieee.Fits.{up-pos}
-use lib.Ieee.Compare.{differs-from-itself}
 use borrow.Author.Tests.{ltb-true, ltb-false, eqb-true, eq-eqb}
 use Rattle.float.specs.Sign.{negative, absolute, isFinite}
-use Rattle.float.specs.Order.{larger}
-
-abbrev z64 : Float
-z64 = ofBits binary64 0
+use Rattle.float.specs.Consts.{zero64, one64}
 
 -- the tests on a finite value and a zero, whose scaled magnitude is b
 no-below : (a b : ℕ) → b ≡ 0 → ltb a b ≡ true → ⊥
@@ -37,14 +34,14 @@ not-level a b z h k =
 not-zero : (m : ℕ) (e : ℤ) → suc m * up e * 1 ≡ 0 → ⊥
 not-zero m e h = omega (arith, mul-pos (mul-pos (zero-lt-suc m) (up-pos e)) (zero-lt-suc 0))
 
-pub below-zero : (x : Float) → lt x z64 ≡ true → negative x ≡ true
+pub below-zero : (x : Float) → lt x zero64 ≡ true → negative x ≡ true
 unfolding lt negative ofBits
 below-zero nan h = absurd (true≢false (sym h))
 below-zero (inf s) h = h
 below-zero (fin false m e) h = absurd (no-below (m * up e * 1) (0 * down e) (zero-mul (down e)) h)
 below-zero (fin true m e) h = refl
 
-pub zero-sign : (x : Float) → lt x z64 ≡ false → eq x z64 ≡ true → lt (div binary64 (ofBits binary64 0x3FF0000000000000) x) z64 ≡ negative x
+pub zero-sign : (x : Float) → lt x zero64 ≡ false → eq x zero64 ≡ true → lt (div binary64 (one64) x) zero64 ≡ negative x
 unfolding lt eq div negative ofBits
 zero-sign nan h k = refl
 zero-sign (inf s) h k = absurd (true≢false (sym k))
@@ -53,7 +50,7 @@ zero-sign (fin false zero e) h k = refl
 zero-sign (fin true (suc m) e) h k = absurd (not-zero m e (level-zero (suc m * up e * 1) (0 * down e) false (zero-mul (down e)) k))
 zero-sign (fin false (suc m) e) h k = absurd (not-zero m e (level-zero (suc m * up e * 1) (0 * down e) true (zero-mul (down e)) k))
 
-pub not-below : (x : Float) → lt x z64 ≡ false → eq x z64 ≡ false → negative x ≡ false
+pub not-below : (x : Float) → lt x zero64 ≡ false → eq x zero64 ≡ false → negative x ≡ false
 unfolding lt eq negative ofBits
 not-below nan h k = refl
 not-below (inf s) h k = h
@@ -77,24 +74,8 @@ abs-same (inf false) h = refl
 abs-same (fin true m e) h = absurd (true≢false h)
 abs-same (fin false m e) h = refl
 
--- `larger` by the two tests of `max`
-pub larger-lt : (x y : Float) → lt x y ≡ true → y ≡ larger x y
-unfolding larger
-larger-lt nan y h = refl
-larger-lt (inf s) y h = rw h
-larger-lt (fin s m e) y h = rw h
-
-pub larger-nan : (x y : Float) → ne x x ≡ true → y ≡ larger x y
-larger-nan x y h = subst (λ (z : Float). y ≡ larger z y) (sym (differs-from-itself x (subst T (sym h) tt))) (unfold larger in refl)
-
-pub larger-not : (x y : Float) → lt x y ≡ false → ne x x ≡ false → x ≡ larger x y
-unfolding larger ne
-larger-not nan y h k = absurd (true≢false k)
-larger-not (inf s) y h k = rw h
-larger-not (fin s m e) y h k = rw h
-
 -- below the infinity, as the code has it
-pub finite-is : (x : Float) → lt (absolute x) (div binary64 (ofBits binary64 0x3FF0000000000000) z64) ≡ isFinite x
+pub finite-is : (x : Float) → lt (absolute x) (div binary64 (one64) zero64) ≡ isFinite x
 unfolding lt absolute div ofBits isFinite
 finite-is nan = refl
 finite-is (inf s) = refl

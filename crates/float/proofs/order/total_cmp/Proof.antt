@@ -1,4 +1,4 @@
--- `float::order::total_cmp` meets its contract: the laws are in proofs/Orders.antt. Assumes nothing.
+-- `float::order::total_cmp` meets its contract: its tests are those of `totalOrder`, in its order (proofs/Orders.antt). Assumes nothing.
 use borrow.Author.Needs.{needs}
 use Rattle.float.proofs.Orders.{order-less, order-greater, zeros-less, zeros-greater, zeros-equal}
 use Rattle.float.proofs.order.total_cmp.Statement.{statement}

@@ -1,18 +1,16 @@
+-- `float::sign::abs` meets its contract: by the sign it is the value or its negation (proofs/Signs.antt). Assumes nothing.
 use mathlib.Core.Path.{sym, _∙_}
-use Rattle.float.proofs.Signs.{abs-neg, abs-same}
 use borrow.Author.Needs.{needs}
+use Rattle.float.proofs.Signs.{abs-neg, abs-same}
 use Rattle.float.proofs.sign.abs.Statement.{statement}
 use Rattle.float.proofs.sign.abs.Tie as tie
 
--- src/basic.rt:19:8
 is-negative-requires : tie.Need-is-negative-requires
 is-negative-requires c κs = search needs
 
--- src/basic.rt:16:1
 returns : tie.Need-returns
 returns c = abs-neg (c .before .before .args .x) (sym (c .before .is-negative .ensures) ∙ c .if1 .taken)
 
--- src/basic.rt:16:1
 returns-2 : tie.Need-returns-2
 returns-2 c = abs-same (c .before .before .args .x) (sym (c .before .is-negative .ensures) ∙ c .if1 .left)
 
