@@ -14,7 +14,7 @@ use lib.Ieee.Fits.{down-pos, ofInt-fits}
 use lib.Ieee.Exact.{HasValue}
 use lib.Ieee.Back.{round-whole}
 use borrow.Author.Tests.{le-ltb, ltb-false}
-use Rattle.float.specs.Sign.{absolute, isFinite}
+use Rattle.float.specs.Sign.{absolute, isFinite, atMost}
 use Rattle.float.specs.Order.{clamped}
 use Rattle.float.specs.Whole.{over, floorZ, ceilZ}
 use Rattle.float.specs.Consts.{eps, zero64}
@@ -63,6 +63,15 @@ nat-nonneg n = round-both (λ x y. lt x zero64 ≡ false) false false (λ m e. u
   where
     none : (a b : ℕ) → b ≡ 0 → b ≤ a
     none a b h = omega arith
+
+-- what is at most a finite bound in magnitude is finite
+pub at-most-finite : (x top : Float) → isFinite top ≡ true → atMost x top ≡ true → isFinite x ≡ true
+unfolding isFinite absolute le
+at-most-finite nan top f h = absurd (true≢false (sym h))
+at-most-finite (inf s) nan f h = absurd (true≢false (sym f))
+at-most-finite (inf s) (inf t) f h = absurd (true≢false (sym f))
+at-most-finite (inf s) (fin t n d) f h = absurd (true≢false (sym h))
+at-most-finite (fin s m e) top f h = refl
 
 -- ---- clamp
 

@@ -2,7 +2,6 @@
 -- (proofs/Round.antt). Assumes nothing.
 use mathlib.Core.Path.{_≡_, sym, _∙_, subst}
 use mathlib.Core.Bool.{false}
-use Prim.Native.Nat.{ℕ, _+_, _<_}
 use native.Mathlib.Omega.{arith}
 use lib.Dec.{T}
 use lib.Ieee.{binary64, fits}
@@ -42,10 +41,7 @@ returns c =
 add-nearest-u64-to-f64 : tie.Need-add-nearest-u64-to-f64
 add-nearest-u64-to-f64 c =
     let t = c .before .before .before .before in
-    record { fits = more (t .truncating-f64-to-u64 .result) (small (t .before) .few (t .truncating-f64-to-u64 .ensures)) }
-  where
-    more : (a : ℕ) → a < 4503599627370496 → a + 1 < 18446744073709551616
-    more a h = omega arith
+    record { fits = omega (arith, small (t .before) .few (t .truncating-f64-to-u64 .ensures)) }
 
 nearest-u64-to-f64-requires-2 : tie.Need-nearest-u64-to-f64-requires-2
 nearest-u64-to-f64-requires-2 c κs = search needs

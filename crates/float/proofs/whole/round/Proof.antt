@@ -1,7 +1,6 @@
 -- `float::whole::round` meets its contract: below 2^52 twice the magnitude is exact, and half of its whole part plus one is the nearest whole number, a tie up;
 -- from 2^52 on the value is whole (proofs/Round.antt). Assumes nothing.
 use mathlib.Core.Path.{sym, _∙_, subst}
-use Prim.Native.Nat.{ℕ, _+_, _<_}
 use native.Mathlib.Omega.{arith}
 use lib.Dec.{T}
 use lib.Ieee.{binary64, fits}
@@ -24,10 +23,7 @@ truncating-f64-to-u64-requires : tie.Need-truncating-f64-to-u64-requires
 truncating-f64-to-u64-requires c κs = small c .asked
 
 add-nearest-u64-to-f64 : tie.Need-add-nearest-u64-to-f64
-add-nearest-u64-to-f64 c = record { fits = more (c .truncating-f64-to-u64 .result) (small (c .before) .few (c .truncating-f64-to-u64 .ensures)) }
-  where
-    more : (a : ℕ) → a < 9007199254740992 → a + 1 < 18446744073709551616
-    more a h = omega arith
+add-nearest-u64-to-f64 c = record { fits = omega (arith, small (c .before) .few (c .truncating-f64-to-u64 .ensures)) }
 
 nearest-u64-to-f64-requires : tie.Need-nearest-u64-to-f64-requires
 nearest-u64-to-f64-requires c κs = search needs
