@@ -1,9 +1,9 @@
--- `totalOrder` by the tests of `total_cmp`. Assumes nothing.
+-- `totalOrder` by the tests of `total_cmp`; and that it is a total order of the values that are no NaN: turned round the answer is the other one, less is
+-- transitive, and what is Equal is equal as data, since the bits of a value depend on its sign and size alone. Assumes nothing.
 use mathlib.Core.Path.{_≡_, refl, sym, ap, _∙_}
 use mathlib.Core.Logic.{_⊎_, inl, inr}
 use Prim.Native.Nat.{ℕ, _+_, _-_, _*_, _/_, _^_}
 use native.Mathlib.Nat.{le-antisymm, mul-right-comm}
-use native.Mathlib.Omega.{arith}
 use mathlib.Core.Bool.{Bool, true, false, not, _&&_, cond, true≢false}
 use lib.IntN.{ℤ}
 use lib.Dec.{T}
@@ -18,6 +18,7 @@ use Rattle.float.proofs.Less.{lt-irreflexive, lt-asymmetric, lt-transit
 use Rattle.float.specs.declared.order.Ordering.{Ordering}
 use Rattle.float.specs.declared.order.Ordering.the-variants.{Less, Equal, Greater}
 
+-- ---- by the tests of `total_cmp`
 sign-less : (s t : Bool) → s && not t ≡ true → signOrder s t ≡ Less
 sign-less true true h = absurd (true≢false (sym h))
 sign-less true false h = refl
@@ -85,28 +86,38 @@ greater-less x y h = order-flip x y ∙ ap flip h
 abbrev Level : Float → Float → Type 0
 Level x y = (lt x y ≡ false) × (lt y x ≡ false)
 
+abbrev isLess : Ordering → Bool
+isLess Less = true
+isLess Equal = false
+isLess Greater = false
+
+abbrev isEqual : Ordering → Bool
+isEqual Less = false
+isEqual Equal = true
+isEqual Greater = false
+
 less-says : (x y : Float) → totalOrder x y ≡ Less → (lt x y ≡ true) ⊎ (Level x y × (negative x ≡ true) × (negative y ≡ false))
 unfolding totalOrder
 less-says x y = go (lt x y) (lt y x) (negative x) (negative y)
   where
     go : (p q s t : Bool) → pickOrdering p Less (pickOrdering q Greater (signOrder s t)) ≡ Less → (p ≡ true) ⊎ (((p ≡ false) × (q ≡ false)) × (s ≡ true) × (t ≡ false))
     go true q s t h = inl refl
-    go false true s t h = absurd (let z : _≡_ {A = ℕ} 0 1 = cc in omega arith)
-    go false false true true h = absurd (let z : _≡_ {A = ℕ} 0 1 = cc in omega arith)
+    go false true s t h = absurd (true≢false (sym (ap isLess h)))
+    go false false true true h = absurd (true≢false (sym (ap isLess h)))
     go false false true false h = inr ((refl, refl), refl, refl)
-    go false false false true h = absurd (let z : _≡_ {A = ℕ} 0 1 = cc in omega arith)
-    go false false false false h = absurd (let z : _≡_ {A = ℕ} 0 1 = cc in omega arith)
+    go false false false true h = absurd (true≢false (sym (ap isLess h)))
+    go false false false false h = absurd (true≢false (sym (ap isLess h)))
 
 equal-says : (x y : Float) → totalOrder x y ≡ Equal → Level x y × (negative x ≡ negative y)
 unfolding totalOrder
 equal-says x y = go (lt x y) (lt y x) (negative x) (negative y)
   where
     go : (p q s t : Bool) → pickOrdering p Less (pickOrdering q Greater (signOrder s t)) ≡ Equal → ((p ≡ false) × (q ≡ false)) × (s ≡ t)
-    go true q s t h = absurd (let z : _≡_ {A = ℕ} 0 1 = cc in omega arith)
-    go false true s t h = absurd (let z : _≡_ {A = ℕ} 0 1 = cc in omega arith)
+    go true q s t h = absurd (true≢false (sym (ap isEqual h)))
+    go false true s t h = absurd (true≢false (sym (ap isEqual h)))
     go false false true true h = ((refl, refl), refl)
-    go false false true false h = absurd (let z : _≡_ {A = ℕ} 0 1 = cc in omega arith)
-    go false false false true h = absurd (let z : _≡_ {A = ℕ} 0 1 = cc in omega arith)
+    go false false true false h = absurd (true≢false (sym (ap isEqual h)))
+    go false false false true h = absurd (true≢false (sym (ap isEqual h)))
     go false false false false h = ((refl, refl), refl)
 
 -- ---- transitive
@@ -137,6 +148,15 @@ less-transitive x y z l m n h k = go (less-says x y h) (less-says y z k)
     go (inl p) (inr q) = sym (order-less x z (sym (lt-level y z x m n (q .0) .1) ∙ p))
     go (inr p) (inl q) = sym (order-less x z (lt-level x y z l m (p .0) .0 ∙ q))
     go (inr p) (inr q) = absurd (true≢false (sym (q .1) ∙ p .2))
+
+-- a stable sort by "less" needs it so: what does not come before y, which does not come before x, does not come before x
+pub not-less-transitive : (x y z : Float) → isNan x ≡ false → isNan y ≡ false → isNan z ≡ false → (totalOrder y x ≡ Less → ⊥) → (totalOrder z y ≡ Less → ⊥) → totalOrder z x ≡ Less → ⊥
+not-less-transitive x y z l m n h k p = go (totalOrder x y) refl
+  where
+    go : (o : Ordering) → totalOrder x y ≡ o → ⊥
+    go Less q = k (less-transitive z x y n l m p q)
+    go Equal q = k (sym (order-equal-right z x y l m q) ∙ p)
+    go Greater q = h (greater-less x y q)
 
 -- ---- equal answers are equal data, where the format holds both: the bits depend on the sign and the size alone
 abbrev bits : Bool → ℕ → ℕ
