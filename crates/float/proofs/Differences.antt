@@ -51,8 +51,8 @@ sub-self nan h = absurd (true≢false (sym h))
 sub-self (inf s) h = absurd (true≢false (sym h))
 sub-self (fin s m e) h = sub-level s m e m e refl
 
-pub close-self : (x : Float) → isFinite x ≡ true → lt (absolute (sub binary64 x x)) eps ≡ true
-close-self x h = ap (λ (y : Float). lt (absolute y) eps) (sub-self x h) ∙ unfold lt absolute eps ofBits in refl
+pub sub-self-close : (x : Float) → isFinite x ≡ true → lt (absolute (sub binary64 x x)) eps ≡ true
+sub-self-close x h = ap (λ (y : Float). lt (absolute y) eps) (sub-self x h) ∙ unfold lt absolute eps ofBits in refl
 
 -- ---- |x - y| is |y - x|
 apart : (a b : ℕ) → cond (ltb a b) (b - a) (a - b) ≡ cond (ltb b a) (a - b) (b - a)

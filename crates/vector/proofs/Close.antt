@@ -7,7 +7,7 @@ use Rattle.float.specs.Consts.{eps, zero64, one64}
 use Rattle.float.specs.Sign.{absolute, isFinite}
 use Rattle.float.specs.Order.{larger}
 use Rattle.float.specs.Table.{computed}
-use Rattle.float.proofs.Differences.{sub-swap, sub-not-nan, close-self as difference-none}
+use Rattle.float.proofs.Differences.{sub-swap, sub-not-nan, sub-self-close}
 use Rattle.float.proofs.Larger.{abs-nan, larger-nan, larger-under, nan-not-below}
 use Rattle.vector.specs.declared.Vector.{Vector}
 use Rattle.vector.specs.Vectors.{vector, minus, absolutes, largest, allClose}
@@ -68,7 +68,7 @@ close-finite a b h k = close-by a b ∙ simp (sub-not-nan (a .x) (b .x) (h .0) (
 
 -- a finite point is close to itself
 pub close-self : (a : Vector) → Finite a → allClose a a ≡ true
-close-self a h = close-finite a a h h ∙ simp (difference-none (a .x) (h .0), difference-none (a .y) (h .1), difference-none (a .z) (h .2))
+close-self a h = close-finite a a h h ∙ simp (sub-self-close (a .x) (h .0), sub-self-close (a .y) (h .1), sub-self-close (a .z) (h .2))
 
 -- ---- NaN: three differences that are NaNs are close to nothing; one is passed over, as by f64::max
 pub nan-not-close : (a b : Vector) → isNan (minus a b .x) ≡ true → isNan (minus a b .y) ≡ true → isNan (minus a b .z) ≡ true → allClose a b ≡ false
