@@ -3,7 +3,7 @@ use mathlib.Core.Path.{_≡_, refl, sym, ap, _∙_}
 use Prim.Native.Nat.{ℕ, _+_, _-_, _*_, _<_}
 use native.Mathlib.Nat.{le-of-eq, add-comm, mul-comm, mul-pos, zero-mul}
 use native.Mathlib.Omega.{arith}
-use mathlib.Core.Bool.{Bool, true, false, not, _&&_, Bool·beq, cond, true≢false}
+use mathlib.Core.Bool.{Bool, true, false, not, _&&_, Bool·beq, and-true, cond, true≢false}
 use lib.IntN.{ℤ, pos, negsuc}
 use lib.Dec.{ltb, lit<}
 use lib.Ieee.{Float, nan, inf, fin, binary64, up, down, lt, neg, round, sum, sub, ofBits, isNan}
@@ -119,10 +119,6 @@ sub-not-nan (fin s m e) (fin t n d) h k = ap isNan (sub-is s m e t n d) ∙ sum-
 -- ---- |x| < y by two comparisons, for a y above zero
 below-both : (a b : ℕ) → 0 < b → (ltb a b ≡ ltb a b && ltb 0 (a + b)) × (ltb a b ≡ ltb 0 (b + a) && ltb a b)
 below-both a b B = (sym (ap (λ (t : Bool). ltb a b && t) (lt-ltb 0 (a + b) (omega arith)) ∙ and-true (ltb a b)), sym (ap (λ (t : Bool). t && ltb a b) (lt-ltb 0 (b + a) (omega arith))))
-  where
-    and-true : (t : Bool) → t && true ≡ t
-    and-true true = refl
-    and-true false = refl
 
 pub abs-below : (x : Float) (n : ℕ) (d : ℤ) → 0 < n → lt (absolute x) (fin false n d) ≡ lt (neg (fin false n d)) x && lt x (fin false n d)
 unfolding lt absolute neg

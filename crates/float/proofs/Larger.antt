@@ -1,6 +1,6 @@
 -- `larger` by the tests of `max`, and its laws: it is below e where both are, a NaN left out, and a NaN only where both are. Assumes nothing.
 use mathlib.Core.Path.{_≡_, refl, sym, ap, _∙_, subst}
-use mathlib.Core.Bool.{Bool, true, false, _&&_, _||_, cond, true≢false}
+use mathlib.Core.Bool.{Bool, true, false, _&&_, _||_, and-true, or-false, cond, true≢false}
 use lib.Dec.{T}
 use lib.Ieee.{Float, nan, inf, fin, lt, ne, isNan}
 use lib.Ieee.Compare.{differs-from-itself}
@@ -62,14 +62,6 @@ larger-nan (inf s) (fin t n d) = neither (lt (inf s) (fin t n d)) (fin t n d) (i
 larger-nan (fin s m e) nan = refl
 larger-nan (fin s m e) (inf t) = neither (lt (fin s m e) (inf t)) (inf t) (fin s m e) refl refl
 larger-nan (fin s m e) (fin t n d) = neither (lt (fin s m e) (fin t n d)) (fin t n d) (fin s m e) refl refl
-
-or-false : (t : Bool) → t || false ≡ t
-or-false true = refl
-or-false false = refl
-
-and-true : (t : Bool) → t && true ≡ t
-and-true true = refl
-and-true false = refl
 
 under-both : (x y e : Float) → isNan x ≡ false → isNan y ≡ false → lt (larger x y) e || isNan (larger x y) ≡ (lt x e || isNan x) && (lt y e || isNan y)
 under-both x y e m n = simp (larger-below x y e m n, larger-nan x y, m, n, or-false)

@@ -168,7 +168,9 @@ bits-are s m e = refl
 
 same-data : (s : Bool) (m : ℕ) (e : ℤ) (n : ℕ) (d : ℤ) → T (fits binary64 (fin s m e)) → T (fits binary64 (fin s n d)) → m * up e * down d ≡ n * up d * down e → fin s m e ≡ fin s n d
 same-data s m e n d f g h =
-    let units : m * up e * 2 ^ 1074 / down e ≡ n * up d * 2 ^ 1074 / down d = div-same (m * up e * 2 ^ 1074) (down e) (n * up d * 2 ^ 1074) (down d) (down-pos e) (down-pos d) (mul-right-comm (m * up e) (2 ^ 1074) (down d) ∙ ap (λ (x : ℕ). x * 2 ^ 1074) h ∙ mul-right-comm (n * up d) (down e) (2 ^ 1074)) in
+    let units : m * up e * 2 ^ 1074 / down e ≡ n * up d * 2 ^ 1074 / down d =
+    div-same (m * up e * 2 ^ 1074) (down e) (n * up d * 2 ^ 1074) (down d) (down-pos e) (down-pos d)
+    (mul-right-comm (m * up e) (2 ^ 1074) (down d) ∙ ap (λ (x : ℕ). x * 2 ^ 1074) h ∙ mul-right-comm (n * up d) (down e) (2 ^ 1074)) in
     sym (ofBits-toBits binary64 (fin s m e) f) ∙ ap (ofBits binary64) (bits-are s m e ∙ ap (bits s) units ∙ sym (bits-are s n d)) ∙ ofBits-toBits binary64 (fin s n d) g
 
 same-size : (s : Bool) (a b : ℕ) → below s a s b ≡ false → below s b s a ≡ false → a ≡ b

@@ -1,4 +1,5 @@
--- `rounded` from the whole part of twice the magnitude. Assumes nothing.
+-- `rounded` and `ceiled` from the whole part of the magnitude: twice a magnitude below 2^52 is exact, its whole part is a float exactly, and from 2^52 on a value is whole.
+-- Assumes nothing.
 use mathlib.Core.Path.{_≡_, refl, sym, ap, _∙_, subst}
 use Prim.Native.Nat.{ℕ, zero, suc, _+_, _-_, _*_, _/_, _^_, _≤_, _<_, min}
 use native.Mathlib.Nat.{le-trans, lt-of-lt-of-le, le-of-eq, lt-irrefl, mul-one, one-mul, mul-assoc, mul-right-comm, zero-lt-suc, mul-pos, mul-le-mul-right, mul-lt-mul-of-pos-right, lt-of-mul-lt-mul-right, div-lt-iff-lt-mul, div-one, mul-add-div-right, pow-suc, div-div-eq-div-mul}

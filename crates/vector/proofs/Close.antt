@@ -1,7 +1,7 @@
 -- `allClose` from what the calls gave, and its laws. The largest of three is below EPS where each is, but `larger` leaves a NaN out: so a NaN difference
 -- is passed over, and only three of them are never close. Assumes nothing.
 use mathlib.Core.Path.{_≡_, refl, ap, _∙_}
-use mathlib.Core.Bool.{Bool, true, false, not, _&&_, _||_, true≢false}
+use mathlib.Core.Bool.{Bool, true, false, not, _&&_, _||_, and-true, and-false, or-false, true≢false}
 use lib.Ieee.{Float, nan, lt, isNan}
 use Rattle.float.specs.Consts.{eps, zero64, one64}
 use Rattle.float.specs.Sign.{absolute, isFinite}
@@ -50,18 +50,6 @@ close-by a b = largest-below (minus a b)
 -- ---- finite points are close where the three differences are below EPS
 abbrev pub Finite : Vector → Type 0
 Finite a = (isFinite (a .x) ≡ true) × (isFinite (a .y) ≡ true) × (isFinite (a .z) ≡ true)
-
-or-false : (t : Bool) → t || false ≡ t
-or-false true = refl
-or-false false = refl
-
-and-true : (t : Bool) → t && true ≡ t
-and-true true = refl
-and-true false = refl
-
-and-false : (t : Bool) → t && false ≡ false
-and-false true = refl
-and-false false = refl
 
 pub close-finite : (a b : Vector) → Finite a → Finite b → allClose a b ≡ lt (absolute (minus a b .x)) eps && lt (absolute (minus a b .y)) eps && lt (absolute (minus a b .z)) eps
 close-finite a b h k = close-by a b ∙ simp (sub-not-nan (a .x) (b .x) (h .0) (k .0), sub-not-nan (a .y) (b .y) (h .1) (k .1), sub-not-nan (a .z) (b .z) (h .2) (k .2), or-false, and-true)
