@@ -1,23 +1,23 @@
 -- Demand 3 for the seams that are found. A search tries offsets below the steps of its rows only, so a mapping that it finds has its row's steps
 -- and an offset below them; with that, 01's list of joinings is the one that the theorem on shapes is proved for. Assumes nothing.
-use Prim.Native.Nat.{ℕ, _+_, _-_, _≤_, _<_}
-use mathlib.Core.Path.{_≡_, refl, ap, subst}
+use Prim.Native.Nat.{ℕ, _+_, _*_, _≤_, _<_}
+use mathlib.Core.Path.{_≡_, refl, ap}
 use mathlib.Core.Logic.{inl, inr}
-use mathlib.Core.Bool.{Bool, true, false, _||_, not}
 use mathlib.Core.List.{List}
 use native.Mathlib.Omega.{arith}
-use lib.Dec.{eqb, ltb}
 use lib.Ieee.{Float}
+use Rattle.vector.specs.Vectors.{allClose}
 use Rattle.grid.specs.Grid.{Accepted}
 use Rattle.cyclic.specs.declared.mapping.CyclicMapping.{CyclicMapping}
 use Rattle.cyclic.specs.declared.mapping.CyclicMapping.the-variants.{Forward, Reverse}
 use Rattle.cyclic.specs.declared.seam.Seam.{Seam}
 use Rattle.cyclic.specs.declared.seam.Seam.the-variants.{Joined, Unjoined}
-use Rattle.cyclic.specs.Mapping.{pick, offsetOf}
-use Rattle.cyclic.specs.Search.{Row, Closeness, searched, searchRows, search}
+use Rattle.cyclic.specs.Mapping.{offsetOf}
+use Rattle.cyclic.specs.Search.{Row, rowOf, Closeness, searchRows}
 use Rattle.cyclic.proofs.Laws.{found-below}
 use Rattle.surface.specs.Surface.{forward, Covered, neither, only-u, only-v, both-u, both-v, Meets, triangles, Owns, EdgeNumbers, Jₙ}
 use Rattle.surface.specs.Found.{uSearch, vSearch, ofMapping, surfaceWith, surfaceOf, ForwardAtZero, CoveredJoining, CoveredGrid, SurfaceMeets}
+use Rattle.surface.proofs.Searches.{u-search, v-search}
 use Rattle.surface.proofs.Demand.{demand3, traced}
 
 -- ---- what a search finds
@@ -27,25 +27,18 @@ abbrev pub OffsetBelow : ℕ → Seam → Type 0
 OffsetBelow steps Unjoined = Unit {0}
 OffsetBelow steps (Joined k) = offsetOf k < steps
 
-module _ (close : Closeness) (a b : Row) (steps : ℕ) (h : 1 ≤ steps) where
-  rows-below : OffsetBelow steps (searchRows close a b steps .seam)
-  rows-below = go (searchRows close a b steps .seam) refl
-    where
-      go : (s : Seam) → searchRows close a b steps .seam ≡ s → OffsetBelow steps s
-      go Unjoined e = tt
-      go (Joined k) e = found-below close a b steps h e
+found-offset : (close : Closeness) (a b : Row) (steps : ℕ) → 1 ≤ steps → OffsetBelow steps (searchRows close a b steps .seam)
+found-offset close a b steps h = go (searchRows close a b steps .seam) refl
+  where
+    go : (s : Seam) → searchRows close a b steps .seam ≡ s → OffsetBelow steps s
+    go Unjoined e = tt
+    go (Joined k) e = found-below close a b steps h e
 
-  -- so it is of two rows of equal length, at least 2
-  pub search-below : OffsetBelow steps (search close a b (steps + 1) (steps + 1) .seam)
-  unfolding search
-  search-below = go (ltb (steps + 1) 2 || not (eqb (steps + 1) (steps + 1)))
-    where
-      same : steps ≡ steps + 1 - 1
-      same = omega arith
+pub u-offset : (g : List Float) (m n : ℕ) → 1 ≤ n → OffsetBelow n (uSearch g m n .seam)
+u-offset g m n h = rw (u-search g m n h) (found-offset allClose (rowOf g 0 1) (rowOf g (m * (n + 1)) 1) n h)
 
-      go : (t : Bool) → OffsetBelow steps (pick t (searched Unjoined 0) (searchRows close a b (steps + 1 - 1)) .seam)
-      go true = tt
-      go false = subst (λ (k : ℕ). OffsetBelow steps (searchRows close a b k .seam)) same rows-below
+pub v-offset : (g : List Float) (m n : ℕ) → 1 ≤ m → OffsetBelow m (vSearch g m n .seam)
+v-offset g m n h = rw (v-search g m n h) (found-offset allClose (rowOf g 0 (n + 1)) (rowOf g n (n + 1)) m h)
 
 -- ---- 01's list of joinings
 
@@ -69,10 +62,8 @@ pub joining-meets : (m n : ℕ) (su sv : Seam) → 3 ≤ m → 3 ≤ n → Offse
 joining-meets m n su sv hm hn p q c = demand3 (surfaceWith m n su sv) hm hn (covered m n su sv p q c)
 
 pub surface-meets : (g : List Float) (m n : ℕ) → SurfaceMeets g m n
-unfolding uSearch vSearch
 surface-meets g m n a hm hn c =
-    joining-meets m n (uSearch g m n .seam) (vSearch g m n .seam) hm hn
-    (search-below _ _ _ n (omega arith)) (search-below _ _ _ m (omega arith)) c
+    joining-meets m n (uSearch g m n .seam) (vSearch g m n .seam) hm hn (u-offset g m n (omega arith)) (v-offset g m n (omega arith)) c
 
 -- of a grid edge, J of the numbers of its two ends are the two ends of a side
 pub edge-side : (g : List Float) (m n : ℕ) → Accepted g m n → 3 ≤ m → 3 ≤ n → CoveredGrid g m n → (p q : ℕ) → EdgeNumbers (surfaceOf g m n) p q →
