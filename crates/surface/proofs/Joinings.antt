@@ -1,23 +1,23 @@
 -- Demand 3 for the seams that are found. A search tries offsets below the steps of its rows only, so a mapping that it finds has its row's steps
 -- and an offset below them; with that, 01's list of joinings is the one that the theorem on shapes is proved for. Assumes nothing.
-use Prim.Native.Nat.{ℕ, zero, suc, _+_, _-_, _≤_, _<_}
-use mathlib.Core.Path.{_≡_, refl, ap, subst}
+use Prim.Native.Nat.{ℕ, _+_, _*_, _≤_, _<_}
+use mathlib.Core.Path.{_≡_, refl, ap}
 use mathlib.Core.Logic.{inl, inr}
-use mathlib.Core.Bool.{Bool, true, false, _||_, not}
 use mathlib.Core.List.{List}
 use native.Mathlib.Omega.{arith}
-use lib.Dec.{eqb, ltb}
 use lib.Ieee.{Float}
+use Rattle.vector.specs.Vectors.{allClose}
 use Rattle.grid.specs.Grid.{Accepted}
 use Rattle.cyclic.specs.declared.mapping.CyclicMapping.{CyclicMapping}
 use Rattle.cyclic.specs.declared.mapping.CyclicMapping.the-variants.{Forward, Reverse}
 use Rattle.cyclic.specs.declared.seam.Seam.{Seam}
 use Rattle.cyclic.specs.declared.seam.Seam.the-variants.{Joined, Unjoined}
-use Rattle.cyclic.specs.declared.seam.SeamSearch.{SeamSearch}
-use Rattle.cyclic.specs.Mapping.{pick, offsetOf}
-use Rattle.cyclic.specs.Search.{Row, Closeness, tryFrom, closed, searchFrom, searchRows, search}
+use Rattle.cyclic.specs.Mapping.{offsetOf}
+use Rattle.cyclic.specs.Search.{Row, rowOf, Closeness, searchRows}
+use Rattle.cyclic.proofs.Laws.{found-below}
 use Rattle.surface.specs.Surface.{forward, Covered, neither, only-u, only-v, both-u, both-v, Meets, triangles, Owns, EdgeNumbers, Jₙ}
 use Rattle.surface.specs.Found.{uSearch, vSearch, ofMapping, surfaceWith, surfaceOf, ForwardAtZero, CoveredJoining, CoveredGrid, SurfaceMeets}
+use Rattle.surface.proofs.Searches.{u-search, v-search}
 use Rattle.surface.proofs.Demand.{demand3, traced}
 
 -- ---- what a search finds
@@ -27,37 +27,18 @@ abbrev pub OffsetBelow : ℕ → Seam → Type 0
 OffsetBelow steps Unjoined = Unit {0}
 OffsetBelow steps (Joined k) = offsetOf k < steps
 
-one-of : (t : Bool) (steps : ℕ) (x y : SeamSearch) → OffsetBelow steps (x .seam) → OffsetBelow steps (y .seam) → OffsetBelow steps (pick t x y .seam)
-one-of true steps x y p q = p
-one-of false steps x y p q = q
+found-offset : (close : Closeness) (a b : Row) (steps : ℕ) → 1 ≤ steps → OffsetBelow steps (searchRows close a b steps .seam)
+found-offset close a b steps h = go (searchRows close a b steps .seam) refl
+  where
+    go : (s : Seam) → searchRows close a b steps .seam ≡ s → OffsetBelow steps s
+    go Unjoined e = tt
+    go (Joined k) e = found-below close a b steps h e
 
-module _ (close : Closeness) (a b : Row) where
-  from-below : (steps k o c : ℕ) → o + k ≤ steps → OffsetBelow steps (searchFrom close a b steps k o c .seam)
-  unfolding searchFrom
-  from-below steps zero o c h = tt
-  from-below steps (suc k) o c h =
-      let there : o < steps = omega arith in
-      let ahead = tryFrom close a b (Forward o steps) (steps + 1) 0 c in
-      let back = tryFrom close a b (Reverse o steps) (steps + 1) 0 (ahead .made) in
-      one-of (ahead .fits) steps _ _ there (one-of (back .fits) steps _ _ there (from-below steps k (o + 1) (back .made) (omega arith)))
+pub u-offset : (g : List Float) (m n : ℕ) → 1 ≤ n → OffsetBelow n (uSearch g m n .seam)
+u-offset g m n h = rw (u-search g m n h) (found-offset allClose (rowOf g 0 1) (rowOf g (m * (n + 1)) 1) n h)
 
-  rows-below : (steps : ℕ) → 0 < steps → OffsetBelow steps (searchRows close a b steps .seam)
-  unfolding searchRows
-  rows-below steps h = from-below steps (pick (closed close a b steps .fits) steps 1) 0 (closed close a b steps .made) (go (closed close a b steps .fits))
-    where
-      go : (t : Bool) → 0 + pick t steps 1 ≤ steps
-      go true = omega arith
-      go false = omega arith
-
-  -- a found offset is below the steps
-  pub found-below : (steps : ℕ) → 0 < steps → OffsetBelow steps (search close a b (steps + 1) (steps + 1) .seam)
-  unfolding search
-  found-below steps h =
-      one-of (ltb (steps + 1) 2 || not (eqb (steps + 1) (steps + 1))) steps _ _ tt
-      (subst (λ (k : ℕ). OffsetBelow steps (searchRows close a b k .seam)) same (rows-below steps h))
-    where
-      same : steps ≡ steps + 1 - 1
-      same = omega arith
+pub v-offset : (g : List Float) (m n : ℕ) → 1 ≤ m → OffsetBelow m (vSearch g m n .seam)
+v-offset g m n h = rw (v-search g m n h) (found-offset allClose (rowOf g 0 (n + 1)) (rowOf g n (n + 1)) m h)
 
 -- ---- 01's list of joinings
 
@@ -81,10 +62,8 @@ pub joining-meets : (m n : ℕ) (su sv : Seam) → 3 ≤ m → 3 ≤ n → Offse
 joining-meets m n su sv hm hn p q c = demand3 (surfaceWith m n su sv) hm hn (covered m n su sv p q c)
 
 pub surface-meets : (g : List Float) (m n : ℕ) → SurfaceMeets g m n
-unfolding uSearch vSearch
 surface-meets g m n a hm hn c =
-    joining-meets m n (uSearch g m n .seam) (vSearch g m n .seam) hm hn
-    (found-below _ _ _ n (omega arith)) (found-below _ _ _ m (omega arith)) c
+    joining-meets m n (uSearch g m n .seam) (vSearch g m n .seam) hm hn (u-offset g m n (omega arith)) (v-offset g m n (omega arith)) c
 
 -- of a grid edge, J of the numbers of its two ends are the two ends of a side
 pub edge-side : (g : List Float) (m n : ℕ) → Accepted g m n → 3 ≤ m → 3 ≤ n → CoveredGrid g m n → (p q : ℕ) → EdgeNumbers (surfaceOf g m n) p q →
