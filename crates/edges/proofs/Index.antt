@@ -11,6 +11,7 @@ use borrow.Author.Tests.{ltb-true, lt-ltb, le-ltb, leb-false}
 use mir.Syntax.{w64}
 use mir.Val.{SFits, Fits}
 use Rattle.float.specs.Whole.{floorZ}
+use Rattle.float.specs.Cast.{count}
 use Rattle.edges.specs.declared.point.ParamPoint.{ParamPoint}
 use Rattle.edges.specs.declared.cell.CellIndex.{CellIndex}
 use Rattle.edges.specs.declared.cell.CellIndex.the-variants.{Index, Outside}
@@ -34,13 +35,22 @@ abs-fits (negsuc n) s = record { fits = wide n (s .sfits) }
     wide : (k : ℕ) → k < 9223372036854775808 → suc k < 18446744073709551616
     wide k h = omega arith
 
--- ---- `indexOf` by the tests
 no-zero : (n : ℕ) → leb 0 n ≡ false → ⊥
 no-zero n h = omega (arith, leb-false 0 n h)
 
 no-one : (n : ℕ) → leb 1 (suc n) ≡ false → ⊥
 no-one n h = omega (arith, leb-false 1 (suc n) h)
 
+-- a signed number as a count
+pub count-in : (z : ℤ) → leZ (pos 0) z ≡ true → SFits w64 z → (natAbs z ≡ count z) × (natAbs z < 9223372036854775808)
+count-in (pos n) h s = (refl, s .sfits)
+count-in (negsuc n) h s = absurd (true≢false (sym h))
+
+pub count-out : (z : ℤ) → leZ (pos 0) z ≡ false → 0 ≡ count z
+count-out (pos n) h = absurd (no-zero n h)
+count-out (negsuc n) h = refl
+
+-- ---- `indexOf` by the tests
 pub index-neg : (z : ℤ) (n : ℕ) → leZ (pos 0) z ≡ false → Outside ≡ indexOf z n
 unfolding indexOf
 index-neg (pos k) n h = absurd (no-zero k h)

@@ -2,3 +2,8 @@
 pub mod Steps
 pub mod Index
 pub mod Candidates
+pub mod Codes
+pub mod Places
+pub mod Kept
+pub mod Gather
+pub mod Grid

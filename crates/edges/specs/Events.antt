@@ -2,7 +2,7 @@
 -- events first, then U, V, diagonals; a stable sort by IEEE 754 totalOrder, so −0 precedes +0; an event closer than EPS to the last one kept is dropped". Assumes nothing.
 use mathlib.Core.Bool.{Bool, true, false, _&&_}
 use mathlib.Core.List.{List, [], _∷_, _++_}
-use Prim.Native.Nat.{ℕ, zero, suc, _+_, _-_, _*_, _/_, _%_, min, max}
+use Prim.Native.Nat.{ℕ, zero, suc, _+_, _-_, _≤_, _<_, min, max}
 use lib.IntN.{ℤ, pos, negsuc}
 use lib.Dec.{ltb}
 use lib.Ieee.{Float, binary64, lt, add, sub, div}
@@ -159,6 +159,10 @@ unfoldable pub insert : EdgeEvent → List EdgeEvent → List EdgeEvent
 insert e [] = e ∷ []
 insert e (x ∷ xs) = pick (precedes (totalOrder (e .lambda) (x .lambda))) (e ∷ (x ∷ xs)) (x ∷ insert e xs)
 
+abbrev pub pushed : Candidate → List EdgeEvent → List EdgeEvent
+pushed (Event e) sorted = insert e sorted
+pushed NoEvent sorted = sorted
+
 unfoldable pub sortInto : List EdgeEvent → List EdgeEvent → List EdgeEvent
 sortInto [] sorted = sorted
 sortInto (e ∷ es) sorted = sortInto es (insert e sorted)
@@ -177,3 +181,24 @@ unique (e ∷ es) = e ∷ uniqueAfter (e .lambda) es
 
 unfoldable pub sortedEdgeEvents : ℕ → ℕ → ParamPoint → ParamPoint → List EdgeEvent
 sortedEdgeEvents m n a b = unique (sortInto (candidates m n a b) [])
+
+-- ---- what holds of every event
+
+-- a side of the grid: U(u) up to M, V(v) up to N, a diagonal in a cell
+abbrev pub Inside : ℕ → ℕ → ParamEdge → Type 0
+Inside m n (U u) = u ≤ m
+Inside m n («V» v) = v ≤ n
+Inside m n (Diagonal u v) = (u < m) × (v < n)
+
+-- P, of a candidate that is an event
+abbrev pub IfEvent : (EdgeEvent → Type 0) → Candidate → Type 0
+IfEvent P (Event e) = P e
+IfEvent P NoEvent = Unit
+
+-- P, of every event of a list
+abbrev pub Each : (EdgeEvent → Type 0) → List EdgeEvent → Type 0
+Each P [] = Unit
+Each P (e ∷ es) = P e × Each P es
+
+abbrev pub OnGrid : ℕ → ℕ → EdgeEvent → Type 0
+OnGrid m n e = Inside m n (e .edge)

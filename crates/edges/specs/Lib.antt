@@ -2,4 +2,5 @@
 pub mod Param
 pub mod Cell
 pub mod Events
+pub mod Scratch
 pub mod Table

@@ -10,7 +10,7 @@ use float::cast::to_f64;
 use float::order::clamp;
 ghost use mathlib.Core.Path.{_≡_};
 ghost use Rattle.edges.specs.Param.{normalizeLambda};
-ghost use Rattle.edges.specs.Events.{edgeAtPoint, lambdaAt, onLine, uCandidate, vCandidate, diagonalCandidate};
+ghost use Rattle.edges.specs.Events.{edgeAtPoint, endCandidate, lambdaAt, onLine, uCandidate, vCandidate, diagonalCandidate};
 
 pub enum ParamEdge {
     U(usize),
@@ -55,6 +55,16 @@ pub fn edge_at_point(m: usize, n: usize, point: ParamPoint) -> EdgeAtPoint
         return EdgeAtPoint::Edge(ParamEdge::Diagonal(u, v));
     }
     EdgeAtPoint::NoEdge
+}
+
+// The event of an end of the step, where the end lies on a side.
+pub fn end_candidate(lambda: f64, at: EdgeAtPoint) -> Candidate
+    ensures { λ r. ⌜ r ≡ endCandidate lambda at ⌝ }
+{
+    match at {
+        EdgeAtPoint::Edge(edge) => Candidate::Event(EdgeEvent { lambda, edge }),
+        EdgeAtPoint::NoEdge => Candidate::NoEvent,
+    }
 }
 
 // A lambda that is within EPS of 0 to 1 is brought there; -0.0 stays -0.0.

@@ -2,3 +2,5 @@
 pub mod cell;
 pub mod event;
 pub mod point;
+pub mod scratch;
+pub mod sorted;

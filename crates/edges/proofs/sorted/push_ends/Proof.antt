@@ -1,0 +1,64 @@
+-- `edges::sorted::push_ends` meets its contract: the two candidates are those of the definition, in its order. Assumes nothing.
+use Prim.Native.Nat.{_≤_, _+_}
+use native.Mathlib.Omega.{arith}
+use Rattle.float.specs.Consts.{zero64, one64}
+use Rattle.edges.proofs.Grid.{end-small}
+use Rattle.edges.proofs.Gather.{ends-pushed}
+use borrow.Author.Needs.{needs}
+use Rattle.edges.proofs.sorted.push_ends.Statement.{statement}
+use Rattle.edges.proofs.sorted.push_ends.Tie as tie
+
+edge-at-point-requires : tie.Need-edge-at-point-requires
+edge-at-point-requires c κs = search needs
+
+end-candidate-requires : tie.Need-end-candidate-requires
+end-candidate-requires c κs = search needs
+
+edge-at-point-requires-2 : tie.Need-edge-at-point-requires-2
+edge-at-point-requires-2 c κs = search needs
+
+end-candidate-requires-2 : tie.Need-end-candidate-requires-2
+end-candidate-requires-2 c κs = search needs
+
+push-candidate-requires : tie.Need-push-candidate-requires
+push-candidate-requires c κs =
+    let s = c .before .before .before .before .before .before .before .before in
+    (search needs, search needs, end-small (s .args .m) (s .args .n) (s .pre .u-steps) (s .pre .v-steps) zero64 (s .args .a) (c .before .before .before .before .before .edge-at-point .ensures) (c .before .before .before .before .end-candidate .ensures))
+
+push-candidate-requires-2 : tie.Need-push-candidate-requires-2
+push-candidate-requires-2 c κs =
+    let s = c .before .before .before .before .before .before .before .before .before .before .before .before .before .before .before in
+    (search needs, search needs, end-small (s .args .m) (s .args .n) (s .pre .u-steps) (s .pre .v-steps) one64 (s .args .b) (c .before .before .before .before .before .before .before .before .before .before .edge-at-point2 .ensures) (c .before .before .before .before .before .before .before .before .before .end-candidate2 .ensures))
+
+same-length : tie.Need-same-length
+same-length c = search needs
+
+same-length-2 : tie.Need-same-length-2
+same-length-2 c = search needs
+
+returns : tie.Need-returns
+returns c =
+    let p = c .before .before .before .before .before .before .before .before .before .before .before .before .before .before in
+    let s = p .before .before .before .before .before .before in
+    let first = c .before .before .before .before .before .before .before .before .before .before .before .push-candidate in
+    let second = c .before .before .before .before .push-candidate2 in
+    let few : first .result ≤ 1 = first .ensures .0 in
+    let more : second .result ≤ first .result + 1 = second .ensures .0 in (
+      omega arith,
+      ends-pushed (s .args .m) (s .args .n) (s .args .a) (s .args .b) (p .before .before .before .edge-at-point .ensures) (p .before .edge-at-point2 .ensures) (p .before .before .end-candidate .ensures) (p .end-candidate2 .ensures)
+          (first .ensures .1) (second .ensures .1),
+    )
+
+pub push-ends-spec : {M : Type 1} → statement M
+push-ends-spec =
+    tie.close
+    (tie.spec
+    edge-at-point-requires
+    end-candidate-requires
+    edge-at-point-requires-2
+    end-candidate-requires-2
+    push-candidate-requires
+    push-candidate-requires-2
+    same-length
+    same-length-2
+    returns)

@@ -1,0 +1,31 @@
+-- `edges::sorted::sorted_edge_events` meets its contract: the sorted candidates without close ones. Assumes nothing.
+use mathlib.Core.Path.{ap, _∙_}
+use Prim.Native.Nat.{_≤_}
+use native.Mathlib.Omega.{arith}
+use borrow.Author.Needs.{needs}
+use Rattle.edges.specs.Events.{unique, sortedEdgeEvents}
+use Rattle.edges.proofs.sorted.sorted_edge_events.Statement.{statement}
+use Rattle.edges.proofs.sorted.sorted_edge_events.Tie as tie
+
+push-candidates-requires : tie.Need-push-candidates-requires
+push-candidates-requires c κs = search needs
+
+unique-requires : tie.Need-unique-requires
+unique-requires c κs = search needs
+
+same-length : tie.Need-same-length
+same-length c = search needs
+
+same-length-2 : tie.Need-same-length-2
+same-length-2 c = search needs
+
+returns : tie.Need-returns
+unfolding sortedEdgeEvents
+returns c =
+    let all = c .before .before .before .before .before .before .before .before .before .before .before .push-candidates in
+    let kept = c .before .before .before .before .unique in
+    let few : kept .result ≤ all .result = kept .ensures .0 in
+    (omega (arith, few, all .ensures .0), kept .ensures .1 ∙ ap unique (all .ensures .1))
+
+pub sorted-edge-events-spec : {M : Type 1} → statement M
+sorted-edge-events-spec = tie.close (tie.spec push-candidates-requires unique-requires same-length same-length-2 returns)

@@ -1,0 +1,49 @@
+-- Where the events of a step stand ("`Vec` of events: an array of 1,023 with a count"): their lambdas in one list and the codes of their sides in another. Assumes nothing.
+use mathlib.Core.Bool.{Bool, true, false}
+use mathlib.Core.List.{List, [], _∷_}
+use mathlib.Core.Path.{_≡_}
+use Prim.Native.Nat.{ℕ, zero, suc, _+_, _-_, _*_, _/_, _%_, _≤_}
+use lib.Dec.{ltb}
+use lib.ListN.{length, take}
+use lib.Ieee.{Float}
+use Rattle.float.specs.Order.{totalOrder}
+use Rattle.edges.specs.declared.event.ParamEdge.{ParamEdge}
+use Rattle.edges.specs.declared.event.ParamEdge.the-variants.{U, «V», Diagonal}
+use Rattle.edges.specs.declared.event.EdgeEvent.{EdgeEvent}
+use Rattle.edges.specs.Param.{pick}
+use Rattle.edges.specs.Events.{event, precedes}
+
+-- a side as one number, and back: indices are below 256
+unfoldable pub codeOf : ParamEdge → ℕ
+codeOf (U u) = u
+codeOf («V» v) = 256 + v
+codeOf (Diagonal u v) = 512 + 256 * u + v
+
+unfoldable pub edgeOf : ℕ → ParamEdge
+edgeOf c = pick (ltb c 256) (U c) (pick (ltb c 512) («V» (c - 256)) (Diagonal ((c - 512) / 256) ((c - 512) % 256)))
+
+abbrev pub eventOf : Float → ℕ → EdgeEvent
+eventOf l c = event l (edgeOf c)
+
+-- the events that two lists hold
+unfoldable pub held : List Float → List ℕ → List EdgeEvent
+held [] cs = []
+held (l ∷ ls) [] = []
+held (l ∷ ls) (c ∷ cs) = eventOf l c ∷ held ls cs
+
+-- the first `count` of them
+abbrev pub eventsIn : List Float → List ℕ → ℕ → List EdgeEvent
+eventsIn lambdas codes count = take count (held lambdas codes)
+
+-- how many lambdas stand before the first that l precedes
+unfoldable pub place : Float → List Float → ℕ
+place l [] = 0
+place l (x ∷ xs) = pick (precedes (totalOrder l x)) 0 (suc (place l xs))
+
+-- for M and N up to 255, two lists of 1,023 that hold `count` events and have room for so many more: ends, U, V and diagonals are at most 2 + (M+1) + (N+1) + (M+N−1)
+pub record Room (m n : ℕ) (lambdas : List Float) (codes : List ℕ) (count more : ℕ) : Type 0 where
+  pub u-steps : m ≤ 255
+  pub v-steps : n ≤ 255
+  pub lambdas-length : length lambdas ≡ 1023
+  pub codes-length : length codes ≡ 1023
+  pub room : count + more ≤ 1023
