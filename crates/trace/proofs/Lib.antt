@@ -5,6 +5,7 @@ pub mod Pages
 pub mod Follow
 pub mod Fits
 pub mod Crossed
+pub mod Walked
 pub mod Checks
 pub mod Related
 pub mod Turns

@@ -9,16 +9,21 @@ use edges::event::EdgeEvent;
 use edges::event::ParamEdge;
 use edges::point::ParamPoint;
 use edges::point::param_in_bounds;
+use edges::scratch::event_at;
 use float::consts::EPS;
 use refusal::Refusal;
 ghost use mathlib.Core.Path.{_≡_};
 ghost use mathlib.Core.List.{List};
-ghost use Prim.Native.Nat.{ℕ, _+_, _*_, _≤_};
-ghost use lib.ListN.{length};
-ghost use lib.Ieee.{Float};
+ghost use Prim.Native.Nat.{ℕ, _≤_};
+ghost use lib.Dec.{ltb};
+ghost use lib.ListN.{length, getD};
+ghost use lib.Ieee.{Float, nan};
+ghost use Rattle.float.specs.Consts.{zero64, one64};
 ghost use Rattle.edges.specs.Param.{pick};
-ghost use Rattle.trace.specs.Crossing.{edgePoint, EdgeInside};
-ghost use Rattle.trace.specs.Walk.{on, beforeInside, afterInside, pushed, crossed};
+ghost use Rattle.edges.specs.Events.{Each, OnGrid};
+ghost use Rattle.edges.specs.Scratch.{eventsIn};
+ghost use Rattle.trace.specs.Crossing.{edgePoint, GridFits, EdgeInside};
+ghost use Rattle.trace.specs.Walk.{on, beforeInside, afterInside, pushed, crossed, crossings};
 ghost use Rattle.trace.specs.Page.{pageOf, pushPage, flushPage, Pushed, PenFits};
 
 // Whether the step is inside the grid before the event at `lambda`, the event before it at `previous`.
@@ -73,7 +78,8 @@ fn push_edge_point(
     edge: ParamEdge,
     point: ParamPoint,
 ) -> Penned
-    requires { ⌜ (m ≤ 255) × (n ≤ 255) × (length (now grid) ≡ 3 * ((m + 1) * (n + 1))) × EdgeInside m n edge ⌝ }
+    requires { ⌜ GridFits (now grid) m n ⌝ }
+    requires { ⌜ EdgeInside m n edge ⌝ }
     requires { ⌜ PenFits (now points) pen ⌝ }
     ensures { λ r. ⌜ ((starts : List ℕ) → Pushed (pushed pushPage flushPage (now (grid .entry)) m n (edgePoint (now (grid .entry)) m n edge point)
         (pageOf (now (points .entry)) starts (now (sides .entry)) (now (fractions .entry)) pen)) r
@@ -101,7 +107,8 @@ fn cross_event(
     event: EdgeEvent,
     next: f64,
 ) -> Penned
-    requires { ⌜ (m ≤ 255) × (n ≤ 255) × (length (now grid) ≡ 3 * ((m + 1) * (n + 1))) × EdgeInside m n (event .edge) ⌝ }
+    requires { ⌜ GridFits (now grid) m n ⌝ }
+    requires { ⌜ EdgeInside m n (event .edge) ⌝ }
     requires { ⌜ PenFits (now points) pen ⌝ }
     ensures { λ r. ⌜ Pushed (crossed pushPage flushPage (now (grid .entry)) m n a b previous event next
         (pageOf (now (points .entry)) (now (starts .entry)) (now (sides .entry)) (now (fractions .entry)) pen)) r
@@ -129,4 +136,73 @@ fn cross_event(
     } else {
         flush_unless(after, starts, pen)
     }
+}
+
+// The lambda of event i of `count`, or 1 past the last.
+fn lambda_or_one(lambdas: &[f64], count: usize, i: usize) -> f64
+    requires { ⌜ count ≤ length (now lambdas) ⌝ }
+    ensures { λ r. ⌜ r ≡ pick (ltb i count) (getD (now (lambdas .entry)) i nan) one64 ⌝ }
+{
+    if i < count {
+        return lambdas[i];
+    }
+    1.0
+}
+
+// The events in order, of which `count` stand in the two lists.
+fn cross_events(
+    grid: &[f64],
+    m: usize,
+    n: usize,
+    lambdas: &[f64],
+    codes: &[u32],
+    count: usize,
+    points: &mut [f64],
+    starts: &mut [usize],
+    sides: &mut [usize],
+    fractions: &mut [f64],
+    pen: Pen,
+    a: ParamPoint,
+    b: ParamPoint,
+) -> Penned
+    requires { ⌜ GridFits (now grid) m n ⌝ }
+    requires { ⌜ (count ≤ length (now lambdas)) × (length (now lambdas) ≡ length (now codes)) ⌝ }
+    requires { ⌜ Each (OnGrid m n) (eventsIn (now lambdas) (now codes) count) ⌝ }
+    requires { ⌜ PenFits (now points) pen ⌝ }
+    ensures { λ r. ⌜ Pushed (crossings pushPage flushPage (now (grid .entry)) m n a b zero64 (eventsIn (now (lambdas .entry)) (now (codes .entry)) count)
+        (pageOf (now (points .entry)) (now (starts .entry)) (now (sides .entry)) (now (fractions .entry)) pen)) r
+        (now (points .exit)) (now (starts .exit)) (now (sides .exit)) (now (fractions .exit)) ⌝ }
+{
+    let mut pen = pen;
+    let mut previous = 0.0;
+    let mut i: usize = 0;
+    while i < count {
+        let event = event_at(lambdas, codes, i);
+        let next = lambda_or_one(lambdas, count, i + 1);
+        match cross_event(
+            grid,
+            m,
+            n,
+            points,
+            starts,
+            sides,
+            fractions,
+            pen,
+            a,
+            b,
+            previous,
+            event,
+            next,
+        ) {
+            Penned::Down(crossed) => {
+                pen = crossed;
+            }
+            Penned::Stop(refusal) => {
+                return Penned::Stop(refusal);
+            }
+        }
+        previous = event.lambda;
+        i += 1;
+    }
+    Penned::Down(pen)
 }

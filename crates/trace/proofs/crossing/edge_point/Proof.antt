@@ -8,25 +8,25 @@ use Rattle.trace.proofs.crossing.edge_point.Statement.{statement}
 use Rattle.trace.proofs.crossing.edge_point.Tie as tie
 
 side-u : (c : tie.After-edge) → c .edge .given .0 .0 ≤ c .before .before .before .args .m
-side-u c = inside-u _ _ (c .before .before .before .pre .3) (c .edge .given .1)
+side-u c = inside-u _ _ (c .before .before .before .pre .1) (c .edge .given .1)
 
 cell-u : (c : tie.After-v) → c .v .given .0 .0 < c .before .before .before .before .before .before .before .args .n
 cell-u c =
     let i = c .before .before in
     let s = i .before .before .before .before .before in
-    cell-inside _ _ (s .pre .1) (i .step-index .ensures) (c .v .given .1)
+    cell-inside _ _ (s .pre .0 .1) (i .step-index .ensures) (c .v .given .1)
 
 side-v : (c : tie.After-edge2) → c .edge2 .given .0 .0 ≤ c .before .before .before .args .n
-side-v c = inside-v _ _ (c .before .before .before .pre .3) (c .edge2 .given .1)
+side-v c = inside-v _ _ (c .before .before .before .pre .1) (c .edge2 .given .1)
 
 cell-v : (c : tie.After-u) → c .u .given .0 .0 < c .before .before .before .before .before .before .before .args .m
 cell-v c =
     let i = c .before .before in
     let s = i .before .before .before .before .before in
-    cell-inside _ _ (s .pre .0) (i .step-index2 .ensures) (c .u .given .1)
+    cell-inside _ _ (s .pre .0 .0) (i .step-index2 .ensures) (c .u .given .1)
 
 side-diagonal : (c : tie.After-edge3) → (c .edge3 .given .0 .0 < c .before .before .before .args .m) × (c .edge3 .given .0 .1 .0 < c .before .before .before .args .n)
-side-diagonal c = inside-diagonal _ _ (c .before .before .before .pre .3) (c .edge3 .given .1)
+side-diagonal c = inside-diagonal _ _ (c .before .before .before .pre .1) (c .edge3 .given .1)
 
 enum-known-edge : tie.Need-enum-known-edge
 enum-known-edge c = search needs
@@ -44,7 +44,7 @@ between-requires : tie.Need-between-requires
 between-requires c κs =
     let s = c .before .before .before .before .before .before .before .before in
     let v = cell-u (c .before) in
-    sides-stand (now (s .args .grid)) (s .args .m) _ _ _ _ _ (s .pre .0) (s .pre .1) (s .pre .2) (side-u (c .before .before .before .before .before)) (omega arith) (side-u (c .before .before .before .before .before)) (omega arith)
+    sides-stand (now (s .args .grid)) (s .args .m) _ _ _ _ _ (s .pre .0 .0) (s .pre .0 .1) (s .pre .0 .2) (side-u (c .before .before .before .before .before)) (omega arith) (side-u (c .before .before .before .before .before)) (omega arith)
 
 enum-told : tie.Need-enum-told
 enum-told c = search needs
@@ -65,7 +65,7 @@ between-requires-2 : tie.Need-between-requires-2
 between-requires-2 c κs =
     let s = c .before .before .before .before .before .before .before .before in
     let u = cell-v (c .before) in
-    sides-stand (now (s .args .grid)) (s .args .m) _ _ _ _ _ (s .pre .0) (s .pre .1) (s .pre .2) (omega arith) (side-v (c .before .before .before .before .before)) (omega arith) (side-v (c .before .before .before .before .before))
+    sides-stand (now (s .args .grid)) (s .args .m) _ _ _ _ _ (s .pre .0 .0) (s .pre .0 .1) (s .pre .0 .2) (omega arith) (side-v (c .before .before .before .before .before)) (omega arith) (side-v (c .before .before .before .before .before))
 
 enum-told-2 : tie.Need-enum-told-2
 enum-told-2 c = search needs
@@ -90,7 +90,7 @@ between-requires-3 c κs =
     let e = c .before .before .before .before in
     let s = e .before .before .before in
     let d = side-diagonal e in
-    sides-stand (now (s .args .grid)) (s .args .m) _ _ _ _ _ (s .pre .0) (s .pre .1) (s .pre .2) (omega arith) (omega arith) (omega arith) (omega arith)
+    sides-stand (now (s .args .grid)) (s .args .m) _ _ _ _ _ (s .pre .0 .0) (s .pre .0 .1) (s .pre .0 .2) (omega arith) (omega arith) (omega arith) (omega arith)
 
 returns : tie.Need-returns
 returns c =

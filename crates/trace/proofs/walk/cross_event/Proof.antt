@@ -29,7 +29,7 @@ flush-unless-requires c κs =
     let a = s .args in
     fits-down (c .before .before .before .before .before .before .before .before .before .before .push-edge-point .ensures (now (s .args .starts))) (c .before .before .pushed .given .1)
     (pushed-fits (now (a .grid)) (a .m) (a .n) (edgePoint (now (a .grid)) (a .m) (a .n) (a .event .edge) (c .before .before .before .before .before .before .before .before .before .before .before .lerp .result))
-    (pageOf (now (a .points)) (now (a .starts)) (now (a .sides)) (now (a .fractions)) (a .pen)) (s .pre .1)) .0
+    (pageOf (now (a .points)) (now (a .starts)) (now (a .sides)) (now (a .fractions)) (a .pen)) (s .pre .1 .1)) .0
 
 enum-known-refusal : tie.Need-enum-known-refusal
 enum-known-refusal c = search needs
