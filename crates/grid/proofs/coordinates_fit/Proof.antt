@@ -1,7 +1,7 @@
 -- `grid::coordinates_fit` meets its contract: what was found so far, and what is left to test from i on, answer for the whole list.
 use Prim.Native.Nat.{_≤_, _-_}
-use mathlib.Core.Path.{_≡_, sym, _∙_}
-use mathlib.Core.Bool.{Bool, true, false, _&&_}
+use mathlib.Core.Path.{_≡_, sym}
+use mathlib.Core.Bool.{_&&_}
 use lib.Ieee.{nan}
 use lib.ListN.{length, drop, drop-of-length-le}
 use borrow.Author.Needs.{needs}
