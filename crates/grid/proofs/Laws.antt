@@ -35,6 +35,14 @@ abbrev pub andThen : Check → Check → Check
 andThen Passed after = after
 andThen (Failed k) after = Failed k
 
+pub and-true : (a : Bool) → a && true ≡ a
+and-true true = refl
+and-true false = refl
+
+pub and-assoc : (a b c : Bool) → (a && b) && c ≡ a && (b && c)
+and-assoc true b c = refl
+and-assoc false b c = refl
+
 -- both halves of a test, and both of two tests that pass
 pub and-both : (a b : Bool) → a && b ≡ true → (a ≡ true) × (b ≡ true)
 and-both true true h = (refl, refl)

@@ -1,2 +1,3 @@
 -- What callers know of a grid without opening its definitions.
 pub mod Laws
+pub mod Between

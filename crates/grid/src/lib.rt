@@ -6,6 +6,7 @@ use vector::Vector;
 ghost use mathlib.Core.Path.{_≡_};
 ghost use Prim.Native.Nat.{_+_, _*_, _≤_};
 ghost use lib.ListN.{length};
+ghost use Rattle.float.specs.Sign.{atMost};
 ghost use Rattle.grid.specs.Grid.{pointNumber, pointAt, stepsFit, coordinatesFit, shapeCheck, gridCheck};
 
 // M and N are at most this.
@@ -34,18 +35,24 @@ pub fn point_at(points: &[f64], i: usize) -> Vector
     }
 }
 
-// Whether every coordinate is finite and at most 2^40 in magnitude.
+// Whether the magnitude is at most `top`: two comparisons and no branch on the sign, since a grid has many coordinates.
+fn within(x: f64, top: f64) -> bool
+    ensures { λ r. ⌜ r ≡ atMost x top ⌝ }
+{
+    (-top <= x) & (x <= top)
+}
+
+// Whether every coordinate is finite and at most 2^40 in magnitude. A grid rarely fails, so no test ends the loop early.
 pub fn coordinates_fit(points: &[f64]) -> bool
     ensures { λ r. ⌜ r ≡ coordinatesFit (now (points .entry)) ⌝ }
 {
+    let mut fit = true;
     let mut i: usize = 0;
     while i < points.len() {
-        if !float::sign::at_most(points[i], MAX_COORDINATE) {
-            return false;
-        }
+        fit = fit & within(points[i], MAX_COORDINATE);
         i += 1;
     }
-    true
+    fit
 }
 
 // Whether M and N are from 1 to 255.

@@ -1,10 +1,10 @@
 -- The lines of a grid are runs, since grid points that follow each other along u have numbers N+1 apart and along v one apart; so what
 -- the loops store is what `gridPaths` says.
-use Prim.Native.Nat.{ℕ, zero, suc, _+_, _-_, _*_, _≤_}
+use Prim.Native.Nat.{ℕ, zero, suc, _+_, _*_, _≤_}
 use native.Mathlib.Nat.{suc-mul}
 use native.Mathlib.Omega.{arith}
 use mathlib.Core.Path.{_≡_, refl, sym, ap, _∙_}
-use mathlib.Core.List.{List, [], _∷_, _++_, map, flatten, append-assoc}
+use mathlib.Core.List.{List, [], _∷_, _++_, map, flatten}
 use lib.Ieee.{Float}
 use lib.ListN.{length, take, drop, length-append}
 use lib.Seq.{sets, sets-eq, length-sets, take-append-seam}
@@ -14,7 +14,7 @@ use Rattle.vector.specs.declared.Vector.{Vector}
 use Rattle.grid.specs.Grid.{pointNumber, pointAt}
 use Rattle.path.specs.GridPaths.{counting, alongU, alongV, gridLines, coordinates, startsFrom}
 use Rattle.path.specs.Runs.{run, runs, spaced}
-use Rattle.path.proofs.Stores.{sets-append, length-coordinates, coordinates-append, length-run, length-spaced}
+use Rattle.path.proofs.Stores.{sets-append, length-coordinates, coordinates-append, flatten-append, length-flatten-runs, length-run, length-spaced}
 
 -- A line is a run
 
@@ -59,18 +59,6 @@ grid-lines g m n =
     rw (lines-u g m n 0 (suc n), lines-v g m n 0 (suc m), s, t, z)
 
 -- Lists that are drawn one after the other
-
-pub flatten-append : {A : Type 0} (xs ys : List (List A)) → flatten (xs ++ ys) ≡ flatten xs ++ flatten ys
-unfolding flatten
-flatten-append [] ys = refl
-flatten-append (x ∷ xs) ys = rw (flatten-append xs ys) (sym (append-assoc x (flatten xs) (flatten ys)))
-
-pub length-flatten-runs : (g : List Float) (first apart step count lines : ℕ) → length (flatten (runs g first apart step count lines)) ≡ lines * count
-unfolding flatten runs
-length-flatten-runs g first apart step count zero = omega arith
-length-flatten-runs g first apart step count (suc l) =
-    length-append (run g first step count) (flatten (runs g (first + apart) apart step count l))
-    ∙ omega (arith, length-run g first step count, length-flatten-runs g (first + apart) apart step count l, suc-mul l count)
 
 take-sets : {A : Type 0} (vs l : List A) → length vs ≤ length l → take (length vs) (sets l 0 vs) ≡ vs
 take-sets vs l h =

@@ -17,8 +17,8 @@ use Rattle.path.specs.GridPaths.{counting, alongU, alongV, gridLines, co
 use Rattle.path.specs.Line.{lineStart, lineEnd, partOf, lineAt}
 use Rattle.path.specs.ReadBack.{lineOf, ReadBack}
 use Rattle.path.specs.Runs.{runs}
-use Rattle.path.proofs.Stores.{length-coordinates, coordinates-append}
-use Rattle.path.proofs.Lines.{flatten-append, grid-lines, length-flatten-runs}
+use Rattle.path.proofs.Stores.{length-coordinates, coordinates-append, flatten-append, length-flatten-runs}
+use Rattle.path.proofs.Lines.{grid-lines}
 use Rattle.path.proofs.Checks.{passed-room}
 use Rattle.path.proofs.There.{There, span-there}
 

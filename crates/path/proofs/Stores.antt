@@ -1,23 +1,26 @@
 -- What one turn of each loop stores, as the first of the stores that are left: a loop that starts with all of them ends with none.
 use Prim.Native.Nat.{ℕ, zero, suc, _+_, _-_, _*_, _≤_, _<_}
-use native.Mathlib.Nat.{add-zero, suc-mul}
+use native.Mathlib.Nat.{add-zero, suc-mul, add-mul}
 use native.Mathlib.Omega.{arith}
 use native.Mathlib.Numerals.{add-one}
-use mathlib.Core.Path.{_≡_, refl, ap, _∙_}
-use mathlib.Core.List.{List, [], _∷_, _++_, flatten}
+use mathlib.Core.Path.{_≡_, refl, sym, ap, _∙_}
+use mathlib.Core.List.{List, [], _∷_, _++_, flatten, append-assoc}
 use lib.Ieee.{Float}
-use lib.ListN.{length, set}
-use lib.Seq.{sets}
+use lib.ListN.{length, set, length-append}
+use lib.Seq.{sets, set-comm}
 use Rattle.vector.specs.declared.Vector.{Vector}
 use Rattle.grid.specs.Grid.{pointAt}
 use Rattle.path.specs.GridPaths.{coordinates}
 use Rattle.path.specs.Runs.{run, runs, spaced}
 
-pub one-less : (k a : ℕ) → 0 < k → k * a ≡ (k - 1) * a + a
-one-less k a h = ap (λ (j : ℕ). j * a) left ∙ suc-mul (k - 1) a
+pub fewer : (j k a : ℕ) → j ≤ k → k * a ≡ (k - j) * a + j * a
+fewer j k a h = ap (λ (i : ℕ). i * a) split ∙ add-mul (k - j) j a
   where
-    left : k ≡ suc (k - 1)
-    left = omega arith
+    split : k ≡ k - j + j
+    split = omega arith
+
+pub one-less : (k a : ℕ) → 0 < k → k * a ≡ (k - 1) * a + a
+one-less k a h = fewer 1 k a h ∙ omega arith
 
 -- stores of two lists, one after the other
 pub sets-append : {A : Type 0} (l : List A) (i : ℕ) (vs ws : List A) → sets l i (vs ++ ws) ≡ sets (sets l i vs) (i + length vs) ws
@@ -41,6 +44,18 @@ unfolding run
 length-run g first step zero = refl
 length-run g first step (suc c) = ap suc (length-run g (first + step) step c)
 
+pub flatten-append : {A : Type 0} (xs ys : List (List A)) → flatten (xs ++ ys) ≡ flatten xs ++ flatten ys
+unfolding flatten
+flatten-append [] ys = refl
+flatten-append (x ∷ xs) ys = rw (flatten-append xs ys) (sym (append-assoc x (flatten xs) (flatten ys)))
+
+pub length-flatten-runs : (g : List Float) (first apart step count lines : ℕ) → length (flatten (runs g first apart step count lines)) ≡ lines * count
+unfolding flatten runs
+length-flatten-runs g first apart step count zero = omega arith
+length-flatten-runs g first apart step count (suc l) =
+    length-append (run g first step count) (flatten (runs g (first + apart) apart step count l))
+    ∙ omega (arith, length-run g first step count, length-flatten-runs g (first + apart) apart step count l, suc-mul l count)
+
 pub length-spaced : (first step count : ℕ) → length (spaced first step count) ≡ count
 unfolding spaced
 length-spaced first step zero = refl
@@ -48,24 +63,30 @@ length-spaced first step (suc c) = ap suc (length-spaced (first + step) step c)
 
 -- a turn of `draw_run`
 module _ (l : List Float) (at : ℕ) (g : List Float) (number step : ℕ) where
-  run-turn′ : (c : ℕ) {p : Vector} → p ≡ pointAt g number →
-      sets l at (coordinates (run g number step (suc c))) ≡ sets (set (set (set l at (p .x)) (at + 1) (p .y)) (at + 2) (p .z)) (at + 3) (coordinates (run g (number + step) step c))
+  run-turn′ : (c : ℕ) → sets l at (coordinates (run g number step (suc c))) ≡ sets (sets l at (coordinates (pointAt g number ∷ []))) (at + 3) (coordinates (run g (number + step) step c))
   unfolding run coordinates
-  run-turn′ c e =
-      let e1 : at + 1 ≡ suc at = omega arith in
-      let e2 : at + 2 ≡ suc (suc at) = omega arith in
-      let e3 : at + 3 ≡ suc (suc (suc at)) = omega arith in
-      rw (e, e1, e2, e3)
+  run-turn′ c = let e : at + 3 ≡ suc (suc (suc at)) = omega arith in rw e
 
-  pub run-turn : (left : ℕ) {p : Vector} → 0 < left → p ≡ pointAt g number →
-      sets l at (coordinates (run g number step left)) ≡ sets (set (set (set l at (p .x)) (at + 1) (p .y)) (at + 2) (p .z)) (at + 3) (coordinates (run g (number + step) step (left - 1)))
-  run-turn left h e =
+  pub run-turn : (left : ℕ) {p : Vector} {q : List Float} → 0 < left → p ≡ pointAt g number → q ≡ sets l at (coordinates (p ∷ [])) →
+      sets l at (coordinates (run g number step left)) ≡ sets q (at + 3) (coordinates (run g (number + step) step (left - 1)))
+  run-turn left h e f =
       let k : left ≡ suc (left - 1) = omega arith in
-      ap (λ (n : ℕ). sets l at (coordinates (run g number step n))) k ∙ run-turn′ (left - 1) e
+      ap (λ (n : ℕ). sets l at (coordinates (run g number step n))) k ∙ run-turn′ (left - 1) ∙ rw (f, e)
 
   pub run-done : (left : ℕ) → left ≤ 0 → sets l at (coordinates (run g number step left)) ≡ l
   unfolding run coordinates
   run-done left h = let e : left ≡ 0 = omega arith in rw e
+
+runs-add : (g : List Float) (apart step count k l first : ℕ) → runs g first apart step count (k + l) ≡ runs g first apart step count k ++ runs g (first + k * apart) apart step count l
+unfolding runs
+runs-add g apart step count zero l first =
+    let a : 0 + l ≡ l = omega arith in
+    let b : first + 0 * apart ≡ first = omega arith in
+    rw (a, b)
+runs-add g apart step count (suc k) l first =
+    let a : suc k + l ≡ suc (k + l) = omega arith in
+    let b : first + suc k * apart ≡ first + apart + k * apart = omega (arith, suc-mul k apart) in
+    rw (a, b, runs-add g apart step count k l (first + apart))
 
 -- a turn of `draw_runs`
 module _ (l : List Float) (at : ℕ) (g : List Float) (first apart step count : ℕ) where
@@ -84,6 +105,18 @@ module _ (l : List Float) (at : ℕ) (g : List Float) (first apart step count : 
       let k : left ≡ suc (left - 1) = omega arith in
       ap (λ (n : ℕ). sets l at (coordinates (flatten (runs g first apart step count n)))) k ∙ runs-turn′ (left - 1)
 
+  -- four runs and then those that are left
+  pub runs-four : (left : ℕ) → 4 ≤ left →
+      sets l at (coordinates (flatten (runs g first apart step count left)))
+      ≡ sets (sets l at (coordinates (flatten (runs g first apart step count 4)))) (at + 4 * (3 * count)) (coordinates (flatten (runs g (first + 4 * apart) apart step count (left - 4))))
+  runs-four left h =
+      let four : List (List Vector) = runs g first apart step count 4 in
+      let rest : List (List Vector) = runs g (first + 4 * apart) apart step count (left - 4) in
+      let k : left ≡ 4 + (left - 4) = omega arith in
+      let w : length (coordinates (flatten four)) ≡ 4 * (3 * count) = omega (arith, length-coordinates (flatten four), length-flatten-runs g first apart step count 4) in
+      ap (λ (n : ℕ). sets l at (coordinates (flatten (runs g first apart step count n)))) k
+      ∙ rw (runs-add g apart step count 4 (left - 4) first, flatten-append four rest, coordinates-append (flatten four) (flatten rest), sets-append l at (coordinates (flatten four)) (coordinates (flatten rest)), w)
+
   pub runs-done : (left : ℕ) → left ≤ 0 → sets l at (coordinates (flatten (runs g first apart step count left))) ≡ l
   unfolding runs flatten coordinates
   runs-done left h = let e : left ≡ 0 = omega arith in rw e
@@ -99,3 +132,72 @@ module _ (l : List ℕ) (at number step : ℕ) where
   pub spaced-done : (left : ℕ) → left ≤ 0 → sets l at (spaced number step left) ≡ l
   unfolding spaced
   spaced-done left h = let e : left ≡ 0 = omega arith in rw e
+
+-- Runs side by side
+
+-- stores in places before j do not touch j
+sets-set : {A : Type 0} (l : List A) (i j : ℕ) (vs : List A) (b : A) → i + length vs ≤ j → set (sets l i vs) j b ≡ sets (set l j b) i vs
+sets-set l i j [] b h = refl
+sets-set l i j (a ∷ vs) b h = sets-set (set l i a) (suc i) j vs b (omega arith) ∙ rw (set-comm l i j a b (λ e. omega arith))
+
+sets-sets : {A : Type 0} (l : List A) (i j : ℕ) (vs ws : List A) → i + length vs ≤ j → sets (sets l i vs) j ws ≡ sets (sets l j ws) i vs
+sets-sets l i j vs [] h = refl
+sets-sets l i j vs (b ∷ ws) h = rw (sets-set l i j vs b h) (sets-sets (set l j b) i (suc j) vs ws (omega arith))
+
+module _ (g : List Float) (apart step width : ℕ) where
+  -- k runs of count points, each a width after the one before it
+  unfoldable pub lanes : ℕ → ℕ → List Float → ℕ → ℕ → List Float
+  lanes count zero l at number = l
+  lanes count (suc k) l at number = lanes count k (sets l at (coordinates (run g number step count))) (at + width) (number + apart)
+
+  -- the first point of each of k runs
+  heads : ℕ → List Float → ℕ → ℕ → List Float
+  heads zero l at number = l
+  heads (suc k) l at number = heads k (sets l at (coordinates (pointAt g number ∷ []))) (at + width) (number + apart)
+
+  heads-sets : (k : ℕ) (l : List Float) (at number i : ℕ) (vs : List Float) → i + length vs ≤ at → heads k (sets l i vs) at number ≡ sets (heads k l at number) i vs
+  unfolding heads
+  heads-sets zero l at number i vs h = refl
+  heads-sets (suc k) l at number i vs h =
+      rw (sets-sets l i at vs (coordinates (pointAt g number ∷ [])) h) (heads-sets k (sets l at (coordinates (pointAt g number ∷ []))) (at + width) (number + apart) i vs (omega arith))
+
+  -- one turn of them all: their first points, and then the runs that are left
+  lanes-turn′ : (c k : ℕ) (l : List Float) (at number : ℕ) → 3 * suc c ≤ width → lanes (suc c) k l at number ≡ lanes c k (heads k l at number) (at + 3) (number + step)
+  unfolding lanes heads
+  lanes-turn′ c zero l at number h = refl
+  lanes-turn′ c (suc k) l at number h =
+      let p : List Float = sets l at (coordinates (pointAt g number ∷ [])) in
+      let rest : List Float = coordinates (run g (number + step) step c) in
+      let w : at + 3 + length rest ≤ at + width = omega (arith, length-coordinates (run g (number + step) step c), length-run g (number + step) step c) in
+      let a : at + width + 3 ≡ at + 3 + width = omega arith in
+      let b : number + apart + step ≡ number + step + apart = omega arith in
+      ap (λ (q : List Float). lanes (suc c) k q (at + width) (number + apart)) (run-turn′ l at g number step c)
+      ∙ lanes-turn′ c k (sets p (at + 3) rest) (at + width) (number + apart) h
+      ∙ rw (heads-sets k p (at + width) (number + apart) (at + 3) rest w, a, b)
+
+  lanes-turn : (left k : ℕ) (l : List Float) (at number : ℕ) → 0 < left → 3 * left ≤ width → lanes left k l at number ≡ lanes (left - 1) k (heads k l at number) (at + 3) (number + step)
+  lanes-turn left k l at number h w =
+      let e : left ≡ suc (left - 1) = omega arith in
+      ap (λ (c : ℕ). lanes c k l at number) e ∙ lanes-turn′ (left - 1) k l at number (omega arith)
+
+  pub lanes-done : (left k : ℕ) (l : List Float) (at number : ℕ) → left ≤ 0 → lanes left k l at number ≡ l
+  unfolding lanes run coordinates
+  lanes-done left zero l at number h = refl
+  lanes-done left (suc k) l at number h = let e : left ≡ 0 = omega arith in rw e (lanes-done 0 k l (at + width) (number + apart) (omega arith))
+
+  -- where the width is that of the runs, they follow each other
+  pub lanes-runs : (count k : ℕ) (l : List Float) (at number : ℕ) → 3 * count ≡ width → lanes count k l at number ≡ sets l at (coordinates (flatten (runs g number apart step count k)))
+  unfolding lanes
+  lanes-runs count zero l at number e = sym (runs-done l at g number apart step count 0 (omega arith))
+  lanes-runs count (suc k) l at number e =
+      lanes-runs count k (sets l at (coordinates (run g number step count))) (at + width) (number + apart) e ∙ sym (rw e at (runs-turn′ l at g number apart step count k))
+
+  -- a turn of `draw_four`
+  pub four-turn : (left : ℕ) (l : List Float) (at number : ℕ) → 0 < left → 3 * left ≤ width → {p q r s : List Float} {a b c d : Vector} →
+      a ≡ pointAt g number → p ≡ sets l at (coordinates (a ∷ [])) →
+      b ≡ pointAt g (number + apart) → q ≡ sets p (at + width) (coordinates (b ∷ [])) →
+      c ≡ pointAt g (number + apart + apart) → r ≡ sets q (at + width + width) (coordinates (c ∷ [])) →
+      d ≡ pointAt g (number + apart + apart + apart) → s ≡ sets r (at + width + width + width) (coordinates (d ∷ [])) →
+      lanes left 4 l at number ≡ lanes (left - 1) 4 s (at + 3) (number + step)
+  unfolding heads
+  four-turn left l at number h w ea ep eb eq ec er ed es = lanes-turn left 4 l at number h w ∙ rw (es, er, eq, ep, ea, eb, ec, ed)

@@ -1,13 +1,24 @@
 // What `grid_paths` writes. A grid line is a run: points whose numbers are `step` apart. The lines of one kind are runs of
 // `count` points each whose first numbers are `apart` apart, so that u and v share the loops.
+use vector::Vector;
 ghost use mathlib.Core.Path.{_≡_};
 ghost use Prim.Native.Nat.{_+_, _*_, _≤_};
-ghost use mathlib.Core.List.{_++_, flatten};
+ghost use mathlib.Core.List.{[], _∷_, _++_, flatten};
 ghost use lib.ListN.{length};
 ghost use lib.Seq.{sets};
 ghost use Rattle.lent.specs.Lent.{zeroFloat, filled};
 ghost use Rattle.path.specs.GridPaths.{gridLines, coordinates};
 ghost use Rattle.path.specs.Runs.{run, runs, spaced};
+
+// A point's coordinates, into `points` from place `at` on.
+fn put(points: &mut [f64], at: usize, p: Vector)
+    requires { ⌜ at + 3 ≤ length (now points) ⌝ }
+    ensures { λ _. ⌜ now (points .exit) ≡ sets (now (points .entry)) at (coordinates (p ∷ [])) ⌝ }
+{
+    points[at] = p.x;
+    points[at + 1] = p.y;
+    points[at + 2] = p.z;
+}
 
 // One run, into `points` from place `at` on.
 fn draw_run(grid: &[f64], first: usize, step: usize, count: usize, points: &mut [f64], at: usize)
@@ -18,10 +29,42 @@ fn draw_run(grid: &[f64], first: usize, step: usize, count: usize, points: &mut 
     let mut place = at;
     let mut left = count;
     while 0 < left {
-        let p = grid::point_at(grid, number);
-        points[place] = p.x;
-        points[place + 1] = p.y;
-        points[place + 2] = p.z;
+        put(points, place, grid::point_at(grid, number));
+        number += step;
+        place += 3;
+        left -= 1;
+    }
+}
+
+// Four runs side by side, into `points` from place `at` on: neighbouring points are read while they are in the cache.
+fn draw_four(
+    grid: &[f64],
+    first: usize,
+    apart: usize,
+    step: usize,
+    count: usize,
+    points: &mut [f64],
+    at: usize,
+)
+    requires { ⌜ (3 * (first + 3 * apart + count * step) + 3 ≤ length (now grid) + 3 * step) × (step ≤ 256) × (apart ≤ 256)
+        × (at + 4 * (3 * count) ≤ length (now points)) ⌝ }
+    ensures { λ _. ⌜ now (points .exit) ≡ sets (now (points .entry)) at (coordinates (flatten (runs (now (grid .entry)) first apart step count 4))) ⌝ }
+{
+    let width = 3 * count;
+    let mut number = first;
+    let mut place = at;
+    let mut left = count;
+    while 0 < left {
+        let number1 = number + apart;
+        let number2 = number1 + apart;
+        let number3 = number2 + apart;
+        let place1 = place + width;
+        let place2 = place1 + width;
+        let place3 = place2 + width;
+        put(points, place, grid::point_at(grid, number));
+        put(points, place1, grid::point_at(grid, number1));
+        put(points, place2, grid::point_at(grid, number2));
+        put(points, place3, grid::point_at(grid, number3));
         number += step;
         place += 3;
         left -= 1;
@@ -39,16 +82,23 @@ fn draw_runs(
     at: usize,
 )
     requires { ⌜ (3 * (lines * apart + count * step) + 3 ≤ length (now grid) + 3 * step + 3 * apart) × (step ≤ 256) × (apart ≤ 256)
-        × (at + lines * (3 * count) ≤ length (now points)) ⌝ }
+        × (count ≤ 256) × (at + lines * (3 * count) ≤ length (now points)) ⌝ }
     ensures { λ _. ⌜ now (points .exit) ≡ sets (now (points .entry)) at (coordinates (flatten (runs (now (grid .entry)) 0 apart step count lines))) ⌝ }
 {
+    let width = 3 * count;
     let mut first: usize = 0;
     let mut place = at;
     let mut left = lines;
+    while 4 <= left {
+        draw_four(grid, first, apart, step, count, points, place);
+        first += 4 * apart;
+        place += 4 * width;
+        left -= 4;
+    }
     while 0 < left {
         draw_run(grid, first, step, count, points, place);
         first += apart;
-        place += 3 * count;
+        place += width;
         left -= 1;
     }
 }

@@ -2,7 +2,7 @@
 use Prim.Native.Nat.{_+_, _*_}
 use mathlib.Core.Path.{_≡_, refl, sym, _∙_}
 use native.Mathlib.Omega.{arith}
-use lib.ListN.{length, length-set}
+use lib.ListN.{length}
 use lib.Seq.{sets}
 use Rattle.path.specs.GridPaths.{coordinates}
 use Rattle.path.specs.Runs.{run}
@@ -23,37 +23,20 @@ loop-holds c = (refl, refl, refl, refl)
 
 point-at-requires : tie.Need-point-at-requires Inv-loop μ-loop
 point-at-requires c κs =
-    let l = c .before .loop in
-    omega (arith, one-less (l .left) (c .before .before .before .before .args .step) (c .loop-test .taken))
+    let t = c .before in
+    let l = t .before .loop in
+    let a = t .before .before .before .before .args in
+    omega (arith, one-less (l .left) (a .step) (t .loop-test .taken))
 
-mul-points : tie.Need-mul-points Inv-loop μ-loop
-mul-points c = omega arith
-
-slice-write-points : tie.Need-slice-write-points Inv-loop μ-loop
-slice-write-points c = omega arith
-
-add-points : tie.Need-add-points Inv-loop μ-loop
-add-points c = omega arith
-
-mul-points-2 : tie.Need-mul-points-2 Inv-loop μ-loop
-mul-points-2 c = omega arith
-
-slice-write-points-2 : tie.Need-slice-write-points-2 Inv-loop μ-loop
-slice-write-points-2 c = simp length-set (omega arith)
-
-add-points-2 : tie.Need-add-points-2 Inv-loop μ-loop
-add-points-2 c = omega arith
-
-mul-points-3 : tie.Need-mul-points-3 Inv-loop μ-loop
-mul-points-3 c = omega arith
-
-slice-write-points-3 : tie.Need-slice-write-points-3 Inv-loop μ-loop
-slice-write-points-3 c = simp length-set (omega arith)
+put-requires : tie.Need-put-requires Inv-loop μ-loop
+put-requires c κs = omega arith
 
 add-number : tie.Need-add-number Inv-loop μ-loop
 add-number c =
-    let l = c .before .before .loop in
-    omega (arith, one-less (l .left) (c .before .before .before .before .before .args .step) (c .before .loop-test .taken))
+    let t = c .before .before .before .before .before in
+    let l = t .before .loop in
+    let a = t .before .before .before .before .args in
+    omega (arith, one-less (l .left) (a .step) (t .loop-test .taken))
 
 add-place : tie.Need-add-place Inv-loop μ-loop
 add-place c = omega arith
@@ -66,12 +49,14 @@ loop-less c = omega arith
 
 loop-again : tie.Need-loop-again Inv-loop μ-loop
 loop-again c =
-    let l = c .before .before .loop in
-    let a = c .before .before .before .before .before .args in (
-      simp length-set (l .inv .0),
-      omega (arith, one-less (l .left) (a .step) (c .before .loop-test .taken)),
+    let u = c .before .before in
+    let t = u .before .before .before in
+    let l = t .before .loop in
+    let a = t .before .before .before .before .args in (
       omega arith,
-      l .inv .3 ∙ run-turn _ _ _ _ _ (l .left) (c .before .loop-test .taken) (c .point-at .ensures),
+      omega (arith, one-less (l .left) (a .step) (t .loop-test .taken)),
+      omega arith,
+      l .inv .3 ∙ run-turn _ _ _ _ _ (l .left) (t .loop-test .taken) (u .before .point-at .ensures) (u .put .ensures),
     )
 
 same-length : tie.Need-same-length Inv-loop μ-loop
@@ -88,14 +73,7 @@ draw-run-spec =
     μ-loop
     loop-holds
     point-at-requires
-    mul-points
-    slice-write-points
-    add-points
-    mul-points-2
-    slice-write-points-2
-    add-points-2
-    mul-points-3
-    slice-write-points-3
+    put-requires
     add-number
     add-place
     sub-left

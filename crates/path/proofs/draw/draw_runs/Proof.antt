@@ -7,72 +7,128 @@ use lib.ListN.{length}
 use lib.Seq.{sets}
 use Rattle.path.specs.GridPaths.{coordinates}
 use Rattle.path.specs.Runs.{runs}
-use Rattle.path.proofs.Stores.{one-less, runs-turn, runs-done}
+use Rattle.path.proofs.Stores.{fewer, one-less, runs-four, runs-turn, runs-done}
 use Rattle.path.proofs.draw.draw_runs.Statement.{statement}
 use Rattle.path.proofs.draw.draw_runs.Tie as tie
 
 abbrev Inv-loop : tie.InvT-loop
-Inv-loop grid lines apart step count points₀ at first₀ place₀ left₀ points first place left =
+Inv-loop grid lines apart step count points₀ at width first₀ place₀ left₀ points first place left =
     (length points ≡ length points₀) × (first + left * apart ≡ lines * apart) × (place + left * (3 * count) ≡ at + lines * (3 * count))
     × (sets points₀ at (coordinates (flatten (runs grid 0 apart step count lines))) ≡ sets points place (coordinates (flatten (runs grid first apart step count left))))
 
 abbrev μ-loop : tie.MeasureT-loop
-μ-loop grid lines apart step count points₀ at first₀ place₀ left₀ points first place left = left
+μ-loop grid lines apart step count points₀ at width first₀ place₀ left₀ points first place left = left
 
-loop-holds : tie.Need-loop-holds Inv-loop μ-loop
+abbrev Inv-loop2 : tie.InvT-loop2
+Inv-loop2 grid lines apart step count points₀ at width first₀ place₀ left₀ points first place left =
+    (length points ≡ length points₀) × (first + left * apart ≡ lines * apart) × (place + left * (3 * count) ≡ at + lines * (3 * count))
+    × (sets points₀ place₀ (coordinates (flatten (runs grid first₀ apart step count left₀))) ≡ sets points place (coordinates (flatten (runs grid first apart step count left))))
+
+abbrev μ-loop2 : tie.MeasureT-loop2
+μ-loop2 grid lines apart step count points₀ at width first₀ place₀ left₀ points first place left = left
+
+mul-width : tie.Need-mul-width Inv-loop μ-loop Inv-loop2 μ-loop2
+mul-width c = omega arith
+
+loop-holds : tie.Need-loop-holds Inv-loop μ-loop Inv-loop2 μ-loop2
 loop-holds c = (refl, omega arith, refl, refl)
 
-draw-run-requires : tie.Need-draw-run-requires Inv-loop μ-loop
-draw-run-requires c κs =
+draw-four-requires : tie.Need-draw-four-requires Inv-loop μ-loop Inv-loop2 μ-loop2
+draw-four-requires c κs =
     let t = c .before in
     let l = t .before .loop in
     let a = t .before .before .before .before .args in
-    omega (arith, one-less (l .left) (a .apart) (t .loop-test .taken), one-less (l .left) (3 * a .count) (t .loop-test .taken))
+    omega (arith, fewer 4 (l .left) (a .apart) (t .loop-test .taken), fewer 4 (l .left) (3 * a .count) (t .loop-test .taken))
 
-add-first : tie.Need-add-first Inv-loop μ-loop
+mul-first : tie.Need-mul-first Inv-loop μ-loop Inv-loop2 μ-loop2
+mul-first c = omega arith
+
+add-first : tie.Need-add-first Inv-loop μ-loop Inv-loop2 μ-loop2
 add-first c =
     let t = c .before .before .before .before in
     let l = t .before .loop in
     let a = t .before .before .before .before .args in
-    omega (arith, one-less (l .left) (a .apart) (t .loop-test .taken))
+    omega (arith, fewer 4 (l .left) (a .apart) (t .loop-test .taken), fewer 4 (l .left) (3 * a .count) (t .loop-test .taken))
 
-mul-place : tie.Need-mul-place Inv-loop μ-loop
+mul-place : tie.Need-mul-place Inv-loop μ-loop Inv-loop2 μ-loop2
 mul-place c =
     let t = c .before .before .before .before in
     let l = t .before .loop in
     let a = t .before .before .before .before .args in
-    omega (arith, one-less (l .left) (3 * a .count) (t .loop-test .taken))
+    omega (arith, fewer 4 (l .left) (a .apart) (t .loop-test .taken), fewer 4 (l .left) (3 * a .count) (t .loop-test .taken))
 
-add-place : tie.Need-add-place Inv-loop μ-loop
+add-place : tie.Need-add-place Inv-loop μ-loop Inv-loop2 μ-loop2
 add-place c =
     let t = c .before .before .before .before in
     let l = t .before .loop in
     let a = t .before .before .before .before .args in
-    omega (arith, one-less (l .left) (3 * a .count) (t .loop-test .taken))
+    omega (arith, fewer 4 (l .left) (a .apart) (t .loop-test .taken), fewer 4 (l .left) (3 * a .count) (t .loop-test .taken))
 
-sub-left : tie.Need-sub-left Inv-loop μ-loop
-sub-left c = omega arith
-
-loop-less : tie.Need-loop-less Inv-loop μ-loop
+loop-less : tie.Need-loop-less Inv-loop μ-loop Inv-loop2 μ-loop2
 loop-less c = omega arith
 
-loop-again : tie.Need-loop-again Inv-loop μ-loop
+loop-again : tie.Need-loop-again Inv-loop μ-loop Inv-loop2 μ-loop2
 loop-again c =
-    let t = c .before .before .before .before in
+    let d = c .before .before in
+    let t = d .before .before in
     let l = t .before .loop in
-    let a = t .before .before .before .before .args in
-    let e = c .before .before .draw-run .ensures in (
+    let a = t .before .before .before .before .args in (
       omega arith,
-      omega (arith, one-less (l .left) (a .apart) (t .loop-test .taken)),
-      omega (arith, one-less (l .left) (3 * a .count) (t .loop-test .taken)),
-      l .inv .3 ∙ runs-turn _ _ _ _ _ _ _ (l .left) (t .loop-test .taken) ∙ rw (sym e),
+      omega (arith, fewer 4 (l .left) (a .apart) (t .loop-test .taken)),
+      omega (arith, fewer 4 (l .left) (3 * a .count) (t .loop-test .taken)),
+      l .inv .3 ∙ runs-four _ _ _ _ _ _ _ (l .left) (t .loop-test .taken) ∙ rw (sym (d .draw-four .ensures)),
     )
 
-same-length : tie.Need-same-length Inv-loop μ-loop
-same-length c = c .before .loop .inv .0
+loop2-holds : tie.Need-loop2-holds Inv-loop μ-loop Inv-loop2 μ-loop2
+loop2-holds c = let l = c .before .loop in (refl, l .inv .1, l .inv .2, refl)
 
-returns : tie.Need-returns Inv-loop μ-loop
-returns c = let l = c .before .loop in sym (l .inv .3 ∙ runs-done _ _ _ _ _ _ _ (l .left) (c .loop-test .left))
+draw-run-requires : tie.Need-draw-run-requires Inv-loop μ-loop Inv-loop2 μ-loop2
+draw-run-requires c κs =
+    let t = c .before in
+    let l = t .before .loop2 in
+    let a = t .before .before .before .before .before .before .args in
+    omega (arith, one-less (l .left) (a .apart) (t .loop2-test .taken), one-less (l .left) (3 * a .count) (t .loop2-test .taken), t)
+
+add-first-2 : tie.Need-add-first-2 Inv-loop μ-loop Inv-loop2 μ-loop2
+add-first-2 c =
+    let t = c .before .before .before .before in
+    let l = t .before .loop2 in
+    let a = t .before .before .before .before .before .before .args in
+    omega (arith, one-less (l .left) (a .apart) (t .loop2-test .taken), one-less (l .left) (3 * a .count) (t .loop2-test .taken), t)
+
+add-place-2 : tie.Need-add-place-2 Inv-loop μ-loop Inv-loop2 μ-loop2
+add-place-2 c =
+    let t = c .before .before .before .before in
+    let l = t .before .loop2 in
+    let a = t .before .before .before .before .before .before .args in
+    omega (arith, one-less (l .left) (a .apart) (t .loop2-test .taken), one-less (l .left) (3 * a .count) (t .loop2-test .taken), t)
+
+sub-left : tie.Need-sub-left Inv-loop μ-loop Inv-loop2 μ-loop2
+sub-left c = omega arith
+
+loop2-less : tie.Need-loop2-less Inv-loop μ-loop Inv-loop2 μ-loop2
+loop2-less c = omega arith
+
+loop2-again : tie.Need-loop2-again Inv-loop μ-loop Inv-loop2 μ-loop2
+loop2-again c =
+    let d = c .before .before in
+    let t = d .before .before in
+    let l = t .before .loop2 in
+    let a = t .before .before .before .before .before .before .args in (
+      omega arith,
+      omega (arith, one-less (l .left) (a .apart) (t .loop2-test .taken)),
+      omega (arith, one-less (l .left) (3 * a .count) (t .loop2-test .taken)),
+      l .inv .3 ∙ runs-turn _ _ _ _ _ _ _ (l .left) (t .loop2-test .taken) ∙ rw (sym (d .draw-run .ensures)),
+    )
+
+same-length : tie.Need-same-length Inv-loop μ-loop Inv-loop2 μ-loop2
+same-length c = omega arith
+
+returns : tie.Need-returns Inv-loop μ-loop Inv-loop2 μ-loop2
+returns c =
+    let l = c .before .loop2 in
+    let k = c .before .before .before .loop in
+    sym (k .inv .3 ∙ l .inv .3 ∙ runs-done _ _ _ _ _ _ _ (l .left) (c .loop2-test .left))
 
 pub draw-runs-spec : {M : Type 1} → statement M
 draw-runs-spec =
@@ -80,13 +136,23 @@ draw-runs-spec =
     (tie.spec
     Inv-loop
     μ-loop
+    Inv-loop2
+    μ-loop2
+    mul-width
     loop-holds
-    draw-run-requires
+    draw-four-requires
+    mul-first
     add-first
     mul-place
     add-place
-    sub-left
     loop-less
     loop-again
+    loop2-holds
+    draw-run-requires
+    add-first-2
+    add-place-2
+    sub-left
+    loop2-less
+    loop2-again
     same-length
     returns)
