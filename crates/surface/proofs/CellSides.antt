@@ -20,6 +20,10 @@ abbrev pub shift : Bool → ℕ → ℕ
 shift false n = n
 shift true n = n + 1
 
+pub shift-le : (t : Bool) (n : ℕ) → shift t n ≤ n + 1
+shift-le false n = omega arith
+shift-le true n = omega arith
+
 -- the corner of cell (x, y) that is i columns and j rows on
 abbrev pub corners : Strip → ℕ → ℕ → Bool → Bool → ℕ
 corners S x y i j = pointOf S (shift i x) (shift j y)

@@ -46,6 +46,8 @@ module _ (s : Shape) (m : 3 ≤ s .M) (n : 3 ≤ s .N) (ax : Axis) (seen : SeenA
   abbrev yAt : ℕ → ℕ
   yAt i = yOf ax (uAt s i) (vAt s i)
 
+  -- ---- every slot emits its triangle, so triangle i is slot i
+
   u-lt : (i : ℕ) → i < slots s → uAt s i < s .M
   u-lt i h = uAt-lt s i (omega arith) h
 
@@ -137,8 +139,9 @@ module _ (s : Shape) (m : 3 ≤ s .M) (n : 3 ≤ s .N) (ax : Axis) (seen : SeenA
 
   -- ---- sides
 
-  once-case : (a b i : ℕ) → Owns (triangles s) a b i → ((h′ : Bool) (x′ y′ : ℕ) → Hold h′ x′ y′ a b → SameTri Z (halfAt i) (xAt i) (yAt i) h′ x′ y′) → OwnedOnce (triangles s) a b
-  once-case a b i o f =
+  -- on a rim: whoever has the side is triangle i
+  owned-once : (a b i : ℕ) → Owns (triangles s) a b i → ((h′ : Bool) (x′ y′ : ℕ) → Hold h′ x′ y′ a b → SameTri Z (halfAt i) (xAt i) (yAt i) h′ x′ y′) → OwnedOnce (triangles s) a b
+  owned-once a b i o f =
       record {
         first = i;
         owns = o;
@@ -146,8 +149,9 @@ module _ (s : Shape) (m : 3 ≤ s .M) (n : 3 ≤ s .N) (ax : Axis) (seen : SeenA
             is-indexOf k (halfAt i) (xAt i) (yAt i) (e .0) (e .1) (e .2) ∙ indexOf-at i;
       }
 
-  twice-case : (a b i : ℕ) → Owns (triangles s) a b i → Other Z (halfAt i) (xAt i) (yAt i) a b → OwnedTwice (triangles s) a b
-  twice-case a b i o t = ⊎-elim (λ h. in-order h) (λ h. out-of-order h) (lt-or-le i j)
+  -- elsewhere: whoever has it is triangle i or triangle j
+  owned-twice : (a b i : ℕ) → Owns (triangles s) a b i → Other Z (halfAt i) (xAt i) (yAt i) a b → OwnedTwice (triangles s) a b
+  owned-twice a b i o t = ⊎-elim (λ h. in-order h) (λ h. out-of-order h) (lt-or-le i j)
     where
       j : ℕ
       j = indexOf (t .h₂) (t .x₂) (t .y₂)
@@ -174,15 +178,16 @@ module _ (s : Shape) (m : 3 ≤ s .M) (n : 3 ≤ s .N) (ax : Axis) (seen : SeenA
       out-of-order : j ≤ i → OwnedTwice (triangles s) a b
       out-of-order h = record { first = j; second = i; apart = omega (arith, differ); owns-first = o₂; owns-second = o; only = λ k q. ⊎-elim (λ e. inr e) (λ e. inl e) (either k q) }
 
-  side-case : (a b i : ℕ) → Owns (triangles s) a b i → (Rim s a b × OwnedOnce (triangles s) a b) ⊎ ((Rim s a b → ⊥) × OwnedTwice (triangles s) a b)
-  side-case a b i o =
+  sides : (a b i : ℕ) → Owns (triangles s) a b i → (Rim s a b × OwnedOnce (triangles s) a b) ⊎ ((Rim s a b → ⊥) × OwnedTwice (triangles s) a b)
+  sides a b i o =
       ⊎-elim
-      (λ w. inl (seen-rim s m n ax seen a b (w .0), once-case a b i o (w .1)))
-      (λ w. inr (λ r. w .0 (rim-seen s m n ax seen a b r), twice-case a b i o (w .1)))
+      (λ w. inl (seen-rim s m n ax seen a b (w .0), owned-once a b i o (w .1)))
+      (λ w. inr (λ r. w .0 (rim-seen s m n ax seen a b r), owned-twice a b i o (w .1)))
       (owned Z (halfAt i) (xAt i) (yAt i) a b (owns-holds a b i o))
 
-  edge-case : (u v u′ v′ : ℕ) → GridEdge s u v u′ v′ → (i : ℕ) × Owns (triangles s) (J s u v) (J s u′ v′) i
-  edge-case u v u′ v′ g =
+  -- each grid edge is a side of a cell, and so of one of its halves
+  edges : (u v u′ v′ : ℕ) → GridEdge s u v u′ v′ → (i : ℕ) × Owns (triangles s) (J s u v) (J s u′ v′) i
+  edges u v u′ v′ g =
       let e = edge-seen s m n ax seen u v u′ v′ g in
       let h = Z .half (e .k) (e .t) in
       let p : Hold h (e .x) (e .y) (J s u v) (J s u′ v′) = record { k = e .k; t = e .t; cell = e .cell; on = refl; ends = e .ends } in
@@ -190,8 +195,8 @@ module _ (s : Shape) (m : 3 ≤ s .M) (n : 3 ≤ s .N) (ax : Axis) (seen : SeenA
 
   -- ---- flipped pairs
 
-  abbrev TurnW : Bool → ℕ → ℕ → Bool → ℕ → ℕ → Type 0
-  TurnW = Turn Z
+  abbrev TurnAt : Bool → ℕ → ℕ → Bool → ℕ → ℕ → Type 0
+  TurnAt = Turn Z
 
   abbrev on : ℕ → ℕ
   on y = laidOn (Z .seam) (Z .Y) y
@@ -245,22 +250,24 @@ module _ (s : Shape) (m : 3 ≤ s .M) (n : 3 ≤ s .N) (ax : Axis) (seen : SeenA
   flipped-none e = flipped-seen s ax (seen .plain) ∙ ap (λ (t : Bool). pick t (process s (Z .seam) (Z .Y) (lows ax s) (highs ax s) (Z .Y) []) []) e
 
   -- the two triangles at a turn, by their numbers
-  turn-low : (i j : ℕ) → TurnW (halfAt i) (xAt i) (yAt i) (halfAt j) (xAt j) (yAt j) → i ≡ lows ax s (on (yAt j))
+  turn-low : (i j : ℕ) → TurnAt (halfAt i) (xAt i) (yAt i) (halfAt j) (xAt j) (yAt j) → i ≡ lows ax s (on (yAt j))
   unfolding low-half
   turn-low i j t = is-indexOf i low-half 0 (on (yAt j)) (t .low-half) (t .low-x) (t .low-y) ∙ sym (low-is (on (yAt j)) (on-lt (yAt j) (t .below)))
 
-  turn-high : (i j : ℕ) → TurnW (halfAt i) (xAt i) (yAt i) (halfAt j) (xAt j) (yAt j) → j ≡ highs ax s (yAt j)
+  turn-high : (i j : ℕ) → TurnAt (halfAt i) (xAt i) (yAt i) (halfAt j) (xAt j) (yAt j) → j ≡ highs ax s (yAt j)
   unfolding high-half
   turn-high i j t = is-indexOf j high-half (xAt j) (yAt j) (t .high-half) refl refl ∙ sym (high-is (xAt j) (yAt j) (t .high-x) (t .below))
 
-  listed : (i j : ℕ) → TurnW (halfAt i) (xAt i) (yAt i) (halfAt j) (xAt j) (yAt j) → List·Memᴰ (ordered i j) (flipped s)
+  -- the pair of a turn is in the list
+  listed : (i j : ℕ) → TurnAt (halfAt i) (xAt i) (yAt i) (halfAt j) (xAt j) (yAt j) → List·Memᴰ (ordered i j) (flipped s)
   listed i j t =
       mem-in (sym (flipped-reversed (t .rev)))
       (Memᴰ·cast (cc (turn-low i j t, turn-high i j t))
       (process-from s (Z .seam) (Z .Y) (lows ax s) (highs ax s) on (λ y h. reversed-step (Z .seam) (Z .closed) (Z .Y) y (Z .Y≥3) (Z .fits) (t .rev) h) on-lt low-ok high-ok (Z .Y) (omega arith) (yAt j) (t .below)))
 
-  flip-case : (i j : ℕ) → i < j → SameWay (triangles s) i j → List·Memᴰ (pair i j) (flipped s)
-  flip-case i j h w =
+  -- two triangles that run the same way are at a turn, and so a listed pair
+  way-flipped : (i j : ℕ) → i < j → SameWay (triangles s) i j → List·Memᴰ (pair i j) (flipped s)
+  way-flipped i j h w =
       ⊎-elim
       (λ t. Memᴰ·cast (pair-eq (pair i j) (ordered i j) (omega arith) (omega arith)) (listed i j t))
       (λ t. Memᴰ·cast (pair-eq (pair i j) (ordered j i) (omega arith) (omega arith)) (listed j i t))
@@ -272,10 +279,11 @@ module _ (s : Shape) (m : 3 ≤ s .M) (n : 3 ≤ s .N) (ax : Axis) (seen : SeenA
   way-swap : (i j : ℕ) → SameWay (triangles s) i j → SameWay (triangles s) j i
   way-swap i j w = record { there-i = w .there-j; there-j = w .there-i; a = w .a; b = w .b; along-i = w .along-j; along-j = w .along-i }
 
+  -- and what is listed for step y of the last column is a turn
   shared-way : (y : ℕ) → y < Z .Y → reversed (Z .seam) ≡ true → SameWay (triangles s) (indexOf low-half 0 (on y)) (indexOf high-half far y)
   unfolding low-half high-half
   shared-way y h e =
-      let t : TurnW low-half 0 (on y) high-half far y = record { rev = e; below = h; low-half = refl; low-x = refl; low-y = refl; high-half = refl; high-x = far-is } in
+      let t : TurnAt low-half 0 (on y) high-half far y = record { rev = e; below = h; low-half = refl; low-x = refl; low-y = refl; high-half = refl; high-x = far-is } in
       let r = turn-shared Z low-half high-half 0 (on y) far y t in
       let cl = low-cell (on y) (on-lt y h) in
       let ch = high-cell y h in
@@ -310,8 +318,8 @@ module _ (s : Shape) (m : 3 ≤ s .M) (n : 3 ≤ s .N) (ax : Axis) (seen : SeenA
       at : (a b c d : ℕ) → a ≡ c → b ≡ d → SameWay (triangles s) c d → SameWay (triangles s) a b
       at a b c d p q w = rw (p, q) w
 
-  flop-case : (p : Pair) → List·Memᴰ p (flipped s) → (p .low < p .high) × SameWay (triangles s) (p .low) (p .high)
-  flop-case p q = go (reversed (Z .seam)) refl
+  flipped-way : (p : Pair) → List·Memᴰ p (flipped s) → (p .low < p .high) × SameWay (triangles s) (p .low) (p .high)
+  flipped-way p q = go (reversed (Z .seam)) refl
     where
       go : (t : Bool) → reversed (Z .seam) ≡ t → (p .low < p .high) × SameWay (triangles s) (p .low) (p .high)
       go false e = absurd (List·Memᴰ·not-nil (mem-in (flipped-none e) q))
@@ -322,7 +330,7 @@ module _ (s : Shape) (m : 3 ≤ s .M) (n : 3 ≤ s .N) (ax : Axis) (seen : SeenA
           ordered-way p (indexOf low-half 0 (on y)) (indexOf high-half far y) f (turn-apart y (t .1)) (shared-way y (t .1) e)
 
   pub meets : Meets s
-  meets = record { sides = side-case; flipped-if = flip-case; flipped-only-if = flop-case; edges = edge-case }
+  meets = record { sides = sides; flipped-if = way-flipped; flipped-only-if = flipped-way; edges = edges }
 
 pub demand3 : Demand3
 demand3 s m n c = let w = covered-along s c in meets s m n (w .0) (w .1)

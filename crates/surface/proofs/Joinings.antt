@@ -12,33 +12,39 @@ use Rattle.cyclic.specs.declared.mapping.CyclicMapping.{CyclicMapping}
 use Rattle.cyclic.specs.declared.mapping.CyclicMapping.the-variants.{Forward, Reverse}
 use Rattle.cyclic.specs.declared.seam.Seam.{Seam}
 use Rattle.cyclic.specs.declared.seam.Seam.the-variants.{Joined, Unjoined}
-use Rattle.cyclic.specs.Mapping.{offsetOf}
+use Rattle.cyclic.specs.Mapping.{stepsOf, offsetOf}
+use Rattle.cyclic.specs.Mapping as mapping
 use Rattle.cyclic.specs.Search.{Row, rowOf, Closeness, searchRows}
-use Rattle.cyclic.proofs.Laws.{found-below}
-use Rattle.surface.specs.Surface.{forward, Covered, neither, only-u, only-v, both-u, both-v, Meets, triangles, Owns, EdgeNumbers, Jₙ}
+use Rattle.cyclic.proofs.Laws.{found-steps, found-below}
+use Rattle.surface.specs.Surface.{forward, inverse, Covered, neither, only-u, only-v, both-u, both-v, Meets, triangles, Owns, EdgeNumbers, Jₙ}
 use Rattle.surface.specs.Found.{uSearch, vSearch, ofMapping, surfaceWith, surfaceOf, ForwardAtZero, CoveredJoining, CoveredGrid, SurfaceMeets}
 use Rattle.surface.proofs.Searches.{u-search, v-search}
 use Rattle.surface.proofs.Demand.{demand3, traced}
 
 -- ---- what a search finds
 
--- a mapping's offset is below the steps of the row; None has none
-abbrev pub OffsetBelow : ℕ → Seam → Type 0
-OffsetBelow steps Unjoined = Unit {0}
-OffsetBelow steps (Joined k) = offsetOf k < steps
+-- a mapping has its row's steps, and an offset below them; None is as it is
+abbrev pub OfRow : ℕ → Seam → Type 0
+OfRow steps Unjoined = Unit {0}
+OfRow steps (Joined k) = (stepsOf k ≡ steps) × (offsetOf k < steps)
 
-found-offset : (close : Closeness) (a b : Row) (steps : ℕ) → 1 ≤ steps → OffsetBelow steps (searchRows close a b steps .seam)
-found-offset close a b steps h = go (searchRows close a b steps .seam) refl
+found-of-row : (close : Closeness) (a b : Row) (steps : ℕ) → 1 ≤ steps → OfRow steps (searchRows close a b steps .seam)
+found-of-row close a b steps h = go (searchRows close a b steps .seam) refl
   where
-    go : (s : Seam) → searchRows close a b steps .seam ≡ s → OffsetBelow steps s
+    go : (s : Seam) → searchRows close a b steps .seam ≡ s → OfRow steps s
     go Unjoined e = tt
-    go (Joined k) e = found-below close a b steps h e
+    go (Joined k) e = (found-steps close a b steps e, found-below close a b steps h e)
 
-pub u-offset : (g : List Float) (m n : ℕ) → 1 ≤ n → OffsetBelow n (uSearch g m n .seam)
-u-offset g m n h = rw (u-search g m n h) (found-offset allClose (rowOf g 0 1) (rowOf g (m * (n + 1)) 1) n h)
+pub u-of-row : (g : List Float) (m n : ℕ) → 1 ≤ n → OfRow n (uSearch g m n .seam)
+u-of-row g m n h = rw (u-search g m n h) (found-of-row allClose (rowOf g 0 1) (rowOf g (m * (n + 1)) 1) n h)
 
-pub v-offset : (g : List Float) (m n : ℕ) → 1 ≤ m → OffsetBelow m (vSearch g m n .seam)
-v-offset g m n h = rw (v-search g m n h) (found-offset allClose (rowOf g 0 (n + 1)) (rowOf g n (n + 1)) m h)
+pub v-of-row : (g : List Float) (m n : ℕ) → 1 ≤ m → OfRow m (vSearch g m n .seam)
+v-of-row g m n h = rw (v-search g m n h) (found-of-row allClose (rowOf g 0 (n + 1)) (rowOf g n (n + 1)) m h)
+
+-- the inverse image that a surface takes is the mapping's own
+pub inverse-of : (k : CyclicMapping) (b : ℕ) → inverse (ofMapping k) (stepsOf k) b ≡ mapping.inverse k b
+inverse-of (Forward o steps) b = refl
+inverse-of (Reverse o steps) b = refl
 
 -- ---- 01's list of joinings
 
@@ -46,24 +52,24 @@ at-zero : (k : CyclicMapping) → ForwardAtZero k → ofMapping k ≡ forward 0
 at-zero (Forward o steps) e = ap forward e
 at-zero (Reverse o steps) e = absurd e
 
-pub covered : (m n : ℕ) (su sv : Seam) → OffsetBelow n su → OffsetBelow m sv → CoveredJoining su sv → Covered (surfaceWith m n su sv)
+pub covered : (m n : ℕ) (su sv : Seam) → OfRow n su → OfRow m sv → CoveredJoining su sv → Covered (surfaceWith m n su sv)
 covered m n Unjoined Unjoined p q c = neither refl refl
 covered m n (Joined (Forward o k)) Unjoined p q c = only-u c refl
 covered m n (Joined (Reverse o k)) Unjoined p q c = only-u c refl
 covered m n Unjoined (Joined (Forward o k)) p q c = only-v refl c
 covered m n Unjoined (Joined (Reverse o k)) p q c = only-v refl c
-covered m n (Joined j) (Joined (Forward o k)) p q (inl c) = both-v (at-zero j (c .0)) q
-covered m n (Joined j) (Joined (Reverse o k)) p q (inl c) = both-v (at-zero j (c .0)) (omega (arith, c .1), q)
-covered m n (Joined (Forward o k)) (Joined j) p q (inr c) = both-u p (at-zero j (c .1))
-covered m n (Joined (Reverse o k)) (Joined j) p q (inr c) = both-u (omega (arith, c .0), p) (at-zero j (c .1))
+covered m n (Joined j) (Joined (Forward o k)) p q (inl c) = both-v (at-zero j (c .0)) (q .1)
+covered m n (Joined j) (Joined (Reverse o k)) p q (inl c) = both-v (at-zero j (c .0)) (omega (arith, c .1), q .1)
+covered m n (Joined (Forward o k)) (Joined j) p q (inr c) = both-u (p .1) (at-zero j (c .1))
+covered m n (Joined (Reverse o k)) (Joined j) p q (inr c) = both-u (omega (arith, c .0), p .1) (at-zero j (c .1))
 
 -- demand 3 of the surface that two seam answers make, found or given
-pub joining-meets : (m n : ℕ) (su sv : Seam) → 3 ≤ m → 3 ≤ n → OffsetBelow n su → OffsetBelow m sv → CoveredJoining su sv → Meets (surfaceWith m n su sv)
+pub joining-meets : (m n : ℕ) (su sv : Seam) → 3 ≤ m → 3 ≤ n → OfRow n su → OfRow m sv → CoveredJoining su sv → Meets (surfaceWith m n su sv)
 joining-meets m n su sv hm hn p q c = demand3 (surfaceWith m n su sv) hm hn (covered m n su sv p q c)
 
 pub surface-meets : (g : List Float) (m n : ℕ) → SurfaceMeets g m n
 surface-meets g m n a hm hn c =
-    joining-meets m n (uSearch g m n .seam) (vSearch g m n .seam) hm hn (u-offset g m n (omega arith)) (v-offset g m n (omega arith)) c
+    joining-meets m n (uSearch g m n .seam) (vSearch g m n .seam) hm hn (u-of-row g m n (omega arith)) (v-of-row g m n (omega arith)) c
 
 -- of a grid edge, J of the numbers of its two ends are the two ends of a side
 pub edge-side : (g : List Float) (m n : ℕ) → Accepted g m n → 3 ≤ m → 3 ≤ n → CoveredGrid g m n → (p q : ℕ) → EdgeNumbers (surfaceOf g m n) p q →

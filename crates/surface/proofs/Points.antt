@@ -11,7 +11,7 @@ use borrow.Author.Tests.{ne-eqb}
 use Rattle.cyclic.specs.Mapping.{pick}
 use Rattle.surface.specs.Surface.{Seam, joined, inverse, Point, at, Rule, once, twice, Shape, uRule, vRule, number, joinedBy, J, cornerBy, corner}
 use Rattle.surface.proofs.Steps.{eqb-cases, wrap, wrap-open, wrap-closed, wrap-below, wrap-wrap, carried, carried-wrap, inv-forward-0}
-use Rattle.surface.proofs.CellSides.{shift, corners}
+use Rattle.surface.proofs.CellSides.{shift, shift-le, corners}
 use Rattle.surface.proofs.Halves.{cellCorners}
 use Rattle.surface.proofs.Axes.{Axis, axisU, axisV, columns, rows, xOf, yOf, Plain, KeepsInside, SeenAlong, strip}
 use Rattle.surface.proofs.Strip.{Strip, colOf, rowOf, pointOf, row-below, col-below}
@@ -57,10 +57,6 @@ wrap-lt false n i z h e = absurd (false≢true e)
 settled : (c : Bool) (n i : ℕ) → 0 < n → (c && eqb (wrap c n i) n) ≡ false
 settled false n i z = refl
 settled true n i z = ne-eqb (wrap true n i) n (λ e. ⊎-elim (λ w. omega arith) (λ w. w .1 (sym (w .0) ∙ e)) (wrap-closed n i))
-
-shift-le : (t : Bool) (n : ℕ) → shift t n ≤ n + 1
-shift-le false n = omega arith
-shift-le true n = omega arith
 
 pick-wrap : (t c : Bool) (n i j : ℕ) → pick t (wrap c n i) (wrap c n j) ≡ wrap c n (pick t i j)
 pick-wrap true c n i j = refl

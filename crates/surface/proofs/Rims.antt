@@ -1,15 +1,15 @@
 -- The rims and the edges of a strip, as 01 words them: a rim's sides are those between neighbouring points of its first or last column or row,
 -- and every edge between neighbouring grid points, or along a cell's diagonal, is a side of some cell. Assumes nothing.
 use Prim.Native.Nat.{ℕ, _+_, _-_, _≤_, _<_}
-use mathlib.Core.Path.{_≡_, refl, sym, ap, _∙_, subst}
+use mathlib.Core.Path.{_≡_, refl, sym, subst}
 use mathlib.Core.Logic.{_⊎_, inl, inr, ⊎-elim}
 use mathlib.Core.Bool.{Bool, true, false}
 use native.Mathlib.Omega.{arith}
 use Rattle.surface.specs.Surface.{unjoined, Split, falling, rising, Same}
 use Rattle.surface.proofs.Steps.{lt-or-le}
 use Rattle.surface.proofs.Strip.{Strip, Kind, straight, across, diagonal, pointOf}
-use Rattle.surface.proofs.CellSides.{Cell, corners, endsOf, sideFrom, sideTo, RimAt}
-use Rattle.surface.proofs.Owners.{OnRim, same-trans, same-flip}
+use Rattle.surface.proofs.CellSides.{Cell, shift, shift-le, corners, endsOf, sideFrom, sideTo, RimAt}
+use Rattle.surface.proofs.Owners.{OnRim, same-sym, same-trans, same-flip}
 
 -- a and b are the ends of a side of some cell
 pub record EdgeAt (S : Strip) (a b : ℕ) : Type 0 where
@@ -32,72 +32,77 @@ module _ (S : Strip) (P : ℕ → ℕ → ℕ) (P-is : (x y : ℕ) → x ≤ S .
       ((seam ≡ unjoined) × ((y : ℕ) × (y < Y) × (Same a b (P 0 y) (P 0 (y + 1)) ⊎ Same a b (P X y) (P X (y + 1)))))
       ⊎ ((closed ≡ false) × ((x : ℕ) × (x < X) × (Same a b (P x 0) (P (x + 1) 0) ⊎ Same a b (P x Y) (P (x + 1) Y))))
 
-  -- P at a corner of a cell
-  at-corner : (i j x y : ℕ) → i ≡ x → j ≡ y → i ≤ X → j ≤ Y → P i j ≡ pointOf S x y
-  at-corner i j x y p q h k = P-is i j h k ∙ ap (λ (z : ℕ). pointOf S z j) p ∙ ap (pointOf S x) q
+  -- the ends of a cell's side, by P
+  abbrev ends : Kind → Split → Bool → ℕ → ℕ → ℕ × ℕ
+  ends k d t x y = endsOf (λ i j. P (shift i x) (shift j y)) k d t
 
-  last-X : X ≡ X - 1 + 1
-  last-X = omega arith
+  ends-are : (k : Kind) (t : Bool) (x y : ℕ) → Cell S x y → Same (ends k split t x y .0) (ends k split t x y .1) (sideFrom S k t x y) (sideTo S k t x y)
+  unfolding sideFrom sideTo
+  ends-are k t x y c = go k split
+    where
+      at : (i j : Bool) → P (shift i x) (shift j y) ≡ corners S x y i j
+      at i j = P-is (shift i x) (shift j y) (omega (arith, shift-le i x)) (omega (arith, shift-le j y))
 
-  last-Y : Y ≡ Y - 1 + 1
-  last-Y = omega arith
+      go : (k : Kind) (d : Split) → Same (ends k d t x y .0) (ends k d t x y .1) (endsOf (corners S x y) k d t .0) (endsOf (corners S x y) k d t .1)
+      go straight d = inl (at t false, at t true)
+      go across d = inl (at false t, at true t)
+      go diagonal falling = inl (at false true, at true false)
+      go diagonal rising = inl (at false false, at true true)
+
+  last-X : (z : ℕ) → X ≤ z → z ≤ X → z ≡ X - 1 + 1
+  last-X z h k = omega arith
+
+  last-Y : (z : ℕ) → Y ≤ z → z ≤ Y → z ≡ Y - 1 + 1
+  last-Y z h k = omega arith
+
+  -- ---- rims
+
+  on-rim : (a b : ℕ) (k : Kind) (t : Bool) (x y : ℕ) → Cell S x y → RimAt S k t x y → Same a b (ends k split t x y .0) (ends k split t x y .1) → OnRim S a b
+  on-rim a b k t x y c r e = record { k = k; t = t; x = x; y = y; cell = c; rim = r; ends = same-trans e (ends-are k t x y c) }
 
   pub rim-to : (a b : ℕ) → RimOf a b → OnRim S a b
-  unfolding sideFrom sideTo
-  rim-to a b (inl r) =
-      let y = r .1 .0 in
-      ⊎-elim
-      (λ e. record { k = straight; t = false; x = 0; y = y; cell = (omega arith, r .1 .1); rim = (r .0, refl); ends = same-trans e (inl (at-corner 0 y 0 y refl refl (omega arith) (omega (arith, r .1 .1)), at-corner 0 (y + 1) 0 (y + 1) refl refl (omega arith) (omega (arith, r .1 .1)))) })
-      (λ e. record { k = straight; t = true; x = X - 1; y = y; cell = (omega arith, r .1 .1); rim = (r .0, sym last-X); ends = same-trans e (inl (at-corner X y (X - 1 + 1) y last-X refl (omega arith) (omega (arith, r .1 .1)), at-corner X (y + 1) (X - 1 + 1) (y + 1) last-X refl (omega arith) (omega (arith, r .1 .1)))) })
-      (r .1 .2)
-  rim-to a b (inr r) =
-      let x = r .1 .0 in
-      ⊎-elim
-      (λ e. record { k = across; t = false; x = x; y = 0; cell = (r .1 .1, omega arith); rim = (r .0, refl); ends = same-trans e (inl (at-corner x 0 x 0 refl refl (omega (arith, r .1 .1)) (omega arith), at-corner (x + 1) 0 (x + 1) 0 refl refl (omega (arith, r .1 .1)) (omega arith))) })
-      (λ e. record { k = across; t = true; x = x; y = Y - 1; cell = (r .1 .1, omega arith); rim = (r .0, sym last-Y); ends = same-trans e (inl (at-corner x Y x (Y - 1 + 1) refl last-Y (omega (arith, r .1 .1)) (omega arith), at-corner (x + 1) Y (x + 1) (Y - 1 + 1) refl last-Y (omega (arith, r .1 .1)) (omega arith))) })
-      (r .1 .2)
+  rim-to a b (inl (o, (y, h, inl e))) = on-rim a b straight false 0 y (omega arith, h) (o, refl) e
+  rim-to a b (inl (o, (y, h, inr e))) =
+      on-rim a b straight true (X - 1) y (omega arith, h) (o, omega arith) (subst (λ (z : ℕ). Same a b (P z y) (P z (y + 1))) (last-X X (omega arith) (omega arith)) e)
+  rim-to a b (inr (o, (x, h, inl e))) = on-rim a b across false x 0 (h, omega arith) (o, refl) e
+  rim-to a b (inr (o, (x, h, inr e))) =
+      on-rim a b across true x (Y - 1) (h, omega arith) (o, omega arith) (subst (λ (z : ℕ). Same a b (P x z) (P (x + 1) z)) (last-Y Y (omega arith) (omega arith)) e)
 
   pub rim-from : (a b : ℕ) → OnRim S a b → RimOf a b
-  unfolding sideFrom sideTo
-  rim-from a b r = go (r .k) (r .t) (r .x) (r .y) (r .cell) (r .rim) (r .ends)
+  rim-from a b r = go (r .k) (r .t) (r .x) (r .y) (r .cell) (r .rim) (same-trans (r .ends) (same-sym (ends-are (r .k) (r .t) (r .x) (r .y) (r .cell))))
     where
-      go : (k : Kind) (t : Bool) (x y : ℕ) → Cell S x y → RimAt S k t x y → Same a b (sideFrom S k t x y) (sideTo S k t x y) → RimOf a b
-      go straight false x y c r e = inl (r .0, (y, c .1, inl (same-trans e (inl (sym (at-corner 0 y x y (sym (r .1)) refl (omega arith) (omega arith)), sym (at-corner 0 (y + 1) x (y + 1) (sym (r .1)) refl (omega arith) (omega arith)))))))
-      go straight true x y c r e = inl (r .0, (y, c .1, inr (same-trans e (inl (sym (at-corner X y (x + 1) y (sym (r .1)) refl (omega arith) (omega arith)), sym (at-corner X (y + 1) (x + 1) (y + 1) (sym (r .1)) refl (omega arith) (omega arith)))))))
-      go across false x y c r e = inr (r .0, (x, c .0, inl (same-trans e (inl (sym (at-corner x 0 x y refl (sym (r .1)) (omega arith) (omega arith)), sym (at-corner (x + 1) 0 (x + 1) y refl (sym (r .1)) (omega arith) (omega arith)))))))
-      go across true x y c r e = inr (r .0, (x, c .0, inr (same-trans e (inl (sym (at-corner x Y x (y + 1) refl (sym (r .1)) (omega arith) (omega arith)), sym (at-corner (x + 1) Y (x + 1) (y + 1) refl (sym (r .1)) (omega arith) (omega arith)))))))
+      go : (k : Kind) (t : Bool) (x y : ℕ) → Cell S x y → RimAt S k t x y → Same a b (ends k split t x y .0) (ends k split t x y .1) → RimOf a b
+      go straight false x y c r e = inl (r .0, (y, c .1, inl (subst (λ (z : ℕ). Same a b (P z y) (P z (y + 1))) (r .1) e)))
+      go straight true x y c r e = inl (r .0, (y, c .1, inr (subst (λ (z : ℕ). Same a b (P z y) (P z (y + 1))) (r .1) e)))
+      go across false x y c r e = inr (r .0, (x, c .0, inl (subst (λ (z : ℕ). Same a b (P x z) (P (x + 1) z)) (r .1) e)))
+      go across true x y c r e = inr (r .0, (x, c .0, inr (subst (λ (z : ℕ). Same a b (P x z) (P (x + 1) z)) (r .1) e)))
       go diagonal t x y c r e = absurd r
 
   -- ---- edges
 
+  edge-of : (k : Kind) (t : Bool) (x y : ℕ) → Cell S x y → EdgeAt S (ends k split t x y .0) (ends k split t x y .1)
+  edge-of k t x y c = record { k = k; t = t; x = x; y = y; cell = c; ends = ends-are k t x y c }
+
   pub edge-across : (x y : ℕ) → x < X → y ≤ Y → EdgeAt S (P x y) (P (x + 1) y)
-  unfolding sideFrom sideTo
   edge-across x y h k =
       ⊎-elim
-      (λ l. record { k = across; t = false; x = x; y = y; cell = (h, l); ends = inl (P-is x y (omega arith) k, P-is (x + 1) y (omega arith) k) })
-      (λ l. let e : y ≡ Y - 1 + 1 = omega arith in
-      record { k = across; t = true; x = x; y = Y - 1; cell = (h, omega arith); ends = inl (at-corner x y x (Y - 1 + 1) refl e (omega arith) k, at-corner (x + 1) y (x + 1) (Y - 1 + 1) refl e (omega arith) k) })
+      (λ l. edge-of across false x y (h, l))
+      (λ l. subst (λ (z : ℕ). EdgeAt S (P x z) (P (x + 1) z)) (sym (last-Y y l k)) (edge-of across true x (Y - 1) (h, omega arith)))
       (lt-or-le y Y)
 
   pub edge-straight : (x y : ℕ) → x ≤ X → y < Y → EdgeAt S (P x y) (P x (y + 1))
-  unfolding sideFrom sideTo
   edge-straight x y h k =
       ⊎-elim
-      (λ l. record { k = straight; t = false; x = x; y = y; cell = (l, k); ends = inl (P-is x y h (omega arith), P-is x (y + 1) h (omega arith)) })
-      (λ l. let e : x ≡ X - 1 + 1 = omega arith in
-      record { k = straight; t = true; x = X - 1; y = y; cell = (omega arith, k); ends = inl (at-corner x y (X - 1 + 1) y e refl h (omega arith), at-corner x (y + 1) (X - 1 + 1) (y + 1) e refl h (omega arith)) })
+      (λ l. edge-of straight false x y (l, k))
+      (λ l. subst (λ (z : ℕ). EdgeAt S (P z y) (P z (y + 1))) (sym (last-X x l h)) (edge-of straight true (X - 1) y (omega arith, k)))
       (lt-or-le x X)
 
-  diagonal-edge : (x y a b : ℕ) → x < X → y < Y → Same a b (endsOf (corners S x y) diagonal split false .0) (endsOf (corners S x y) diagonal split false .1) → EdgeAt S a b
-  unfolding sideFrom sideTo
-  diagonal-edge x y a b h k e = record { k = diagonal; t = false; x = x; y = y; cell = (h, k); ends = e }
+  -- a diagonal, whichever way cells are split
+  edge-diagonal : (x y : ℕ) (d : Split) → Cell S x y → split ≡ d → EdgeAt S (ends diagonal d false x y .0) (ends diagonal d false x y .1)
+  edge-diagonal x y d c e = subst (λ (z : Split). EdgeAt S (ends diagonal z false x y .0) (ends diagonal z false x y .1)) e (edge-of diagonal false x y c)
 
   pub edge-falling : (x y : ℕ) → x < X → y < Y → split ≡ falling → EdgeAt S (P (x + 1) y) (P x (y + 1))
-  edge-falling x y h k e =
-      diagonal-edge x y (P (x + 1) y) (P x (y + 1)) h k
-      (subst (λ (d : Split). Same (P (x + 1) y) (P x (y + 1)) (endsOf (corners S x y) diagonal d false .0) (endsOf (corners S x y) diagonal d false .1)) (sym e) (inr (P-is (x + 1) y (omega arith) (omega arith), P-is x (y + 1) (omega arith) (omega arith))))
+  edge-falling x y h k e = edge-flip S (P x (y + 1)) (P (x + 1) y) (edge-diagonal x y falling (h, k) e)
 
   pub edge-rising : (x y : ℕ) → x < X → y < Y → split ≡ rising → EdgeAt S (P x y) (P (x + 1) (y + 1))
-  edge-rising x y h k e =
-      diagonal-edge x y (P x y) (P (x + 1) (y + 1)) h k
-      (subst (λ (d : Split). Same (P x y) (P (x + 1) (y + 1)) (endsOf (corners S x y) diagonal d false .0) (endsOf (corners S x y) diagonal d false .1)) (sym e) (inl (P-is x y (omega arith) (omega arith), P-is (x + 1) (y + 1) (omega arith) (omega arith))))
+  edge-rising x y h k e = edge-diagonal x y rising (h, k) e
