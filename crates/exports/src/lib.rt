@@ -1,5 +1,6 @@
 // The C boundary: one function for each open call, numbers and slices in, a number or a `#[repr(C)]`
 // struct out. A slice is passed as two words, its pointer and its length.
 pub mod floats;
+pub mod lines;
 pub mod seams;
 pub mod vectors;

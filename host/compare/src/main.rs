@@ -13,7 +13,13 @@ mod driver;
 #[cfg(larnt)]
 mod floats;
 #[cfg(larnt)]
+mod grids;
+#[cfg(larnt)]
 mod inputs;
+#[cfg(larnt)]
+mod lines;
+#[cfg(larnt)]
+mod lists;
 #[cfg(larnt)]
 mod random;
 #[cfg(larnt)]

@@ -3,7 +3,7 @@
 //! A `safe fn` takes and hands back numbers only, so that no argument can break it. A function that
 //! takes a slice takes its pointer and its length, and has its safe form below the declarations.
 
-use crate::Vector;
+use crate::{Drawn, Lines, Refusal, Vector};
 
 /// An index, or the number of a refusal.
 #[repr(C)]
@@ -27,6 +27,39 @@ pub struct Seam {
 pub struct SeamAnswer {
     pub refusal: u8,
     pub seam: Seam,
+}
+
+/// The counts of points and lines, or the number of a refusal.
+#[repr(C)]
+pub struct PathsAnswer {
+    pub refusal: u8,
+    pub points: usize,
+    pub lines: usize,
+}
+
+impl From<PathsAnswer> for Result<Drawn, Refusal> {
+    fn from(answer: PathsAnswer) -> Self {
+        Refusal::check(answer.refusal)?;
+        Ok(Drawn {
+            points: answer.points,
+            lines: answer.lines,
+        })
+    }
+}
+
+/// The point numbers at which a line starts and ends, or the number of a refusal.
+#[repr(C)]
+pub struct SpanAnswer {
+    pub refusal: u8,
+    pub start: usize,
+    pub end: usize,
+}
+
+/// A part of a list: where it begins and how long it is, in numbers.
+#[repr(C)]
+pub struct Part {
+    pub offset: usize,
+    pub length: usize,
 }
 
 unsafe extern "C" {
@@ -62,9 +95,100 @@ unsafe extern "C" {
         b_idx: usize,
     ) -> IndexAnswer;
     fn mt_new_vector(a: *const f64, a_len: usize, b: *const f64, b_len: usize) -> SeamAnswer;
+
+    fn mt_grid_paths(
+        grid: *const f64,
+        grid_len: usize,
+        m: usize,
+        n: usize,
+        points: *mut f64,
+        points_len: usize,
+        starts: *mut usize,
+        starts_len: usize,
+    ) -> PathsAnswer;
+    fn mt_line_span(
+        points: *const f64,
+        points_len: usize,
+        starts: *const usize,
+        starts_len: usize,
+        point_count: usize,
+        line_count: usize,
+        index: usize,
+    ) -> SpanAnswer;
+    fn mt_get(
+        points: *const f64,
+        points_len: usize,
+        starts: *const usize,
+        starts_len: usize,
+        point_count: usize,
+        line_count: usize,
+        index: usize,
+    ) -> Part;
 }
 
 pub fn new_vector(a: &[f64], b: &[f64]) -> SeamAnswer {
-    // SAFETY: each pointer and length are those of a slice that is borrowed during the call.
+    // SAFETY: each pointer and length are those of a slice that is lent for the call.
     unsafe { mt_new_vector(a.as_ptr(), a.len(), b.as_ptr(), b.len()) }
+}
+
+pub fn grid_paths(
+    grid: &[f64],
+    m: usize,
+    n: usize,
+    points: &mut [f64],
+    starts: &mut [usize],
+) -> PathsAnswer {
+    // SAFETY: each pointer and length are those of a slice that is lent for the call.
+    unsafe {
+        mt_grid_paths(
+            grid.as_ptr(),
+            grid.len(),
+            m,
+            n,
+            points.as_mut_ptr(),
+            points.len(),
+            starts.as_mut_ptr(),
+            starts.len(),
+        )
+    }
+}
+
+pub fn line_span(lines: Lines<'_>, index: usize) -> SpanAnswer {
+    let Lines {
+        points,
+        starts,
+        drawn,
+    } = lines;
+    // SAFETY: each pointer and length are those of a slice that is lent for the call.
+    unsafe {
+        mt_line_span(
+            points.as_ptr(),
+            points.len(),
+            starts.as_ptr(),
+            starts.len(),
+            drawn.points,
+            drawn.lines,
+            index,
+        )
+    }
+}
+
+pub fn get(lines: Lines<'_>, index: usize) -> Part {
+    let Lines {
+        points,
+        starts,
+        drawn,
+    } = lines;
+    // SAFETY: each pointer and length are those of a slice that is lent for the call.
+    unsafe {
+        mt_get(
+            points.as_ptr(),
+            points.len(),
+            starts.as_ptr(),
+            starts.len(),
+            drawn.points,
+            drawn.lines,
+            index,
+        )
+    }
 }

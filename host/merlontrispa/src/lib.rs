@@ -14,10 +14,12 @@
 #[allow(unsafe_code)]
 mod boundary;
 pub mod float;
+mod lines;
 mod mapping;
 mod refusal;
 mod vector;
 
+pub use lines::{Drawn, Lines, grid_paths};
 pub use mapping::{Mapping, Seam};
 pub use refusal::Refusal;
 pub use vector::Vector;

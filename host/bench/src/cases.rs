@@ -1,0 +1,86 @@
+//! The rows of the table.
+
+use crate::clock::{Side, Table};
+use merlontrispa::{Mapping, grid_paths};
+use original::{CyclicMapping, ParametricSurfaceTexture, Surface, Vector};
+use std::f64::consts::TAU;
+
+/// Cells along u and along v.
+const STEPS: usize = 255;
+
+pub fn run(table: &Table) {
+    seams(table);
+    lines(table);
+}
+
+fn seams(table: &Table) {
+    let circle = |j: usize| {
+        let angle = TAU * (j % 255) as f64 / 255.0;
+        [angle.cos(), angle.sin(), 0.5]
+    };
+    let line = |j: usize| [j as f64, 0.0, 0.0];
+    let rows: [(&str, Vec<_>, Vec<_>); 4] = [
+        (
+            "seam, closed, 256 points, forward, last offset",
+            (0..256).map(circle).collect(),
+            (0..256).map(|j| circle(j + 1)).collect(),
+        ),
+        (
+            "seam, closed, 256 points, reverse, last offset",
+            (0..256).map(circle).collect(),
+            (0..256).map(|j| circle(509 - j)).collect(),
+        ),
+        (
+            "seam, open, 256 points, forward",
+            (0..256).map(line).collect(),
+            (0..256).map(line).collect(),
+        ),
+        (
+            "seam, open, 256 points, reverse",
+            (0..256).map(line).collect(),
+            (0..256).map(|j| line(255 - j)).collect(),
+        ),
+    ];
+    for (name, a, b) in rows {
+        let [p, q] = [&a, &b].map(|row| vectors(row.as_flattened()));
+        table.row(
+            name,
+            Side(
+                || (),
+                |()| Mapping::new_vector(a.as_flattened(), b.as_flattened()),
+            ),
+            Side(|| (), |()| CyclicMapping::new_vector(&p, &q)),
+        );
+    }
+}
+
+fn lines(table: &Table) {
+    let grid = plane();
+    let mut surface = Surface::from_grid(vectors(&grid), STEPS, STEPS);
+    let points = 2 * (STEPS + 1) * (STEPS + 1);
+    let (mut points, mut starts) = (vec![0.0; 3 * points], vec![0; 2 * STEPS + 2]);
+    table.row(
+        "grid lines, 255 by 255",
+        Side(
+            || (),
+            |()| grid_paths(&grid, STEPS, STEPS, &mut points, &mut starts),
+        ),
+        Side(|| (), |()| surface.paths(ParametricSurfaceTexture::Grid)),
+    );
+}
+
+/// A grid that nothing joins.
+fn plane() -> Vec<f64> {
+    grid(|u, v| [u, v, (u * v * 1e-3).sin()])
+}
+
+/// The numbers of the points at each u and v.
+fn grid(point: impl Fn(f64, f64) -> [f64; 3]) -> Vec<f64> {
+    let us = (0..=STEPS).flat_map(|u| (0..=STEPS).map(move |v| (u, v)));
+    us.flat_map(|(u, v)| point(u as f64, v as f64)).collect()
+}
+
+fn vectors(numbers: &[f64]) -> Vec<Vector> {
+    let points = numbers.as_chunks().0.iter();
+    points.map(|&[x, y, z]| Vector::new(x, y, z)).collect()
+}

@@ -1,0 +1,184 @@
+//! Grids whose opposite lines meet by a mapping, nearly meet, or do not.
+
+use crate::inputs::near;
+use crate::random::Random;
+use crate::seams::{mapping, to_original};
+use crate::value::Show;
+use merlontrispa::Mapping;
+
+/// A grid of `u_steps` by `v_steps` cells, three numbers for each point.
+#[derive(Debug, Clone)]
+pub struct Grid {
+    pub u_steps: usize,
+    pub v_steps: usize,
+    pub numbers: Vec<f64>,
+}
+
+impl Show for Grid {
+    fn show(&self) -> String {
+        let (m, n) = (self.u_steps, self.v_steps);
+        format!("M {m}, N {n}, grid {}", self.numbers.show())
+    }
+}
+
+impl Grid {
+    /// The grid whose point of each number is given.
+    pub fn new(u_steps: usize, v_steps: usize, point: impl FnMut(usize) -> [f64; 3]) -> Self {
+        let points = (u_steps + 1) * (v_steps + 1);
+        Self {
+            u_steps,
+            v_steps,
+            numbers: (0..points).flat_map(point).collect(),
+        }
+    }
+}
+
+/// How the opposite lines of a grid meet.
+#[derive(Debug, Clone, Copy)]
+pub struct Joining {
+    /// Column u = 0 with column u = M.
+    pub u: Option<Mapping>,
+    /// Row v = 0 with row v = N.
+    pub v: Option<Mapping>,
+    /// Whether the columns are closed at offset 0 too.
+    pub u_closed: bool,
+    /// Whether the rows are.
+    pub v_closed: bool,
+}
+
+impl Joining {
+    /// One of a plane, a band, a torus, a twisted torus, a Möbius band, a Klein bottle, or anything.
+    pub fn any(random: &mut Random, u_steps: usize, v_steps: usize) -> Self {
+        let seam = |random: &mut Random, steps: usize| match random.below(5) {
+            0 => None,
+            1 => Some(mapping(false, 0, steps)),
+            2 => Some(mapping(true, 0, steps)),
+            kind => Some(mapping(
+                kind == 3,
+                random.below(steps as u64) as usize,
+                steps,
+            )),
+        };
+        Self {
+            u: seam(random, v_steps),
+            v: seam(random, u_steps),
+            u_closed: random.below(2) == 0,
+            v_closed: random.below(2) == 0,
+        }
+    }
+
+    /// For each point number the number of the first point that coincides with it: no more coincide
+    /// than the joining says.
+    pub fn classes(&self, u_steps: usize, v_steps: usize) -> Vec<usize> {
+        let number = |u: usize, v: usize| u * (v_steps + 1) + v;
+        let mut classes = Classes::new((u_steps + 1) * (v_steps + 1));
+        classes.join(self.u, self.u_closed, v_steps, |last, v| {
+            number(if last { u_steps } else { 0 }, v)
+        });
+        classes.join(self.v, self.v_closed, u_steps, |last, u| {
+            number(u, if last { v_steps } else { 0 })
+        });
+        (0..classes.0.len()).map(|i| classes.first(i)).collect()
+    }
+
+    /// A grid that has this joining: each class of points has the point that is given for its number.
+    pub fn grid(
+        &self,
+        u_steps: usize,
+        v_steps: usize,
+        mut point: impl FnMut(usize) -> [f64; 3],
+    ) -> Grid {
+        let classes = self.classes(u_steps, v_steps);
+        let mut points = Vec::with_capacity(classes.len());
+        for (i, &class) in classes.iter().enumerate() {
+            points.push(if class == i { point(i) } else { points[class] });
+        }
+        Grid::new(u_steps, v_steps, |i| points[i])
+    }
+}
+
+/// Points that coincide: each knows an earlier one of its class, or itself.
+struct Classes(Vec<usize>);
+
+impl Classes {
+    fn new(count: usize) -> Self {
+        Self((0..count).collect())
+    }
+
+    fn first(&self, i: usize) -> usize {
+        if self.0[i] == i {
+            i
+        } else {
+            self.first(self.0[i])
+        }
+    }
+
+    fn unite(&mut self, i: usize, j: usize) {
+        let (i, j) = (self.first(i), self.first(j));
+        self.0[i.max(j)] = i.min(j);
+    }
+
+    /// Joins the first line with the last by a mapping; `number` is of a point of one of the two.
+    fn join(
+        &mut self,
+        mapping: Option<Mapping>,
+        closed: bool,
+        steps: usize,
+        number: impl Fn(bool, usize) -> usize,
+    ) {
+        let offset = match mapping {
+            Some(Mapping::Forward { offset, .. } | Mapping::Reverse { offset, .. }) => offset,
+            None => 0,
+        };
+        if closed || offset > 0 {
+            self.unite(number(false, 0), number(false, steps));
+            self.unite(number(true, 0), number(true, steps));
+        }
+        if let Some(mapping) = mapping.map(to_original) {
+            for j in 0..=steps {
+                self.unite(number(false, j), number(true, mapping.map_index(j)));
+            }
+        }
+    }
+}
+
+/// A random grid that has a joining, or nearly: one point of a seam may be moved about as far as
+/// closeness reaches.
+pub fn any_grid(random: &mut Random, u_steps: usize, v_steps: usize) -> Grid {
+    let joining = Joining::any(random, u_steps, v_steps);
+    let flat = random.below(4) == 0;
+    let mut grid = joining.grid(u_steps, v_steps, |_| {
+        if flat {
+            [random.below(2) as f64, random.below(2) as f64, 0.0]
+        } else {
+            [random.unit(), 8.0 * random.unit(), -256.0 * random.unit()]
+        }
+    });
+    if random.below(3) == 0 {
+        let number = seam_point(random, u_steps, v_steps);
+        let place = 3 * number + random.below(3) as usize;
+        grid.numbers[place] = near(random, grid.numbers[place]);
+    }
+    grid
+}
+
+/// The number of a point of one of the four outer lines.
+fn seam_point(random: &mut Random, u_steps: usize, v_steps: usize) -> usize {
+    let u = random.below(u_steps as u64 + 1) as usize;
+    let v = random.below(v_steps as u64 + 1) as usize;
+    match random.below(4) {
+        0 => v,
+        1 => u_steps * (v_steps + 1) + v,
+        2 => u * (v_steps + 1),
+        _ => u * (v_steps + 1) + v_steps,
+    }
+}
+
+/// Steps from 1 to 255, mostly few.
+pub fn any_steps(random: &mut Random) -> usize {
+    1 + match random.below(64) {
+        0 => random.below(255),
+        1..8 => random.below(24),
+        _ => random.below(5),
+    } as usize
+}

@@ -1,0 +1,245 @@
+//! Grid lines against the original's, and lines read back against its `Paths`.
+
+use crate::driver::{Compared, Driver};
+use crate::grids::{Grid, any_grid, any_steps};
+use crate::inputs::whole;
+use crate::lists::{fill, floats, grid_refusal, length, numbers, spoil};
+use crate::random::Random;
+use crate::seams::vectors;
+use crate::value::Show;
+use merlontrispa::{Drawn, Lines, Refusal, grid_paths};
+use original::{ParametricSurfaceTexture, Paths, Surface, Vector};
+
+/// A grid and how long the lists are that are lent.
+struct Input {
+    grid: Grid,
+    points: usize,
+    starts: usize,
+}
+
+impl Show for Input {
+    fn show(&self) -> String {
+        let (grid, points, starts) = (self.grid.show(), self.points, self.starts);
+        format!("{grid}, lists of {points} and {starts}")
+    }
+}
+
+/// An answer and the two lists after the call.
+type Output = (Result<Drawn, Refusal>, (Vec<f64>, Vec<usize>));
+
+pub fn compare(driver: &mut Driver) -> Compared {
+    driver.compare("grid_paths", 200_000, drawable, library, original)?;
+    driver.compare("grid_paths, refusals", 200_000, faulty, library, original)?;
+    driver.compare("get, every grid line", 20_000, drawable, read, walked)?;
+    driver.compare(
+        "get, any lists",
+        2_000_000,
+        any_lists,
+        Listed::get,
+        Listed::part,
+    )?;
+    driver.compare(
+        "line_span, any lists",
+        2_000_000,
+        any_lists,
+        Listed::line_span,
+        Listed::span,
+    )
+}
+
+fn library(input: &Input) -> Output {
+    let (mut points, mut starts) = (floats(input.points), numbers(input.starts));
+    let grid = &input.grid;
+    let drawn = grid_paths(
+        &grid.numbers,
+        grid.u_steps,
+        grid.v_steps,
+        &mut points,
+        &mut starts,
+    );
+    (drawn, (points, starts))
+}
+
+fn original(input: &Input) -> Output {
+    let (mut points, mut starts) = (floats(input.points), numbers(input.starts));
+    let room = |m, n| input.points >= 6 * (m + 1) * (n + 1) && input.starts >= m + n + 2;
+    if let Some(refusal) = grid_refusal(&input.grid, room) {
+        return (Err(refusal), (points, starts));
+    }
+    let paths = paths(&input.grid);
+    let drawn = Drawn {
+        points: paths.total_len(),
+        lines: paths.len(),
+    };
+    fill(&mut points, paths.iter_paths().flat_map(coordinates));
+    fill(&mut starts, firsts(&paths));
+    (Ok(drawn), (points, starts))
+}
+
+/// The grid lines of the original.
+fn paths(grid: &Grid) -> Paths<Vector> {
+    let mut surface = Surface::from_grid(vectors(&grid.numbers), grid.u_steps, grid.v_steps);
+    let paths = surface.paths(ParametricSurfaceTexture::Grid);
+    paths.expect("grid lines do not panic")
+}
+
+/// The numbers of a line's points.
+pub fn coordinates(line: &[Vector]) -> impl Iterator<Item = f64> {
+    line.iter().flat_map(|p| [p.x, p.y, p.z])
+}
+
+/// The number of the first point of each line.
+pub fn firsts<T>(paths: &Paths<T>) -> Vec<usize> {
+    let lengths = paths.iter_paths().map(<[T]>::len);
+    lengths
+        .scan(0, |next, length| {
+            let first = *next;
+            *next += length;
+            Some(first)
+        })
+        .collect()
+}
+
+/// Every line of a grid by `get`, one past the last included.
+fn read(input: &Input) -> Vec<Vec<f64>> {
+    let Ok(drawn) = library(input).0 else {
+        return Vec::new();
+    };
+    let (_, (points, starts)) = library(input);
+    let lines = Lines {
+        points: &points,
+        starts: &starts,
+        drawn,
+    };
+    (0..=drawn.lines).map(|i| lines.get(i).to_vec()).collect()
+}
+
+/// Every line of a grid by the original's `get`.
+fn walked(input: &Input) -> Vec<Vec<f64>> {
+    if original(input).0.is_err() {
+        return Vec::new();
+    }
+    let paths = paths(&input.grid);
+    let line = |i| paths.get(i).unwrap_or_default();
+    (0..=paths.len())
+        .map(|i| coordinates(line(i)).collect())
+        .collect()
+}
+
+fn drawable(random: &mut Random) -> Input {
+    let (m, n) = (any_steps(random), any_steps(random));
+    Input {
+        grid: any_grid(random, m, n),
+        points: length(random, 6 * (m + 1) * (n + 1)),
+        starts: length(random, m + n + 2),
+    }
+}
+
+fn faulty(random: &mut Random) -> Input {
+    let mut input = drawable(random);
+    spoil(random, &mut input.grid);
+    input
+}
+
+/// Lists, counts and an index that may or may not fit each other.
+struct Listed {
+    points: Vec<f64>,
+    starts: Vec<usize>,
+    drawn: Drawn,
+    index: usize,
+}
+
+impl Show for Listed {
+    fn show(&self) -> String {
+        let (points, starts, drawn) = (self.points.show(), self.starts.show(), self.drawn);
+        format!(
+            "points {points}, starts {starts}, {drawn:?}, index {}",
+            self.index
+        )
+    }
+}
+
+impl Listed {
+    fn lines(&self) -> Lines<'_> {
+        Lines {
+            points: &self.points,
+            starts: &self.starts,
+            drawn: self.drawn,
+        }
+    }
+
+    fn get(&self) -> Vec<f64> {
+        self.lines().get(self.index).to_vec()
+    }
+
+    fn line_span(&self) -> Result<[usize; 2], Refusal> {
+        let span = self.lines().line_span(self.index)?;
+        Ok([span.start, span.end])
+    }
+
+    /// Where the line lies, by 01's words.
+    fn span(&self) -> Result<[usize; 2], Refusal> {
+        let Drawn { points, lines } = self.drawn;
+        if self.index >= lines || points > self.points.len() / 3 || lines > self.starts.len() {
+            return Err(Refusal::NotThere);
+        }
+        let starts = &self.starts[..lines];
+        let start = starts[self.index];
+        let end = starts.get(self.index + 1).copied().unwrap_or(points);
+        if start <= end && end <= points {
+            Ok([start, end])
+        } else {
+            Err(Refusal::NotThere)
+        }
+    }
+
+    fn part(&self) -> Vec<f64> {
+        match self.span() {
+            Ok([start, end]) => self.points[3 * start..3 * end].to_vec(),
+            Err(_) => Vec::new(),
+        }
+    }
+}
+
+fn any_lists(random: &mut Random) -> Listed {
+    let (points, lines) = (random.below(8) as usize, random.below(6) as usize);
+    let mut starts: Vec<_> = (0..length(random, lines))
+        .map(|_| random.below(points as u64 + 1) as usize)
+        .collect();
+    if random.below(4) != 0 {
+        starts.sort_unstable();
+    }
+    if let Some(last) = starts.last_mut()
+        && random.below(8) == 0
+    {
+        *last = whole(random);
+    }
+    let (points, lines) = match random.below(16) {
+        0 => (whole(random), lines),
+        1 => (points, whole(random)),
+        _ => (points, lines),
+    };
+    let index = match random.below(8) {
+        0 => whole(random),
+        _ => random.below(starts.len() as u64 + 1) as usize,
+    };
+    Listed {
+        points: floats(length(random, 3 * points.min(8))),
+        starts,
+        drawn: Drawn { points, lines },
+        index,
+    }
+}
+
+#[cfg(test)]
+mod tests {
+    use super::*;
+
+    #[test]
+    fn many_lines_are_there_and_many_are_not() {
+        let mut random = Random::new(1);
+        let there = (0..10_000).filter(|_| any_lists(&mut random).span().is_ok());
+        let there = there.count();
+        assert!((2_000..8_000).contains(&there), "{there}");
+    }
+}

@@ -1,0 +1,76 @@
+use crate::boundary;
+use crate::refusal::Refusal;
+use std::ops::Range;
+
+/// The lists that lines are drawn into, and read from.
+///
+/// A line is a run of points, three numbers each: it goes from its start up to the next start or, for
+/// the last line, to the count of points.
+#[derive(Debug, Clone, Copy)]
+pub struct Lines<'a> {
+    /// x, y and z of each point.
+    pub points: &'a [f64],
+    /// The number of the first point of each line.
+    pub starts: &'a [usize],
+    /// The counts of points and of lines in these lists.
+    pub drawn: Drawn,
+}
+
+/// How much was drawn.
+#[derive(Debug, Clone, Copy, PartialEq, Eq, Hash)]
+pub struct Drawn {
+    /// The count of points.
+    pub points: usize,
+    /// The count of lines.
+    pub lines: usize,
+}
+
+impl<'a> Lines<'a> {
+    /// The numbers of the points of a line: none where it is not there.
+    ///
+    /// It is there if its index is below the line count, both counts fit their lists, and its start is
+    /// at most its end, its end at most the point count. A line that is there may be empty.
+    pub fn get(self, index: usize) -> &'a [f64] {
+        let part = boundary::get(self, index);
+        &self.points[part.offset..part.offset + part.length]
+    }
+
+    /// The numbers of the points of a line.
+    ///
+    /// # Errors
+    /// 8 where the line is not there.
+    pub fn line_span(self, index: usize) -> Result<Range<usize>, Refusal> {
+        let answer = boundary::line_span(self, index);
+        Refusal::check(answer.refusal).map(|()| answer.start..answer.end)
+    }
+}
+
+/// The lines of a grid: `v_steps + 1` along u, then `u_steps + 1` along v, through
+/// `2 * (u_steps + 1) * (v_steps + 1)` points.
+///
+/// All places of the two lists past what is drawn become zero.
+///
+/// # Errors
+/// 1, 2, 3 (`points` under `6 * (u_steps + 1) * (v_steps + 1)` or `starts` under
+/// `u_steps + v_steps + 2`) and 4. The lists are then as they were.
+///
+/// ```
+/// use merlontrispa::Lines;
+///
+/// let grid = [0.0, 0.0, 0.0, 0.0, 1.0, 0.0, 1.0, 0.0, 0.0, 1.0, 1.0, 5.0];
+/// let (mut points, mut starts) = ([0.0; 24], [0; 4]);
+/// let drawn = merlontrispa::grid_paths(&grid, 1, 1, &mut points, &mut starts)?;
+/// let lines = Lines { points: &points, starts: &starts, drawn };
+/// assert_eq!(lines.get(0), [0.0, 0.0, 0.0, 1.0, 0.0, 0.0]);
+/// assert_eq!(lines.line_span(3)?, 6..8);
+/// # Ok::<(), merlontrispa::Refusal>(())
+/// ```
+pub fn grid_paths(
+    grid: &[f64],
+    u_steps: usize,
+    v_steps: usize,
+    points: &mut [f64],
+    starts: &mut [usize],
+) -> Result<Drawn, Refusal> {
+    boundary::grid_paths(grid, u_steps, v_steps, points, starts).into()
+}
