@@ -175,6 +175,7 @@ module _ (close : Closeness) (a b : Row) where
       either : (m : CyclicMapping) → stepsOf m ≡ n → Fits close a b m → Neither close a b n (offsetOf m) → ⊥
       either (Forward o k) e g h = h .0 (subst (λ (x : ℕ). Fits close a b (Forward o x)) e g)
       either (Reverse o k) e g h = h .1 (subst (λ (x : ℕ). Fits close a b (Reverse o x)) e g)
+
       go : (s : Seam) → Outcome close a b n 0 (offsetsTried close a b n) s → s ≡ Unjoined
       go (Joined m) t = absurd (either m (t .steps) (t .fits) (f (offsetOf m) (omega (arith, t .below))))
       go Unjoined t = refl

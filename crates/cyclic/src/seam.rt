@@ -47,7 +47,14 @@ fn points_close(a: &[f64], i: usize, b: &[f64], k: usize) -> bool
 }
 
 // Rows are closed if a's ends are close and then b's ends are.
-fn rows_closed(a: &[f64], a_start: usize, b: &[f64], b_start: usize, stride: usize, steps: usize) -> Tried
+fn rows_closed(
+    a: &[f64],
+    a_start: usize,
+    b: &[f64],
+    b_start: usize,
+    stride: usize,
+    steps: usize,
+) -> Tried
     requires { ⌜ Rows (now a) «a_start» (now b) «b_start» stride steps ⌝ }
     ensures { λ r. ⌜ r ≡ closed allClose (rowOf (now (a .entry)) «a_start» stride) (rowOf (now (b .entry)) «b_start» stride) steps ⌝ }
 {
@@ -57,7 +64,10 @@ fn rows_closed(a: &[f64], a_start: usize, b: &[f64], b_start: usize, stride: usi
             made: 2,
         };
     }
-    Tried { fits: false, made: 1 }
+    Tried {
+        fits: false,
+        made: 1,
+    }
 }
 
 // The index of b that follows k, going forward.
@@ -84,7 +94,14 @@ fn back(k: usize, offset: usize, steps: usize) -> usize
 
 // The first offset at which row a fits row b, forward before reverse. Point j of a row is point
 // start + j * stride of its list.
-pub fn search_rows(a: &[f64], a_start: usize, b: &[f64], b_start: usize, stride: usize, steps: usize) -> SeamSearch
+pub fn search_rows(
+    a: &[f64],
+    a_start: usize,
+    b: &[f64],
+    b_start: usize,
+    stride: usize,
+    steps: usize,
+) -> SeamSearch
     requires { ⌜ Rows (now a) «a_start» (now b) «b_start» stride steps ⌝ }
     ensures { λ r. ⌜ r ≡ searchRows allClose (rowOf (now (a .entry)) «a_start» stride) (rowOf (now (b .entry)) «b_start» stride) steps ⌝ }
 {
