@@ -9,7 +9,7 @@ ghost use lib.ListN.{length};
 ghost use Rattle.grid.specs.Grid.{pointAt};
 ghost use Rattle.vector.specs.Vectors.{allClose};
 ghost use Rattle.cyclic.specs.Mapping.{image, Usable};
-ghost use Rattle.cyclic.specs.Search.{rowOf, Rows, closed, searchRows, search, rowFits, rowsCheck, newVector, statedSeam};
+ghost use Rattle.cyclic.specs.Search.{rowOf, Rows, searched, closed, searchRows, search, rowFits, rowsCheck, newVector, statedSeam};
 
 // A row has at most 65,536 points.
 const MAX_ROW: usize = 196608;
@@ -36,6 +36,24 @@ pub enum SeamAnswer {
     Found(CyclicMapping, u64),
     NotFound(u64),
     Refused(Refusal),
+}
+
+fn joined(mapping: CyclicMapping, comparisons: u64) -> SeamSearch
+    ensures { λ r. ⌜ r ≡ searched (Seam.Joined mapping) comparisons ⌝ }
+{
+    SeamSearch {
+        seam: Seam::Joined(mapping),
+        comparisons,
+    }
+}
+
+fn unjoined(comparisons: u64) -> SeamSearch
+    ensures { λ r. ⌜ r ≡ searched Seam.Unjoined comparisons ⌝ }
+{
+    SeamSearch {
+        seam: Seam::Unjoined,
+        comparisons,
+    }
 }
 
 // Whether point i of a is close to point k of b.
@@ -111,10 +129,7 @@ pub fn search_rows(
     let mut offset: usize = 0;
     'offsets: loop {
         if offset == end {
-            break 'offsets SeamSearch {
-                seam: Seam::Unjoined,
-                comparisons,
-            };
+            break 'offsets unjoined(comparisons);
         }
         let mut j: usize = 0;
         let mut k = CyclicMapping::Forward(offset, steps).image(0);
@@ -124,10 +139,7 @@ pub fn search_rows(
                 break;
             }
             if j == steps {
-                break 'offsets SeamSearch {
-                    seam: Seam::Joined(CyclicMapping::Forward(offset, steps)),
-                    comparisons,
-                };
+                break 'offsets joined(CyclicMapping::Forward(offset, steps), comparisons);
             }
             k = ahead(k, offset, steps);
             j += 1;
@@ -140,10 +152,7 @@ pub fn search_rows(
                 break;
             }
             if j == steps {
-                break 'offsets SeamSearch {
-                    seam: Seam::Joined(CyclicMapping::Reverse(offset, steps)),
-                    comparisons,
-                };
+                break 'offsets joined(CyclicMapping::Reverse(offset, steps), comparisons);
             }
             k = back(k, offset, steps);
             j += 1;
@@ -159,10 +168,7 @@ fn search(a: &[f64], b: &[f64]) -> SeamSearch
 {
     let n = a.len() / 3;
     if n < 2 || n != b.len() / 3 {
-        return SeamSearch {
-            seam: Seam::Unjoined,
-            comparisons: 0,
-        };
+        return unjoined(0);
     }
     search_rows(a, 0, b, 0, 1, n - 1)
 }

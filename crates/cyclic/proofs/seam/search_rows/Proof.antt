@@ -3,7 +3,7 @@
 -- At most 131,072 comparisons are made at an offset, so that their sum fits. Assumes nothing.
 use Prim.Native.Nat.{_+_, _-_}
 use native.Mathlib.Omega.{arith}
-use mathlib.Core.Path.{sym}
+use mathlib.Core.Path.{sym, _∙_}
 use mathlib.Core.Logic.{⊎-elim}
 use borrow.Author.Needs.{needs}
 use denote.Ref.{now}
@@ -54,6 +54,9 @@ offsets-holds c =
     (λ w. rw (w .1) (one-offset allClose (rowA s) (rowB s) (s .args .steps) (s .pre .steps-least) (c .before .rows-closed .ensures) (w .0 .left)))
     (c .if1 .came)
 
+unjoined-requires : tie.Need-unjoined-requires Inv-loop μ-loop Inv-loop2 μ-loop2 Inv-offsets μ-offsets
+unjoined-requires c κs = search needs
+
 image-requires : tie.Need-image-requires Inv-loop μ-loop Inv-loop2 μ-loop2 Inv-offsets μ-offsets
 image-requires c κs = omega arith
 
@@ -95,6 +98,9 @@ points-close-requires :
 points-close-requires c κs =
     let s = c .before .before .before .before .before .before .before .before in
     (inside (s .args .a-start) (s .args .steps) (s .args .stride) (c .loop .j) (s .pre .a-inside) (omega arith), inside (s .args .b-start) (s .args .steps) (s .args .stride) (c .loop .k) (s .pre .b-inside) (omega arith))
+
+joined-requires : tie.Need-joined-requires Inv-loop μ-loop Inv-loop2 μ-loop2 Inv-offsets μ-offsets
+joined-requires c κs = search needs
 
 ahead-requires : tie.Need-ahead-requires Inv-loop μ-loop Inv-loop2 μ-loop2 Inv-offsets μ-offsets
 ahead-requires c κs = search needs
@@ -161,6 +167,9 @@ points-close-requires-2 c κs =
     let s = c .before .before .before .before .before .before .before .before .before .before .before .before in
     (inside (s .args .a-start) (s .args .steps) (s .args .stride) (c .loop2 .j) (s .pre .a-inside) (omega arith), inside (s .args .b-start) (s .args .steps) (s .args .stride) (c .loop2 .k) (s .pre .b-inside) (omega arith))
 
+joined-requires-2 : tie.Need-joined-requires-2 Inv-loop μ-loop Inv-loop2 μ-loop2 Inv-offsets μ-offsets
+joined-requires-2 c κs = search needs
+
 back-requires : tie.Need-back-requires Inv-loop μ-loop Inv-loop2 μ-loop2 Inv-offsets μ-offsets
 back-requires c κs = search needs
 
@@ -203,24 +212,29 @@ offsets-again c =
 
 returns : tie.Need-returns Inv-loop μ-loop Inv-loop2 μ-loop2 Inv-offsets μ-offsets
 returns c =
-    let o = c .before in
+    let i = c .before in
+    let o = i .before in
     let s = o .before .before .before .before .before in
-    sym (no-offset allClose (rowA s) (rowB s) (s .args .steps) (o .before .if1 .end) (o .offsets .offset) (o .offsets .comparisons) (c .if2 .taken) (o .offsets .inv))
+    c .unjoined .ensures
+    ∙ sym (no-offset allClose (rowA s) (rowB s) (s .args .steps) (o .before .if1 .end) (o .offsets .offset) (o .offsets .comparisons) (i .if2 .taken) (o .offsets .inv))
 
 returns-2 : tie.Need-returns-2 Inv-loop μ-loop Inv-loop2 μ-loop2 Inv-offsets μ-offsets
 returns-2 c =
-    let p = c .before .before in
+    let i = c .before in
+    let p = i .before .before in
     let l = p .before in
     let e = l .before .before in
     let o = e .before in
     let s = o .before .before .before .before .before in
     let m = Forward (o .offsets .offset) (s .args .steps) in
-    sym (forward-fits allClose (rowA s) (rowB s) (s .args .steps) (o .before .if1 .end) (o .offsets .offset) (o .offsets .comparisons) (e .if2 .left) (o .offsets .inv)
-    (last-point allClose (rowA s) (rowB s) m (l .loop .comparisons) (l .loop .j) (l .loop .k) (c .if4 .taken) (l .loop .inv) (held (p .points-close .ensures) (c .before .if3 .left))))
+    c .joined .ensures
+    ∙ sym (forward-fits allClose (rowA s) (rowB s) (s .args .steps) (o .before .if1 .end) (o .offsets .offset) (o .offsets .comparisons) (e .if2 .left) (o .offsets .inv)
+    (last-point allClose (rowA s) (rowB s) m (l .loop .comparisons) (l .loop .j) (l .loop .k) (i .if4 .taken) (l .loop .inv) (held (p .points-close .ensures) (i .before .if3 .left))))
 
 returns-3 : tie.Need-returns-3 Inv-loop μ-loop Inv-loop2 μ-loop2 Inv-offsets μ-offsets
 returns-3 c =
-    let q = c .before .before in
+    let i = c .before in
+    let q = i .before .before in
     let r = q .before in
     let t = r .before .before in
     let p = t .before in
@@ -228,9 +242,10 @@ returns-3 c =
     let e = l .before .before in
     let o = e .before in
     let s = o .before .before .before .before .before in
-    sym (reverse-fits allClose (rowA s) (rowB s) (s .args .steps) (o .before .if1 .end) (o .offsets .offset) (o .offsets .comparisons) (e .if2 .left) (o .offsets .inv)
+    c .joined2 .ensures
+    ∙ sym (reverse-fits allClose (rowA s) (rowB s) (s .args .steps) (o .before .if1 .end) (o .offsets .offset) (o .offsets .comparisons) (e .if2 .left) (o .offsets .inv)
     (far-point allClose (rowA s) (rowB s) (Forward (o .offsets .offset) (s .args .steps)) (l .loop .comparisons) (l .loop .j) (l .loop .k) (l .loop .inv) (failed (p .points-close .ensures) (t .if3 .taken)))
-    (last-point allClose (rowA s) (rowB s) (Reverse (o .offsets .offset) (s .args .steps)) (r .loop2 .comparisons) (r .loop2 .j) (r .loop2 .k) (c .if6 .taken) (r .loop2 .inv) (held (q .points-close2 .ensures) (c .before .if5 .left))))
+    (last-point allClose (rowA s) (rowB s) (Reverse (o .offsets .offset) (s .args .steps)) (r .loop2 .comparisons) (r .loop2 .j) (r .loop2 .k) (i .if6 .taken) (r .loop2 .inv) (held (q .points-close2 .ensures) (i .before .if5 .left))))
 
 pub search-rows-spec : {M : Type 1} → statement M
 search-rows-spec =
@@ -244,6 +259,7 @@ search-rows-spec =
     μ-offsets
     rows-closed-requires
     offsets-holds
+    unjoined-requires
     image-requires
     loop-holds
     add-comparisons
@@ -252,6 +268,7 @@ search-rows-spec =
     mul-points-close-2
     add-points-close-2
     points-close-requires
+    joined-requires
     ahead-requires
     add-j
     loop-less
@@ -264,6 +281,7 @@ search-rows-spec =
     mul-points-close-4
     add-points-close-4
     points-close-requires-2
+    joined-requires-2
     back-requires
     add-j-2
     loop2-less
