@@ -7,3 +7,5 @@ pub mod Places
 pub mod Kept
 pub mod Gather
 pub mod Grid
+pub mod Each
+pub mod Laws

@@ -1,1 +1,55 @@
--- 01's starred results on events, by computation. Assumes nothing.
+-- 01's known results on events, by computation, each at M = N = 1. Assumes nothing.
+use mathlib.Core.Path.{_≡_, refl}
+use mathlib.Core.Bool.{Bool, true}
+use mathlib.Core.List.{List, [], _∷_}
+use lib.Ieee.{Float, binary64, ofBits, ofInt, neg, lt, le, eq, add, sub, mul, div, round, toUnsigned}
+use Rattle.float.specs.Consts.{eps, zero64, one64}
+use Rattle.float.specs.Sign.{negative, absolute}
+use Rattle.float.specs.Order.{clamped, totalOrder}
+use Rattle.float.specs.Whole.{floorZ, ceilZ, rounded}
+use Rattle.float.specs.Cast.{natFloat}
+use Rattle.edges.specs.declared.event.ParamEdge.the-variants.{U, «V», Diagonal}
+use Rattle.edges.specs.declared.event.EdgeEvent.{EdgeEvent}
+use Rattle.edges.specs.Param.{param, lerp, within, paramInBounds, integerStep, normalizeLambda}
+use Rattle.edges.specs.Cell.{indexOf, onDiagonal, tryCell, diagonalCellAt}
+use Rattle.edges.specs.Events.{event, edgeAtPoint, uAt, vAt, diagonalCrossing, listFrom, ends, us, vs, diagonals, candidates, insert, sortInto, uniqueAfter, unique, sortedEdgeEvents}
+
+-- `unfolding computed` opens every definition that a closed result needs
+unfoldable pub computed : Bool
+unfolding within paramInBounds integerStep normalizeLambda indexOf onDiagonal tryCell diagonalCellAt edgeAtPoint uAt vAt diagonalCrossing listFrom ends us vs diagonals candidates insert sortInto uniqueAfter unique sortedEdgeEvents eps negative absolute clamped totalOrder floorZ ceilZ rounded natFloat ofBits ofInt neg lt le eq add sub mul div round toUnsigned
+computed = true
+
+abbrev quarter : Float
+quarter = ofBits binary64 0x3FD0000000000000
+
+abbrev half : Float
+half = ofBits binary64 0x3FE0000000000000
+
+abbrev three-quarters : Float
+three-quarters = ofBits binary64 0x3FE8000000000000
+
+abbrev minus-half : Float
+minus-half = ofBits binary64 0xBFE0000000000000
+
+abbrev minus-zero : Float
+minus-zero = ofBits binary64 0x8000000000000000
+
+-- "(0, 0.25) to (0.75, 0.25): events U(0) at 0, Diagonal(0,0) at 1"
+along-u : sortedEdgeEvents 1 1 (param zero64 quarter) (param three-quarters quarter) ≡ event zero64 (U 0) ∷ (event one64 (Diagonal 0 0) ∷ [])
+unfolding computed
+along-u = refl
+
+-- "(0, 0) to (0.5, −0.5): first event V(0) at −0, not U(0)": U(0) at 0 is close to it, and dropped
+minus-zero-first : sortedEdgeEvents 1 1 (param zero64 zero64) (param half minus-half) ≡ event minus-zero («V» 0) ∷ []
+unfolding computed
+minus-zero-first = refl
+
+-- "(0.25, 0.25) to (0.75, 0.75): one event at 0.5"
+across : sortedEdgeEvents 1 1 (param quarter quarter) (param three-quarters three-quarters) ≡ event half (Diagonal 0 0) ∷ []
+unfolding computed
+across = refl
+
+-- "taking a + (b−a)·1 to be b" is a mistake: from 1 towards 10^-17 it comes to 0
+lerp-at-one : lerp (param one64 zero64) (param (ofBits binary64 0x3C670EF54646D497) zero64) one64 ≡ param zero64 zero64
+unfolding computed
+lerp-at-one = refl

@@ -1,0 +1,206 @@
+-- What holds of the events of every step: each is on a side of the grid, lambdas are from 0 to 1 and ascend in the total order, neighbours are at least EPS apart, and there are at most 1,023. Assumes nothing.
+use mathlib.Core.Path.{_≡_, refl, sym, ap, _∙_, subst}
+use mathlib.Core.Bool.{Bool, true, false, _&&_, true≢false}
+use mathlib.Core.List.{List, [], _∷_}
+use Prim.Native.Nat.{ℕ, _+_, _-_, _^_, _≤_, _<_}
+use native.Mathlib.Omega.{arith}
+use lib.ListN.{length}
+use lib.Ieee.{Float, binary64, ofBits, lt, le, eq, neg, add, sub, isNan}
+use Rattle.float.specs.Consts.{eps, zero64, one64}
+use Rattle.float.specs.Order.{clamped, totalOrder}
+use Rattle.float.specs.declared.order.Ordering.{Ordering}
+use Rattle.float.specs.declared.order.Ordering.the-variants.{Less, Equal, Greater}
+use Rattle.float.proofs.Less.{le-not-nan}
+use Rattle.float.proofs.Bounds.{clamp-above, clamp-below}
+use Rattle.float.proofs.Orders.{less-greater, not-less-transitive, order-self}
+use Rattle.edges.specs.declared.point.ParamPoint.{ParamPoint}
+use Rattle.edges.specs.declared.cell.DiagonalCell.{DiagonalCell}
+use Rattle.edges.specs.declared.cell.DiagonalCell.the-variants.{Cell, NoCell}
+use Rattle.edges.specs.declared.event.ParamEdge.the-variants.{U, «V», Diagonal}
+use Rattle.edges.specs.declared.event.EdgeEvent.{EdgeEvent}
+use Rattle.edges.specs.declared.event.EdgeAtPoint.{EdgeAtPoint}
+use Rattle.edges.specs.declared.event.EdgeAtPoint.the-variants.{Edge, NoEdge}
+use Rattle.edges.specs.declared.event.NormalizedLambda.{NormalizedLambda}
+use Rattle.edges.specs.declared.event.NormalizedLambda.the-variants.{Lambda, Outside}
+use Rattle.edges.specs.declared.event.Candidate.{Candidate}
+use Rattle.edges.specs.declared.event.Candidate.the-variants.{Event, NoEvent}
+use Rattle.edges.specs.Param.{pick, lerp, within, paramInBounds, normalizeLambda}
+use Rattle.edges.specs.Cell.{diagonalCellAt}
+use Rattle.edges.specs.Events.{event, edgeAtPoint, endCandidate, lambdaAt, uAt, vAt, diagonalEvent, diagonalCrossing, sumOf, changeOfSum, candidates, precedes, insert, sortInto, closeBy, uniqueAfter, unique, sortedEdgeEvents, IfEvent, Each, OnGrid, OnStep, AscendFrom, Ascend, ApartFrom, Apart}
+use Rattle.edges.proofs.Grid.{on-line, end-on-grid, u-on-grid, v-on-grid, diagonal-on-grid}
+use Rattle.edges.proofs.Each.{each-event, each-candidate, each-sort, each-unique, each-implies, length-sort, length-unique, length-candidates}
+
+-- ---- each side is on the grid
+module _ (m n : ℕ) (a b : ParamPoint) where
+  pub events-inside : m ≤ 2 ^ 53 → n ≤ 2 ^ 53 → Each (OnGrid m n) (sortedEdgeEvents m n a b)
+  events-inside hm hn =
+      each-event (OnGrid m n) m n a b (end-on-grid m n zero64 a hm hn) (end-on-grid m n one64 b hm hn)
+      (λ j h. u-on-grid m n a b j (lambdaAt j (a .u) (sub binary64 (b .u) (a .u))) (omega arith))
+      (λ j h. v-on-grid m n a b j (lambdaAt j (a .v) (sub binary64 (b .v) (a .v))) (omega arith))
+      (λ j. diagonal-on-grid m n a b (lambdaAt j (sumOf a) (changeOfSum a b)))
+
+-- ---- lambdas are from 0 to 1
+abbrev LambdaOnStep : NormalizedLambda → Type 0
+LambdaOnStep (Lambda l) = (le zero64 l ≡ true) × (le l one64 ≡ true)
+LambdaOnStep Outside = Unit
+
+within-not-nan : (x top : Float) → within x top ≡ true → isNan x ≡ false
+unfolding within
+within-not-nan x top h = go (le (neg eps) x) (le x (add binary64 top eps)) refl h
+  where
+    go : (s t : Bool) → le (neg eps) x ≡ s → s && t ≡ true → isNan x ≡ false
+    go true t p q = le-not-nan (neg eps) x p .1
+    go false t p q = absurd (true≢false (sym q))
+
+zero-le-one : le zero64 one64 ≡ true
+unfolding le lt eq ofBits
+zero-le-one = refl
+
+normalized : (l : Float) → LambdaOnStep (normalizeLambda l)
+unfolding normalizeLambda
+normalized l = go (within l one64) refl
+  where
+    go : (t : Bool) → within l one64 ≡ t → LambdaOnStep (pick t (Lambda (clamped l zero64 one64)) Outside)
+    go true p =
+        let n : isNan l ≡ false = within-not-nan l one64 p in
+        (clamp-above l zero64 one64 n zero-le-one, clamp-below l zero64 one64 n zero-le-one)
+    go false p = tt
+
+end-on-step : (l : Float) (e : EdgeAtPoint) → (le zero64 l ≡ true) × (le l one64 ≡ true) → IfEvent OnStep (endCandidate l e)
+end-on-step l (Edge e) h = h
+end-on-step l NoEdge h = tt
+
+module _ (m n : ℕ) (a b : ParamPoint) where
+  u-on-step : (u : ℕ) (r : NormalizedLambda) → LambdaOnStep r → IfEvent OnStep (uAt n a b u r)
+  unfolding uAt
+  u-on-step u Outside h = tt
+  u-on-step u (Lambda l) h = on-line OnStep (lerp a b l .v) n (event l (U u)) h
+
+  v-on-step : (v : ℕ) (r : NormalizedLambda) → LambdaOnStep r → IfEvent OnStep (vAt m a b v r)
+  unfolding vAt
+  v-on-step v Outside h = tt
+  v-on-step v (Lambda l) h = on-line OnStep (lerp a b l .u) m (event l («V» v)) h
+
+  diagonal-on-step : (r : NormalizedLambda) → LambdaOnStep r → IfEvent OnStep (diagonalCrossing m n a b r)
+  unfolding diagonalCrossing
+  diagonal-on-step Outside h = tt
+  diagonal-on-step (Lambda l) h = go (paramInBounds m n (lerp a b l)) (diagonalCellAt m n (lerp a b l))
+    where
+      go : (t : Bool) (c : DiagonalCell) → IfEvent OnStep (pick t (diagonalEvent l c) NoEvent)
+      go true (Cell u v) = h
+      go true NoCell = tt
+      go false c = tt
+
+  zero-on-step : (le zero64 zero64 ≡ true) × (le zero64 one64 ≡ true)
+  unfolding le lt eq ofBits
+  zero-on-step = (refl, refl)
+
+  one-on-step : (le zero64 one64 ≡ true) × (le one64 one64 ≡ true)
+  unfolding le lt eq ofBits
+  one-on-step = (refl, refl)
+
+  candidates-on-step : Each OnStep (candidates m n a b)
+  candidates-on-step =
+      each-candidate OnStep m n a b (end-on-step zero64 (edgeAtPoint m n a) zero-on-step) (end-on-step one64 (edgeAtPoint m n b) one-on-step)
+      (λ j h. u-on-step j (lambdaAt j (a .u) (sub binary64 (b .u) (a .u))) (normalized _))
+      (λ j h. v-on-step j (lambdaAt j (a .v) (sub binary64 (b .v) (a .v))) (normalized _))
+      (λ j. diagonal-on-step (lambdaAt j (sumOf a) (changeOfSum a b)) (normalized _))
+
+  sorted-on-step : Each OnStep (sortInto (candidates m n a b) [])
+  sorted-on-step = each-sort OnStep (candidates m n a b) [] candidates-on-step tt
+
+  pub events-on-step : Each OnStep (sortedEdgeEvents m n a b)
+  unfolding sortedEdgeEvents
+  events-on-step = each-unique OnStep (sortInto (candidates m n a b) []) sorted-on-step
+
+-- ---- they ascend
+is-less : (o : Ordering) → precedes o ≡ true → o ≡ Less
+is-less Less h = refl
+is-less Equal h = absurd (true≢false (sym h))
+is-less Greater h = absurd (true≢false (sym h))
+
+not-less : (o : Ordering) → precedes o ≡ false → o ≡ Less → ⊥
+not-less o h q = true≢false (sym (ap precedes q) ∙ h)
+
+is-not : (o : Ordering) → (o ≡ Less → ⊥) → precedes o ≡ false
+is-not Less h = absurd (h refl)
+is-not Equal h = refl
+is-not Greater h = refl
+
+precedes-once : (x y : Float) → precedes (totalOrder x y) ≡ true → precedes (totalOrder y x) ≡ false
+precedes-once x y h = ap precedes (less-greater x y (is-less (totalOrder x y) h))
+
+insert-from : (e : EdgeEvent) (x : Float) (es : List EdgeEvent) → precedes (totalOrder (e .lambda) x) ≡ false → AscendFrom x es → AscendFrom x (insert e es)
+unfolding insert
+insert-from e x [] h k = (h, tt)
+insert-from e x (y ∷ ys) h k = go (λ p. insert-from e (y .lambda) ys p (k .1)) (precedes (totalOrder (e .lambda) (y .lambda))) refl
+  where
+    go : (precedes (totalOrder (e .lambda) (y .lambda)) ≡ false → AscendFrom (y .lambda) (insert e ys)) →
+        (t : Bool) → precedes (totalOrder (e .lambda) (y .lambda)) ≡ t → AscendFrom x (pick t (e ∷ (y ∷ ys)) (y ∷ insert e ys))
+    go f true p = (h, (precedes-once (e .lambda) (y .lambda) p, k .1))
+    go f false p = (k .0, f p)
+
+pub insert-ascends : (e : EdgeEvent) (es : List EdgeEvent) → Ascend es → Ascend (insert e es)
+unfolding insert
+insert-ascends e [] h = tt
+insert-ascends e (y ∷ ys) h = go (precedes (totalOrder (e .lambda) (y .lambda))) refl
+  where
+    go : (t : Bool) → precedes (totalOrder (e .lambda) (y .lambda)) ≡ t → Ascend (pick t (e ∷ (y ∷ ys)) (y ∷ insert e ys))
+    go true p = (precedes-once (e .lambda) (y .lambda) p, h)
+    go false p = insert-from e (y .lambda) ys p h
+
+pub sort-ascends : (es acc : List EdgeEvent) → Ascend acc → Ascend (sortInto es acc)
+unfolding sortInto
+sort-ascends [] acc h = h
+sort-ascends (e ∷ es) acc h = sort-ascends es (insert e acc) (insert-ascends e acc h)
+
+-- what is kept ascends, and is apart: an event that was dropped stands between the one kept before it and the next
+abbrev NotNan : EdgeEvent → Type 0
+NotNan e = isNan (e .lambda) ≡ false
+
+kept-after : (kept x : Float) (es : List EdgeEvent) → isNan kept ≡ false → isNan x ≡ false → Each NotNan es → precedes (totalOrder x kept) ≡ false → AscendFrom x es →
+    AscendFrom kept (uniqueAfter kept es) × ApartFrom kept (uniqueAfter kept es)
+unfolding uniqueAfter
+kept-after kept x [] l m n h k = (tt, tt)
+kept-after kept x (e ∷ es) l m n h k =
+    go (kept-after kept (e .lambda) es l (n .0) (n .1) later (k .1)) (kept-after (e .lambda) (e .lambda) es (n .0) (n .0) (n .1) (ap precedes (order-self (e .lambda))) (k .1))
+    (closeBy kept (e .lambda)) refl
+  where
+    later : precedes (totalOrder (e .lambda) kept) ≡ false
+    later =
+        is-not (totalOrder (e .lambda) kept)
+        (not-less-transitive kept x (e .lambda) l m (n .0) (not-less (totalOrder x kept) h) (not-less (totalOrder (e .lambda) x) (k .0)))
+
+    go : AscendFrom kept (uniqueAfter kept es) × ApartFrom kept (uniqueAfter kept es) → AscendFrom (e .lambda) (uniqueAfter (e .lambda) es) × ApartFrom (e .lambda) (uniqueAfter (e .lambda) es) →
+        (t : Bool) → closeBy kept (e .lambda) ≡ t →
+        AscendFrom kept (pick t (uniqueAfter kept es) (e ∷ uniqueAfter (e .lambda) es)) × ApartFrom kept (pick t (uniqueAfter kept es) (e ∷ uniqueAfter (e .lambda) es))
+    go dropped next true p = dropped
+    go dropped next false p = ((later, next .0), (p, next .1))
+
+kept-ascend : (es : List EdgeEvent) → Each NotNan es → Ascend es → Ascend (unique es) × Apart (unique es)
+unfolding unique
+kept-ascend [] n h = (tt, tt)
+kept-ascend (e ∷ es) n h = kept-after (e .lambda) (e .lambda) es (n .0) (n .0) (n .1) (ap precedes (order-self (e .lambda))) h
+
+module _ (m n : ℕ) (a b : ParamPoint) where
+  both : Ascend (sortedEdgeEvents m n a b) × Apart (sortedEdgeEvents m n a b)
+  unfolding sortedEdgeEvents
+  both =
+      let es = sortInto (candidates m n a b) [] in
+      kept-ascend es (each-implies OnStep NotNan (λ e h. le-not-nan zero64 (e .lambda) (h .0) .1) es (sorted-on-step m n a b)) (sort-ascends (candidates m n a b) [] tt)
+
+  pub events-ascend : Ascend (sortedEdgeEvents m n a b)
+  events-ascend = both .0
+
+  pub events-apart : Apart (sortedEdgeEvents m n a b)
+  events-apart = both .1
+
+  -- ---- there are at most 1,023
+  pub events-few : m ≤ 255 → n ≤ 255 → length (sortedEdgeEvents m n a b) ≤ 1023
+  unfolding sortedEdgeEvents
+  events-few hm hn =
+      fits (length (candidates m n a b)) (length (sortInto (candidates m n a b) [])) (length (unique (sortInto (candidates m n a b) [])))
+      (length-candidates m n a b) (length-sort (candidates m n a b) []) (length-unique (sortInto (candidates m n a b) []))
+    where
+      fits : (x y z : ℕ) → x ≤ 2 + (m + 1) + (n + 1) + (m + n - 1) → y ≡ x + 0 → z ≤ y → z ≤ 1023
+      fits x y z p q r = omega arith
