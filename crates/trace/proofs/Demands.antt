@@ -13,20 +13,23 @@ use Rattle.vector.specs.Vectors.{vector}
 use Rattle.refusal.specs.declared.Check.{Check}
 use Rattle.refusal.specs.declared.Check.the-variants.{Passed, Failed}
 use Rattle.grid.specs.Grid.{pointNumber, Accepted}
-use Rattle.edges.specs.Events.{sortedEdgeEvents}
+use Rattle.edges.specs.Events.{sortedEdgeEvents, Inside, Each, OnGrid}
 use Rattle.edges.specs.declared.point.ParamPoint.{ParamPoint}
 use Rattle.edges.specs.declared.event.ParamEdge.{ParamEdge}
 use Rattle.edges.specs.declared.event.ParamEdge.the-variants.{U, «V», Diagonal}
 use Rattle.edges.specs.declared.event.EdgeEvent.{EdgeEvent}
 use Rattle.surface.specs.Surface.{Shape, falling, EdgeNumbers, along-u, along-v, falls, triangles, Owns, Meets, Jₙ}
 use Rattle.surface.specs.Found.{surfaceOf, CoveredGrid}
+use Rattle.grid.proofs.Laws.{accepted-known}
+use Rattle.edges.proofs.Laws.{events-inside}
 use Rattle.surface.proofs.Demand as surface
+use Rattle.surface.proofs.Joinings.{surface-meets}
 use Rattle.trace.specs.declared.crossing.StepIndex.{StepIndex}
 use Rattle.trace.specs.declared.crossing.StepIndex.the-variants.{At, Nothing}
 use Rattle.trace.specs.declared.crossing.Crossing.{Crossing}
 use Rattle.trace.specs.declared.crossing.EdgePoint.{EdgePoint}
 use Rattle.trace.specs.declared.crossing.EdgePoint.the-variants.{On, NoStep}
-use Rattle.trace.specs.Crossing.{stepIndex, crossing, onU, onV, onDiagonal, edgePoint, EdgeInside}
+use Rattle.trace.specs.Crossing.{stepIndex, crossing, onU, onV, onDiagonal, edgePoint}
 use Rattle.trace.specs.Walk.{Step, on, off, samplesOf}
 use Rattle.trace.specs.Drawing.{Drawing, Room, roomIn}
 use Rattle.trace.specs.Trace.{sideOf, inTurn, Lists, Traced, Counts, drawingOf, finished, afterCheck, traceCheck, traceFlat}
@@ -77,7 +80,7 @@ module _ (g : List Float) (m n : ℕ) (hm : m ≤ 255) (hn : n ≤ 255) where
       go Nothing q r = absurd (no-point r)
 
   -- the sides that `edge_point` takes are grid edges
-  good-edge : (e : ParamEdge) → EdgeInside m n e → GoodEdge g m n FromEdge e
+  good-edge : (e : ParamEdge) → Inside m n e → GoodEdge g m n FromEdge e
   unfolding edgePoint
   good-edge (U u) h x c q = on-u u (x .v) c h q
   good-edge («V» v) h x c q = on-v v (x .u) c h q
@@ -88,11 +91,7 @@ module _ (g : List Float) (m n : ℕ) (hm : m ≤ 255) (hn : n ≤ 255) where
   -- ---- the points of a trace
 
   -- each event of a step falls on a side inside the grid
-  abbrev AllInside : List EdgeEvent → Type 0
-  AllInside [] = Unit {0}
-  AllInside (e ∷ es) = EdgeInside m n (e .edge) × AllInside es
-
-  good-events : (es : List EdgeEvent) → AllInside es → GoodEvents g m n FromEdge es
+  good-events : (es : List EdgeEvent) → Each (OnGrid m n) es → GoodEvents g m n FromEdge es
   good-events [] h = tt
   good-events (e ∷ es) h = (good-edge (e .edge) (h .0), good-events es (h .1))
 
@@ -111,13 +110,20 @@ module _ (g : List Float) (m n : ℕ) (hm : m ≤ 255) (hn : n ≤ 255) where
       let q : getD (finished (on d) l .after .sides) (2 * i + 1) 0 ≡ c .q = side-at l d i 1 noCrossing h (omega arith) in
       rw (p, q) (surface.traced s meets (c .p) (c .q) (all-at FromEdge (d .drawn) i noCrossing good h))
 
-  pub points-on-sides : Meets s → ((a b : ParamPoint) → AllInside (sortedEdgeEvents m n a b)) → (pairs : List Float) (marks : List ℕ) (l : Lists) → PointsOnSides s (traceFlat g m n pairs marks l)
+  pub points-on-sides : Meets s → (pairs : List Float) (marks : List ℕ) (l : Lists) → PointsOnSides s (traceFlat g m n pairs marks l)
   unfolding traceFlat
-  points-on-sides meets inside pairs marks l = go (traceCheck g m n pairs marks)
+  points-on-sides meets pairs marks l = go (traceCheck g m n pairs marks)
     where
       room : Room
       room = roomIn (l .points) (l .starts) (l .sides) (l .fractions)
 
       go : (k : Check) → PointsOnSides s (afterCheck k l (finished (drawingOf g m n pairs marks room) l))
       go (Failed k) = λ i h. absurd (omega arith)
-      go Passed = finished-on-sides meets l (drawingOf g m n pairs marks room) (traced-good FromEdge room g m n (λ a b. good-events (sortedEdgeEvents m n a b) (inside a b)) (samplesOf marks pairs))
+      go Passed = finished-on-sides meets l (drawingOf g m n pairs marks room) (traced-good FromEdge room g m n (λ a b. good-events (sortedEdgeEvents m n a b) (events-inside m n a b (le-trans hm (lit≤ tt)) (le-trans hn (lit≤ tt)))) (samplesOf marks pairs))
+
+-- DEMAND 3
+pub demand3 : (g : List Float) (m n : ℕ) → Demand3 g m n
+demand3 g m n accepted hm hn covered =
+    let steps = accepted-known g m n accepted .steps in
+    let meets = surface-meets g m n accepted hm hn covered in
+    record { surface = meets; points = points-on-sides g m n (steps .m-most) (steps .n-most) meets }
