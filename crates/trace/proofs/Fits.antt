@@ -23,7 +23,7 @@ use Rattle.trace.specs.declared.page.Penned.the-variants.{Down}
 use Rattle.trace.specs.declared.page.Previous.{Previous}
 use Rattle.trace.specs.declared.page.Previous.the-variants.{At, Nowhere}
 use Rattle.trace.specs.Crossing.{edgePoint}
-use Rattle.trace.specs.Walk.{Step, on, off, follow, Sample, beforeInside, afterInside, nextLambda, pushed, flushUnless, crossed, crossings, appendEdgeCrossings, paired, sampled}
+use Rattle.trace.specs.Walk.{Step, on, off, follow, Sample, beforeInside, afterInside, nextLambda, pushed, flushUnless, crossed, crossings, appendEdgeCrossings, paired, afterSample, sampled, traced}
 use Rattle.trace.specs.Page.{Page, hasRoom, closeToPending, written, pushPage, kept, dropped, flushPage, Pushed, PenFits}
 
 abbrev pub Fitting : Page → Type 0
@@ -118,3 +118,9 @@ module _ (g : List Float) (m n : ℕ) where
   pub sampled-fits : (p : Previous) (x : Sample) (s : Page) → Fitting s → Fits (sampled pushPage flushPage g m n p x s)
   unfolding sampled
   sampled-fits p x s h = pick-fits (eqb (x .mark) 0) (flushPage s) (paired pushPage flushPage g m n p (x .point) s) (flush-fits s h) (paired-fits p (x .point) s h)
+
+  pub traced-fits : (xs : List Sample) (p : Previous) (s : Page) → Fitting s → Fits (traced pushPage flushPage g m n xs p s)
+  unfolding traced
+  traced-fits [] p s h = flush-fits s h
+  traced-fits (x ∷ xs) p s h =
+      follow-fits (sampled pushPage flushPage g m n p x s) (traced pushPage flushPage g m n xs (afterSample x)) (sampled-fits p x s h) (traced-fits xs (afterSample x))

@@ -6,6 +6,7 @@ pub mod Follow
 pub mod Fits
 pub mod Crossed
 pub mod Walked
+pub mod Sampled
 pub mod Checks
 pub mod Related
 pub mod Turns

@@ -3,8 +3,9 @@ use mathlib.Core.Path.{_≡_, refl, sym, ap, _∙_, subst}
 use mathlib.Core.Bool.{Bool, true, false}
 use mathlib.Core.List.{List, [], _∷_}
 use Prim.Native.Nat.{ℕ, zero, suc, _+_, _≤_, _<_}
+use native.Mathlib.Nat.{le-trans}
 use native.Mathlib.Omega.{arith}
-use lib.Dec.{ltb}
+use lib.Dec.{ltb, lit≤}
 use lib.ListN.{length, drop, getD, drop-of-length-le}
 use lib.Ieee.{Float, nan}
 use borrow.Author.Tests.{ltb-true, ltb-false}
@@ -16,6 +17,7 @@ use Rattle.edges.specs.declared.point.ParamPoint.{ParamPoint}
 use Rattle.edges.specs.declared.event.EdgeEvent.{EdgeEvent}
 use Rattle.edges.proofs.Places.{event-in, events-length}
 use Rattle.edges.proofs.Kept.{next-event}
+use Rattle.edges.proofs.Laws.{events-inside}
 use Rattle.refusal.specs.declared.Refusal.{Refusal}
 use Rattle.trace.specs.declared.page.Pen.{Pen}
 use Rattle.trace.specs.declared.page.Penned.{Penned}
@@ -77,6 +79,10 @@ module _ (g : List Float) (m n : ℕ) (a b : ParamPoint) (ls : List Float) (cs :
           turn-stops {k} er = stops (crossed pushPage flushPage g m n a b previous v x w) (crossings pushPage flushPage g m n a b (v .lambda) (drop (i + 1) (eventsIn ls cs count))) u k (ez ∙ turn) er
 
 -- ---- the whole step
+
+-- its events are on the grid
+pub events-stand : (m n : ℕ) (a b : ParamPoint) {es : List EdgeEvent} → m ≤ 255 → n ≤ 255 → es ≡ sortedEdgeEvents m n a b → Each (OnGrid m n) es
+events-stand m n a b hm hn e = subst (Each (OnGrid m n)) (sym e) (events-inside m n a b (le-trans hm (lit≤ tt)) (le-trans hn (lit≤ tt)))
 
 module _ (g : List Float) (m n : ℕ) (a b : ParamPoint) (w : Page) {es : List EdgeEvent} (ee : es ≡ sortedEdgeEvents m n a b)
     {r : Penned} {p : List Float} {t d : List ℕ} {f : List Float} (u : Pushed (crossings pushPage flushPage g m n a b zero64 es w) r p t d f)

@@ -33,8 +33,11 @@ pub record Sample : Type 0 where
   pub mark : ℕ
   pub point : ParamPoint
 
+abbrev pub sampleAt : ℕ → ParamPoint → Sample
+sampleAt k p = record { mark = k; point = p }
+
 abbrev pub sample : ℕ → Float → Float → Sample
-sample k u v = record { mark = k; point = param u v }
+sample k u v = sampleAt k (param u v)
 
 -- "Samples are a flat list of u, v pairs and a list of mark bytes"
 unfoldable pub samplesOf : List ℕ → List Float → List Sample

@@ -1,5 +1,6 @@
 // Pen lines traced across the cells of a grid.
 pub mod crossing;
+pub mod curve;
 pub mod page;
 pub mod samples;
 pub mod walk;

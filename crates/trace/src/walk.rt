@@ -10,6 +10,7 @@ use edges::event::ParamEdge;
 use edges::point::ParamPoint;
 use edges::point::param_in_bounds;
 use edges::scratch::event_at;
+use edges::sorted::sorted_edge_events;
 use float::consts::EPS;
 use refusal::Refusal;
 ghost use mathlib.Core.Path.{_≡_};
@@ -23,7 +24,7 @@ ghost use Rattle.edges.specs.Param.{pick};
 ghost use Rattle.edges.specs.Events.{Each, OnGrid};
 ghost use Rattle.edges.specs.Scratch.{eventsIn};
 ghost use Rattle.trace.specs.Crossing.{edgePoint, GridFits, EdgeInside};
-ghost use Rattle.trace.specs.Walk.{on, beforeInside, afterInside, pushed, crossed, crossings};
+ghost use Rattle.trace.specs.Walk.{on, beforeInside, afterInside, pushed, crossed, crossings, appendEdgeCrossings};
 ghost use Rattle.trace.specs.Page.{pageOf, pushPage, flushPage, Pushed, PenFits};
 
 // Whether the step is inside the grid before the event at `lambda`, the event before it at `previous`.
@@ -205,4 +206,47 @@ fn cross_events(
         i += 1;
     }
     Penned::Down(pen)
+}
+
+// The step from a to b: its events, found in the two scratch lists, and the line's end where b is outside.
+pub fn append_edge_crossings(
+    lambdas: &mut [f64],
+    codes: &mut [u32],
+    grid: &[f64],
+    m: usize,
+    n: usize,
+    points: &mut [f64],
+    starts: &mut [usize],
+    sides: &mut [usize],
+    fractions: &mut [f64],
+    pen: Pen,
+    a: ParamPoint,
+    b: ParamPoint,
+) -> Penned
+    requires { ⌜ (length (now lambdas) ≡ 1023) × (length (now codes) ≡ 1023) ⌝ }
+    requires { ⌜ GridFits (now grid) m n ⌝ }
+    requires { ⌜ PenFits (now points) pen ⌝ }
+    ensures { λ r. ⌜ Pushed (appendEdgeCrossings pushPage flushPage (now (grid .entry)) m n a b
+        (pageOf (now (points .entry)) (now (starts .entry)) (now (sides .entry)) (now (fractions .entry)) pen)) r
+        (now (points .exit)) (now (starts .exit)) (now (sides .exit)) (now (fractions .exit)) ⌝ }
+{
+    let count = sorted_edge_events(lambdas, codes, m, n, a, b);
+    match cross_events(
+        grid,
+        m,
+        n,
+        lambdas,
+        codes,
+        count,
+        points,
+        starts,
+        sides,
+        fractions,
+        pen,
+        a,
+        b,
+    ) {
+        Penned::Down(crossed) => flush_unless(param_in_bounds(m, n, b), starts, crossed),
+        Penned::Stop(refusal) => Penned::Stop(refusal),
+    }
 }

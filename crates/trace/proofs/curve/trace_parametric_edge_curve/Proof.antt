@@ -1,0 +1,163 @@
+-- `trace::curve::trace_parametric_edge_curve` meets its contract. The invariant says what is left: the trace of all samples is the trace of those from i on, from the page so far. Assumes nothing.
+use Prim.Native.Nat.{_≤_, _-_}
+use mathlib.Core.Path.{_≡_, _∙_}
+use native.Mathlib.Omega.{arith}
+use denote.Ref.{now}
+use lib.ListN.{length, drop}
+use Rattle.trace.specs.declared.page.Previous.the-variants.{Nowhere}
+use Rattle.trace.specs.Walk.{samplesOf, traced}
+use Rattle.trace.specs.Page.{penAt, pageOf, pushPage, flushPage, PenFits}
+use Rattle.trace.proofs.Follow.{as-well}
+use Rattle.trace.proofs.Fits.{fits-down, sampled-fits}
+use Rattle.trace.proofs.Sampled.{trace-goes, trace-stops, trace-flushes}
+use borrow.Author.Needs.{needs}
+use Rattle.trace.proofs.curve.trace_parametric_edge_curve.Statement.{statement}
+use Rattle.trace.proofs.curve.trace_parametric_edge_curve.Tie as tie
+
+abbrev Inv-loop : tie.InvT-loop
+Inv-loop grid m n pairs marks points₀ starts₀ sides₀ fractions₀ lambdas₀ codes₀ pen₀ previous₀ i₀ points starts sides fractions lambdas codes pen previous i =
+    (i ≤ length marks) × (length points ≡ length points₀) × (length starts ≡ length starts₀) × (length sides ≡ length sides₀) × (length fractions ≡ length fractions₀)
+    × (length lambdas ≡ 1023) × (length codes ≡ 1023) × PenFits points pen
+    × (traced pushPage flushPage grid m n (samplesOf marks pairs) Nowhere (pageOf points₀ starts₀ sides₀ fractions₀ (penAt 0 0 0))
+    ≡ traced pushPage flushPage grid m n (drop i (samplesOf marks pairs)) previous (pageOf points starts sides fractions pen))
+
+abbrev μ-loop : tie.MeasureT-loop
+μ-loop grid m n pairs marks points₀ starts₀ sides₀ fractions₀ lambdas₀ codes₀ pen₀ previous₀ i₀ points starts sides fractions lambdas codes pen previous i = length marks - i
+
+loop-holds : tie.Need-loop-holds Inv-loop μ-loop
+loop-holds c = search needs
+
+shared-slice-read-mark : tie.Need-shared-slice-read-mark Inv-loop μ-loop
+shared-slice-read-mark c = search needs
+
+mul-t19 : tie.Need-mul-t19 Inv-loop μ-loop
+mul-t19 c = search needs
+
+mul-t23 : tie.Need-mul-t23 Inv-loop μ-loop
+mul-t23 c = search needs
+
+shared-slice-read-t25 : tie.Need-shared-slice-read-t25 Inv-loop μ-loop
+shared-slice-read-t25 c = search needs
+
+mul-t26 : tie.Need-mul-t26 Inv-loop μ-loop
+mul-t26 c = search needs
+
+add-t27 : tie.Need-add-t27 Inv-loop μ-loop
+add-t27 c = search needs
+
+mul-t28 : tie.Need-mul-t28 Inv-loop μ-loop
+mul-t28 c = search needs
+
+shared-slice-read-t30 : tie.Need-shared-slice-read-t30 Inv-loop μ-loop
+shared-slice-read-t30 c = search needs
+
+slice-aggregate-trace-sample : tie.Need-slice-aggregate-trace-sample Inv-loop μ-loop
+slice-aggregate-trace-sample c = search needs
+
+slice-aggregate-trace-sample-2 : tie.Need-slice-aggregate-trace-sample-2 Inv-loop μ-loop
+slice-aggregate-trace-sample-2 c = search needs
+
+trace-sample-requires : tie.Need-trace-sample-requires Inv-loop μ-loop
+trace-sample-requires c κs = ((search needs, search needs), (c .before .before .before .before .before .before .before .before .before .before .before .before .before .before .before .before .before .before .pre .0, c .before .before .before .before .before .before .before .before .before .before .loop .inv .7))
+
+enum-known-traced : tie.Need-enum-known-traced Inv-loop μ-loop
+enum-known-traced c = search needs
+
+enum-known-refusal : tie.Need-enum-known-refusal Inv-loop μ-loop
+enum-known-refusal c = search needs
+
+same-length : tie.Need-same-length Inv-loop μ-loop
+same-length c = search needs
+
+same-length-2 : tie.Need-same-length-2 Inv-loop μ-loop
+same-length-2 c = search needs
+
+same-length-3 : tie.Need-same-length-3 Inv-loop μ-loop
+same-length-3 c = search needs
+
+same-length-4 : tie.Need-same-length-4 Inv-loop μ-loop
+same-length-4 c = search needs
+
+returns : tie.Need-returns Inv-loop μ-loop
+returns c =
+    let s = c .before .before .before .before .before .before .before .before .before .before .before .before .before .before .before .before .before .before .before .before .before .before .before .before .before .before .before .before .before .before .before .before in
+    trace-stops _ _ _ (now (s .args .marks)) (now (s .args .pairs)) (c .before .before .before .before .before .before .before .before .before .before .before .before .before .before .before .before .before .before .before .before .before .before .before .before .loop .i) (s .pre .1 .0) _ _ (c .before .before .before .before .before .before .before .before .before .before .before .before .before .before .before .before .before .before .before .before .before .before .before .loop-test .taken) (c .before .before .before .before .before .before .before .before .before .before .before .before .before .before .before .before .before .before .before .before .before .before .before .before .loop .inv .8) (c .before .before .before .before .before .before .before .before .before .before .before .before .before .trace-sample .ensures) (c .before .refusal .given .1)
+
+after-sample-requires : tie.Need-after-sample-requires Inv-loop μ-loop
+after-sample-requires c κs = search needs
+
+add-i : tie.Need-add-i Inv-loop μ-loop
+add-i c = omega (arith, c .before .before .before .before .before .before .before .before .before .before .before .before .before .before .before .before .before .before .before .before .before .before .before .before .loop-test .taken, c .before .before .before .before .before .before .before .before .before .before .before .before .before .before .before .before .before .before .before .before .before .before .before .before .before .before .before .before .before .before .before .before .before .pre .1 .1)
+
+loop-less : tie.Need-loop-less Inv-loop μ-loop
+loop-less c = search needs
+
+loop-again : tie.Need-loop-again Inv-loop μ-loop
+loop-again c =
+    let s = c .before .before .before .before .before .before .before .before .before .before .before .before .before .before .before .before .before .before .before .before .before .before .before .before .before .before .before .before .before .before .before .before .before in (
+      omega (arith, c .before .before .before .before .before .before .before .before .before .before .before .before .before .before .before .before .before .before .before .before .before .before .before .before .loop-test .taken),
+      omega (arith, c .before .before .before .before .before .before .before .before .before .before .before .points .given, c .before .before .before .before .before .before .before .before .before .before .before .before .before .before .before .before .before .before .before .before .before .before .before .before .before .loop .inv .1),
+      omega (arith, c .before .before .before .before .before .before .before .before .before .starts .given, c .before .before .before .before .before .before .before .before .before .before .before .before .before .before .before .before .before .before .before .before .before .before .before .before .before .loop .inv .2),
+      omega (arith, c .before .before .before .before .before .before .before .sides .given, c .before .before .before .before .before .before .before .before .before .before .before .before .before .before .before .before .before .before .before .before .before .before .before .before .before .loop .inv .3),
+      omega (arith, c .before .before .before .before .before .fractions .given, c .before .before .before .before .before .before .before .before .before .before .before .before .before .before .before .before .before .before .before .before .before .before .before .before .before .loop .inv .4),
+      search needs,
+      search needs,
+      fits-down (c .before .before .before .before .before .before .before .before .before .before .before .before .before .before .trace-sample .ensures) (c .before .before .traced .given .1) (sampled-fits _ _ _ _ _ _ (c .before .before .before .before .before .before .before .before .before .before .before .before .before .before .before .before .before .before .before .before .before .before .before .before .before .loop .inv .7)),
+      trace-goes _ _ _ (now (s .args .marks)) (now (s .args .pairs)) (c .before .before .before .before .before .before .before .before .before .before .before .before .before .before .before .before .before .before .before .before .before .before .before .before .before .loop .i) (s .pre .1 .0) _ _ (c .before .before .before .before .before .before .before .before .before .before .before .before .before .before .before .before .before .before .before .before .before .before .before .before .loop-test .taken) (c .before .before .before .before .before .before .before .before .before .before .before .before .before .before .before .before .before .before .before .before .before .before .before .before .before .loop .inv .8) (c .before .before .before .before .before .before .before .before .before .before .before .before .before .before .trace-sample .ensures) (c .before .before .traced .given .1) (c .after-sample .ensures),
+    )
+
+flush-segment-requires : tie.Need-flush-segment-requires Inv-loop μ-loop
+flush-segment-requires c κs = c .before .before .loop .inv .7 .0
+
+same-length-5 : tie.Need-same-length-5 Inv-loop μ-loop
+same-length-5 c = search needs
+
+same-length-6 : tie.Need-same-length-6 Inv-loop μ-loop
+same-length-6 c = search needs
+
+same-length-7 : tie.Need-same-length-7 Inv-loop μ-loop
+same-length-7 c = search needs
+
+same-length-8 : tie.Need-same-length-8 Inv-loop μ-loop
+same-length-8 c = search needs
+
+returns-2 : tie.Need-returns-2 Inv-loop μ-loop
+returns-2 c =
+    let s = c .before .before .before .before .before .before .before .before .before .before .before .before .before in
+    as-well (c .before .before .before .before .before .loop .inv .8 ∙ trace-flushes _ _ _ (now (s .args .marks)) (now (s .args .pairs)) (c .before .before .before .before .before .loop .i) (s .pre .1 .0) _ _ (c .before .before .before .before .loop-test .left)) (c .before .before .flush-segment .ensures _ _ _)
+
+pub trace-parametric-edge-curve-spec : {M : Type 1} → statement M
+trace-parametric-edge-curve-spec =
+    tie.close
+    (tie.spec
+    Inv-loop
+    μ-loop
+    loop-holds
+    shared-slice-read-mark
+    mul-t19
+    mul-t23
+    shared-slice-read-t25
+    mul-t26
+    add-t27
+    mul-t28
+    shared-slice-read-t30
+    slice-aggregate-trace-sample
+    slice-aggregate-trace-sample-2
+    trace-sample-requires
+    enum-known-traced
+    enum-known-refusal
+    same-length
+    same-length-2
+    same-length-3
+    same-length-4
+    returns
+    after-sample-requires
+    add-i
+    loop-less
+    loop-again
+    flush-segment-requires
+    same-length-5
+    same-length-6
+    same-length-7
+    same-length-8
+    returns-2)
