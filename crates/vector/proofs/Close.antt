@@ -1,8 +1,8 @@
 -- `allClose` from what the calls gave, and its laws. The largest of three is below EPS where each is, but `larger` leaves a NaN out: so a NaN difference
 -- is passed over, and only three of them are never close. Assumes nothing.
-use mathlib.Core.Path.{_≡_, refl, ap, _∙_}
-use mathlib.Core.Bool.{Bool, true, false, not, _&&_, _||_, and-true, and-false, or-false, true≢false}
-use lib.Ieee.{Float, nan, lt, isNan}
+use mathlib.Core.Path.{_≡_, refl, sym, ap, _∙_}
+use mathlib.Core.Bool.{Bool, true, false, not, _&&_, _||_, true≢false}
+use lib.Ieee.{Float, nan, inf, fin, lt, eq, isNan}
 use Rattle.float.specs.Consts.{eps, zero64, one64}
 use Rattle.float.specs.Sign.{absolute, isFinite}
 use Rattle.float.specs.Order.{larger}
@@ -46,6 +46,64 @@ largest-below d =
 pub close-by : (a b : Vector) → allClose a b ≡ (passes (minus a b .x) && passes (minus a b .y) && passes (minus a b .z)) && not (isNan (minus a b .x) && isNan (minus a b .y) && isNan (minus a b .z))
 unfolding allClose
 close-by a b = largest-below (minus a b)
+
+-- ---- differences that are no NaNs: close where each is below EPS
+or-false : (t : Bool) → t || false ≡ t
+or-false true = refl
+or-false false = refl
+
+and-true : (t : Bool) → t && true ≡ t
+and-true true = refl
+and-true false = refl
+
+and-false : (t : Bool) → t && false ≡ false
+and-false true = refl
+and-false false = refl
+
+ordered-below : (d : Vector) → isNan (d .x) ≡ false → isNan (d .y) ≡ false → isNan (d .z) ≡ false → lt (largest (absolutes d)) eps ≡ lt (absolute (d .x)) eps && lt (absolute (d .y)) eps && lt (absolute (d .z)) eps
+ordered-below d h k l = largest-below d ∙ simp (h, k, l, or-false, and-true)
+
+self-equal : (x : Float) → eq x x ≡ true → isNan x ≡ false
+unfolding eq isNan
+self-equal nan h = sym h
+self-equal (inf s) h = refl
+self-equal (fin s m e) h = refl
+
+below-not-nan : (x : Float) → lt (absolute x) eps ≡ true → isNan x ≡ false
+below-not-nan x h = go (isNan x) refl
+  where
+    go : (t : Bool) → isNan x ≡ t → t ≡ false
+    go true e = absurd (true≢false (sym h ∙ nan-not-below (absolute x) eps (abs-nan x ∙ e)))
+    go false e = refl
+
+and-first : (p q : Bool) → p && q ≡ true → p ≡ true
+and-first true q h = refl
+and-first false q h = h
+
+and-second : (p q : Bool) → p && q ≡ true → q ≡ true
+and-second true q h = h
+and-second false q h = absurd (true≢false (sym h))
+
+-- what the first two tests of `all_close` answer
+module _ (a b d : Vector) (p q r : Bool) (e : d ≡ minus a b) (ep : p ≡ lt (absolute (d .x)) eps) (eq' : q ≡ lt (absolute (d .y)) eps) (er : r ≡ lt (absolute (d .z)) eps) where
+  difference : lt (largest (absolutes d)) eps ≡ allClose a b
+  unfolding allClose
+  difference = ap (λ (v : Vector). lt (largest (absolutes v)) eps) e
+
+  pub all-below : p && q && r ≡ true → true ≡ allClose a b
+  all-below h =
+      let x = sym ep ∙ and-first p q (and-first (p && q) r h) in
+      let y = sym eq' ∙ and-second p q (and-first (p && q) r h) in
+      let z = sym er ∙ and-second (p && q) r h in
+      sym (ordered-below d (below-not-nan (d .x) x) (below-not-nan (d .y) y) (below-not-nan (d .z) z) ∙ simp (x, y, z)) ∙ difference
+
+  pub one-apart : p && q && r ≡ false → eq (d .x) (d .x) && eq (d .y) (d .y) && eq (d .z) (d .z) ≡ true → false ≡ allClose a b
+  one-apart h k =
+      let u = and-first (eq (d .x) (d .x) && eq (d .y) (d .y)) (eq (d .z) (d .z)) k in
+      let x = self-equal (d .x) (and-first (eq (d .x) (d .x)) (eq (d .y) (d .y)) u) in
+      let y = self-equal (d .y) (and-second (eq (d .x) (d .x)) (eq (d .y) (d .y)) u) in
+      let z = self-equal (d .z) (and-second (eq (d .x) (d .x) && eq (d .y) (d .y)) (eq (d .z) (d .z)) k) in
+      sym (ordered-below d x y z ∙ rw (← ep, ← eq', ← er) h) ∙ difference
 
 -- ---- finite points are close where the three differences are below EPS
 abbrev pub Finite : Vector → Type 0

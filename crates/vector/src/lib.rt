@@ -3,6 +3,9 @@ use float::consts::EPS;
 use float::order::max;
 use float::sign::abs;
 ghost use mathlib.Core.Path.{_≡_};
+ghost use lib.Ieee.{lt};
+ghost use Rattle.float.specs.Consts.{eps};
+ghost use Rattle.float.specs.Sign.{absolute};
 ghost use Rattle.vector.specs.Vectors.{plus, minus, scaled, allClose};
 
 pub struct Vector {
@@ -42,11 +45,24 @@ impl Vector {
         }
     }
 
-    // Whether the largest of the three absolute differences is below EPS.
+    // Whether the largest of the three absolute differences is below EPS. The last line says so; the
+    // tests before it answer all but a NaN, which max passes over, without a branch on a sign.
     pub fn all_close(self, other: Vector) -> bool
         ensures { λ r. ⌜ r ≡ allClose self other ⌝ }
     {
         let d = self.sub(other);
+        if below_eps(d.x) & below_eps(d.y) & below_eps(d.z) {
+            return true;
+        }
+        if (d.x == d.x) & (d.y == d.y) & (d.z == d.z) {
+            return false;
+        }
         max(max(abs(d.x), abs(d.y)), abs(d.z)) < EPS
     }
+}
+
+fn below_eps(d: f64) -> bool
+    ensures { λ r. ⌜ r ≡ lt (absolute d) eps ⌝ }
+{
+    (-EPS < d) & (d < EPS)
 }
