@@ -36,7 +36,8 @@ pt a x y = at (xOf a x y) (yOf a x y)
 abbrev last : Axis → Shape → ℕ → Bool
 last a s x = joined (seamOf a s) && eqb x (columns a s)
 
-seam-rule : (s : Shape) (a : Axis) (x y : ℕ) → seamRule a s (pt a x y) ≡ pt a (wrap (joined (seamOf a s)) (columns a s) x) (pick (last a s x) (inverse (seamOf a s) (rows a s) y) y)
+seam-rule : (s : Shape) (a : Axis) (x y : ℕ) →
+    seamRule a s (pt a x y) ≡ pt a (wrap (joined (seamOf a s)) (columns a s) x) (pick (last a s x) (inverse (seamOf a s) (rows a s) y) y)
 unfolding wrap
 seam-rule s axisU x y = go (last axisU s x)
   where
@@ -186,7 +187,8 @@ module _ (s : Shape) (m : 3 ≤ s .M) (n : 3 ≤ s .N) (a : Axis) (w : SeenAlong
 
 -- ---- J and the corner rule
 
-joined-place : (s : Shape) (m : 3 ≤ s .M) (n : 3 ≤ s .N) (a : Axis) (w : SeenAlong a s) (r : Rule) → KeepsInside r (seamOf a s) (joined (closing a s)) (rows a s) → (x y : ℕ) → y ≤ rows a s → joinedBy r s (pt a x y) ≡ place s m n a w x y
+joined-place : (s : Shape) (m : 3 ≤ s .M) (n : 3 ≤ s .N) (a : Axis) (w : SeenAlong a s) (r : Rule) →
+    KeepsInside r (seamOf a s) (joined (closing a s)) (rows a s) → (x y : ℕ) → y ≤ rows a s → joinedBy r s (pt a x y) ≡ place s m n a w x y
 unfolding joinedBy
 joined-place s m n axisU w once k x y h = seam-closing s m n axisU w x y
 joined-place s m n axisU w twice k x y h =
@@ -211,7 +213,9 @@ twice-corner : (s : Shape) (row : ℕ) (p : Point) → cornerBy twice s row p �
 unfolding cornerBy joinedBy
 twice-corner s row p = refl
 
-corner-place : (s : Shape) (m : 3 ≤ s .M) (n : 3 ≤ s .N) (a : Axis) (w : SeenAlong a s) (r : Rule) → KeepsInside r (seamOf a s) (joined (closing a s)) (rows a s) → (row u v : ℕ) → row < s .N → v ≤ row + 1 → u ≤ s .M → cornerBy r s row (at u v) ≡ place s m n a w (xOf a u v) (yOf a u v)
+corner-place : (s : Shape) (m : 3 ≤ s .M) (n : 3 ≤ s .N) (a : Axis) (w : SeenAlong a s) (r : Rule) →
+    KeepsInside r (seamOf a s) (joined (closing a s)) (rows a s) → (row u v : ℕ) → row < s .N → v ≤ row + 1 → u ≤ s .M →
+    cornerBy r s row (at u v) ≡ place s m n a w (xOf a u v) (yOf a u v)
 corner-place s m n axisU w once k row u v h i l =
     corner-once s row (at u v) (place s m n axisU w u v) (seam-closing s m n axisU w u v) (λ e. seam-alone s m n axisU w k u v (omega arith))
 corner-place s m n axisV w once k row u v h i l =
@@ -220,7 +224,8 @@ corner-place s m n axisU w twice k row u v h i l = twice-corner s row (at u v) �
 corner-place s m n axisV w twice k row u v h i l = twice-corner s row (at u v) ∙ joined-place s m n axisV w twice k v u l
 
 -- J of a grid point is the strip's point
-pub J-is : (s : Shape) (m : 3 ≤ s .M) (n : 3 ≤ s .N) (a : Axis) (w : SeenAlong a s) (x y : ℕ) → x ≤ columns a s → y ≤ rows a s → J s (xOf a x y) (yOf a x y) ≡ pointOf (strip s m n a w) x y
+pub J-is : (s : Shape) (m : 3 ≤ s .M) (n : 3 ≤ s .N) (a : Axis) (w : SeenAlong a s) (x y : ℕ) → x ≤ columns a s → y ≤ rows a s →
+    J s (xOf a x y) (yOf a x y) ≡ pointOf (strip s m n a w) x y
 unfolding J pointOf strip place
 J-is s m n a w x y h k = ap (number s) (joined-place s m n a w (s .rule) (w .inside) x y k)
 
