@@ -189,20 +189,32 @@ module _ (S : Strip) where
 
   -- a side is on a rim, or there is such a cell
   pub partner : (k : Kind) (t : Bool) (x y : ℕ) → Cell S x y → RimAt S k t x y ⊎ Partner k t x y
-  partner straight false x y c =
-      ⊎-elim
-      (λ h. inr (record { x′ = x - 1; y′ = y; cell = (omega arith, c .1); same-x = ap (colOf S) (back h) ∙ col-below S x (c .0); same-y = step-below S (x - 1 + 1) y (omega arith) }))
-      (λ h. ⊎-elim
-      (λ j. inl (j, omega arith))
-      (λ j. inr (record { x′ = X - 1; y′ = laidBack seam Y y; cell = (omega arith, back-below seam closed Y y fits (c .1)); same-x = ap (colOf S) top ∙ far-col j ∙ omega arith; same-y = ap (λ (z : ℕ). stepAt S z (laidBack seam Y y)) top ∙ far-step (laidBack seam Y y) j ∙ on-back seam closed Y y fits (c .1) }))
-      seam-cases)
-      (lt-or-le 0 x)
+  partner straight false x y c = ⊎-elim (λ h. inr (before h)) (λ h. ⊎-elim (λ j. inl (j, omega arith)) (λ j. inr (around j h)) seam-cases) (lt-or-le 0 x)
     where
-      top : X - 1 + 1 ≡ X
-      top = omega arith
+      -- the cell before it in the row of cells
+      before : 0 < x → Partner straight false x y
+      before h =
+          let e : x - 1 + 1 ≡ x = omega arith in
+          record {
+            x′ = x - 1;
+            y′ = y;
+            cell = (omega arith, c .1);
+            same-x = ap (colOf S) e ∙ col-below S x (c .0);
+            same-y = step-below S (x - 1 + 1) y (omega arith);
+          }
 
-      back : 0 < x → x - 1 + 1 ≡ x
-      back h = omega arith
+      -- from column 0, the cell of the last column that the seam lays on it
+      around : joined seam ≡ true → x ≤ 0 → Partner straight false x y
+      around j h =
+          let e : X - 1 + 1 ≡ X = omega arith in
+          let y₁ = laidBack seam Y y in
+          record {
+            x′ = X - 1;
+            y′ = y₁;
+            cell = (omega arith, back-below seam closed Y y fits (c .1));
+            same-x = ap (colOf S) e ∙ far-col j ∙ omega arith;
+            same-y = ap (λ (z : ℕ). stepAt S z y₁) e ∙ far-step y₁ j ∙ on-back seam closed Y y fits (c .1);
+          }
   partner straight true x y c =
       ⊎-elim
       (λ h. inr (found (omega (arith, col-below S (x + 1) h))))

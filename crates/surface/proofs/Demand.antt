@@ -140,7 +140,8 @@ module _ (s : Shape) (m : 3 ≤ s .M) (n : 3 ≤ s .N) (ax : Axis) (seen : SeenA
   -- ---- sides
 
   -- on a rim: whoever has the side is triangle i
-  owned-once : (a b i : ℕ) → Owns (triangles s) a b i → ((h′ : Bool) (x′ y′ : ℕ) → Hold h′ x′ y′ a b → SameTri Z (halfAt i) (xAt i) (yAt i) h′ x′ y′) → OwnedOnce (triangles s) a b
+  owned-once : (a b i : ℕ) → Owns (triangles s) a b i → ((h′ : Bool) (x′ y′ : ℕ) → Hold h′ x′ y′ a b → SameTri Z (halfAt i) (xAt i) (yAt i) h′ x′ y′) →
+      OwnedOnce (triangles s) a b
   owned-once a b i o f =
       record {
         first = i;

@@ -108,13 +108,15 @@ module _ (S : Strip) where
   clash k k′ t t′ x y x′ y′ a c o (inr p) (inl q) = names-differ k (nameX S k t x) (nameY S k t x y) (valid S k t x y c) (cc (o .0, o .1, o .2, o .3, p .1, q .1))
   clash k k′ t t′ x y x′ y′ a c o (inr p) (inr q) = not-self false (cc (o .0, o .1, dir-not k t, p .0, q .0))
 
-  opposite-low : (k : Kind) (t : Bool) (x y x′ y′ : ℕ) → k ≡ straight → t ≡ true → nameX S k (not t) x′ ≡ nameX S k t x → nameY S k (not t) x′ y′ ≡ nameY S k t x y → (x′ ≡ colOf S (x + 1)) × (y′ ≡ stepAt S (x + 1) y)
+  opposite-low : (k : Kind) (t : Bool) (x y x′ y′ : ℕ) → k ≡ straight → t ≡ true → nameX S k (not t) x′ ≡ nameX S k t x →
+      nameY S k (not t) x′ y′ ≡ nameY S k t x y → (x′ ≡ colOf S (x + 1)) × (y′ ≡ stepAt S (x + 1) y)
   opposite-low straight true x y x′ y′ e f p q = (p, q)
   opposite-low straight false x y x′ y′ e f p q = (cc, cc)
   opposite-low across t x y x′ y′ e f p q = (cc, cc)
   opposite-low diagonal t x y x′ y′ e f p q = (cc, cc)
 
-  turn-of : (h h′ : Bool) (x y x′ y′ a b : ℕ) (p : Runs h x y a b) (q : Runs h′ x′ y′ a b) → Opposite S (p .k) (p .t) x y (q .k) (q .t) x′ y′ → turnedAt S (p .k) (p .t) x ≡ true → Turn h′ x′ y′ h x y
+  turn-of : (h h′ : Bool) (x y x′ y′ a b : ℕ) (p : Runs h x y a b) (q : Runs h′ x′ y′ a b) → Opposite S (p .k) (p .t) x y (q .k) (q .t) x′ y′ →
+      turnedAt S (p .k) (p .t) x ≡ true → Turn h′ x′ y′ h x y
   turn-of h h′ x y x′ y′ a b p q o e =
       record {
         rev = far .0;

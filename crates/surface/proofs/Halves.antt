@@ -60,7 +60,8 @@ module _ (s : Shape) (u v : ℕ) where
     follows-run rising true (inr (inl e)) = record { k = across; t = true; on = refl; from = sym (e .0); to = sym (e .1) }
     follows-run rising true (inr (inr e)) = record { k = straight; t = false; on = refl; from = sym (e .0); to = sym (e .1) }
 
-    pub run-follows : (d : Split) (k : Kind) (t : Bool) → a ≡ start (cellDir k t) (endsOf cellCorners k d t) → b ≡ finish (cellDir k t) (endsOf cellCorners k d t) → Follows (halfOf s d (halfNum (cellHalf d k t)) u v) a b
+    pub run-follows : (d : Split) (k : Kind) (t : Bool) → a ≡ start (cellDir k t) (endsOf cellCorners k d t) →
+        b ≡ finish (cellDir k t) (endsOf cellCorners k d t) → Follows (halfOf s d (halfNum (cellHalf d k t)) u v) a b
     unfolding halfOf
     run-follows falling straight false p q = inr (inr (sym p, sym q))
     run-follows falling straight true p q = inl (sym p, sym q)

@@ -63,7 +63,8 @@ module _ (S : Strip) where
   abbrev pub SameTri : Bool → ℕ → ℕ → Bool → ℕ → ℕ → Type 0
   SameTri h x y h′ x′ y′ = (h′ ≡ h) × (x′ ≡ x) × (y′ ≡ y)
 
-  named-same : (k : Kind) (t : Bool) (x y : ℕ) → Cell S x y → Same (sideFrom S k t x y) (sideTo S k t x y) (nameFrom S k (nameX S k t x) (nameY S k t x y)) (nameTo S k (nameX S k t x) (nameY S k t x y))
+  named-same : (k : Kind) (t : Bool) (x y : ℕ) → Cell S x y →
+      Same (sideFrom S k t x y) (sideTo S k t x y) (nameFrom S k (nameX S k t x) (nameY S k t x y)) (nameTo S k (nameX S k t x) (nameY S k t x y))
   named-same k t x y c = ⊎-elim (λ w. inl (w .1, w .2)) (λ w. inr (w .1, w .2)) (named S k t x y c)
 
   -- two cells that have one side name it alike

@@ -1,6 +1,7 @@
--- J and the corner rule give the points of the strip. Of the two rules, the one for the strip's seam carries the last column to the first; the one
--- for the other seam does no more than read the last row of a closed column as its first. So a corner in a row before the last needs the v rule
--- only if the u rule took it to row N, which a covered joining does not let happen. Assumes nothing.
+-- J and the corner rule give the points of the strip. The rule of the strip's seam carries the last column to the first; the rule of the other seam
+-- does no more than read the last row of a closed column as its first. One after the other, in either order, they give the strip's point, and no
+-- further rule moves it. A corner in a row before the last leaves out the v rule, which has nothing to do there: a covered joining takes no
+-- point inside a column to its end. Assumes nothing.
 use Prim.Native.Nat.{ℕ, _+_, _-_, _≤_, _<_}
 use mathlib.Core.Path.{_≡_, refl, sym, ap, _∙_}
 use mathlib.Core.Logic.{_⊎_, inl, inr, ⊎-elim}
@@ -11,26 +12,41 @@ use borrow.Author.Tests.{ne-eqb}
 use Rattle.cyclic.specs.Mapping.{pick}
 use Rattle.surface.specs.Surface.{Seam, joined, inverse, Point, at, Rule, once, twice, Shape, uRule, vRule, number, joinedBy, J, cornerBy, corner}
 use Rattle.surface.proofs.Steps.{eqb-cases, wrap, wrap-open, wrap-closed, wrap-below, wrap-wrap, carried, carried-wrap, inv-forward-0}
+use Rattle.surface.proofs.Strip.{Strip, colOf, rowOf, pointOf, row-below, col-below}
 use Rattle.surface.proofs.CellSides.{shift, shift-le, corners}
 use Rattle.surface.proofs.Halves.{cellCorners}
-use Rattle.surface.proofs.Axes.{Axis, axisU, axisV, columns, rows, xOf, yOf, Plain, KeepsInside, SeenAlong, strip}
-use Rattle.surface.proofs.Strip.{Strip, colOf, rowOf, pointOf, row-below, col-below}
+use Rattle.surface.proofs.Axes.{Axis, axisU, axisV, columns, rows, seamOf, closing, xOf, yOf, Plain, KeepsInside, SeenAlong, strip, three}
 
--- ---- the two rules
+-- ---- the two rules, by column and row
 
-uRule-form : (s : Shape) (u v : ℕ) → uRule s (at u v) ≡ at (wrap (joined (s .su)) (s .M) u) (pick (joined (s .su) && eqb u (s .M)) (inverse (s .su) (s .N) v) v)
+-- the rule of the strip's seam, and that of the other
+abbrev seamRule : Axis → Shape → Point → Point
+seamRule axisU s p = uRule s p
+seamRule axisV s p = vRule s p
+
+abbrev closingRule : Axis → Shape → Point → Point
+closingRule axisU s p = vRule s p
+closingRule axisV s p = uRule s p
+
+-- the point of column x and row y
+abbrev pt : Axis → ℕ → ℕ → Point
+pt a x y = at (xOf a x y) (yOf a x y)
+
+-- column x is the last, and joined
+abbrev last : Axis → Shape → ℕ → Bool
+last a s x = joined (seamOf a s) && eqb x (columns a s)
+
+seam-rule : (s : Shape) (a : Axis) (x y : ℕ) →
+    seamRule a s (pt a x y) ≡ pt a (wrap (joined (seamOf a s)) (columns a s) x) (pick (last a s x) (inverse (seamOf a s) (rows a s) y) y)
 unfolding wrap
-uRule-form s u v = go (joined (s .su) && eqb u (s .M))
+seam-rule s axisU x y = go (last axisU s x)
   where
-    go : (t : Bool) → pick t (at 0 (inverse (s .su) (s .N) v)) (at u v) ≡ at (pick t 0 u) (pick t (inverse (s .su) (s .N) v) v)
+    go : (t : Bool) → pick t (at 0 (inverse (s .su) (s .N) y)) (at x y) ≡ at (pick t 0 x) (pick t (inverse (s .su) (s .N) y) y)
     go true = refl
     go false = refl
-
-vRule-form : (s : Shape) (u v : ℕ) → vRule s (at u v) ≡ at (pick (joined (s .sv) && eqb v (s .N)) (inverse (s .sv) (s .M) u) u) (wrap (joined (s .sv)) (s .N) v)
-unfolding wrap
-vRule-form s u v = go (joined (s .sv) && eqb v (s .N))
+seam-rule s axisV x y = go (last axisV s x)
   where
-    go : (t : Bool) → pick t (at (inverse (s .sv) (s .M) u) 0) (at u v) ≡ at (pick t (inverse (s .sv) (s .M) u) u) (pick t 0 v)
+    go : (t : Bool) → pick t (at (inverse (s .sv) (s .M) y) 0) (at y x) ≡ at (pick t (inverse (s .sv) (s .M) y) y) (pick t 0 x)
     go true = refl
     go false = refl
 
@@ -39,11 +55,9 @@ plain-pick m (inl e) true n b = ap (λ (z : Seam). inverse z n b) e
 plain-pick m (inr e) true n b = ap (λ (z : Seam). inverse z n b) e ∙ inv-forward-0 n b
 plain-pick m e false n b = refl
 
-uRule-plain : (s : Shape) (u v : ℕ) → Plain (s .su) → uRule s (at u v) ≡ at (wrap (joined (s .su)) (s .M) u) v
-uRule-plain s u v e = uRule-form s u v ∙ ap (at (wrap (joined (s .su)) (s .M) u)) (plain-pick (s .su) e (joined (s .su) && eqb u (s .M)) (s .N) v)
-
-vRule-plain : (s : Shape) (u v : ℕ) → Plain (s .sv) → vRule s (at u v) ≡ at u (wrap (joined (s .sv)) (s .N) v)
-vRule-plain s u v e = vRule-form s u v ∙ ap (λ (z : ℕ). at z (wrap (joined (s .sv)) (s .N) v)) (plain-pick (s .sv) e (joined (s .sv) && eqb v (s .N)) (s .M) u)
+closing-rule : (s : Shape) (a : Axis) (x y : ℕ) → Plain (closing a s) → closingRule a s (pt a x y) ≡ pt a x (wrap (joined (closing a s)) (rows a s) y)
+closing-rule s axisU x y e = seam-rule s axisV y x ∙ ap (λ (z : ℕ). at z (wrap (joined (s .sv)) (s .N) y)) (plain-pick (s .sv) e (last axisV s y) (s .M) x)
+closing-rule s axisV x y e = seam-rule s axisU y x ∙ ap (at (wrap (joined (s .su)) (s .M) y)) (plain-pick (s .su) e (last axisU s y) (s .N) x)
 
 wrap-fix : (c : Bool) (n i : ℕ) → (c ≡ true → i < n) → wrap c n i ≡ i
 wrap-fix false n i h = wrap-open n i
@@ -62,192 +76,162 @@ pick-wrap : (t c : Bool) (n i j : ℕ) → pick t (wrap c n i) (wrap c n j) ≡ 
 pick-wrap true c n i j = refl
 pick-wrap false c n i j = refl
 
--- seen along u: after the u rule, the v rule only closes the columns
-module _ (s : Shape) (m : 3 ≤ s .M) (n : 3 ≤ s .N) (w : SeenAlong axisU s) where
-  open SeenAlong w using (plain, inside)
+pt-same : (a : Axis) {x y x′ y′ : ℕ} → x ≡ x′ → y ≡ y′ → pt a x y ≡ pt a x′ y′
+pt-same a p q = cc
 
-  abbrev SU : Strip
-  SU = strip s m n axisU w
+module _ (s : Shape) (m : 3 ≤ s .M) (n : 3 ≤ s .N) (a : Axis) (w : SeenAlong a s) where
+  open SeenAlong w using (fits, plain)
 
-  abbrev ju : Bool
-  ju = joined (s .su)
+  abbrev S : Strip
+  S = strip s m n a w
 
-  abbrev jv : Bool
-  jv = joined (s .sv)
+  abbrev X : ℕ
+  X = columns a s
 
+  abbrev Y : ℕ
+  Y = rows a s
+
+  -- whether columns are joined, and whether they are closed
+  abbrev j : Bool
+  j = joined (seamOf a s)
+
+  abbrev c : Bool
+  c = joined (closing a s)
+
+  abbrev inv : ℕ → ℕ
+  inv y = inverse (seamOf a s) Y y
+
+  X>0 : 0 < X
+  X>0 = omega (arith, three a s m n)
+
+  Y>0 : 0 < Y
+  Y>0 = omega (arith, three a s m n)
+
+  -- the strip's point
   place : ℕ → ℕ → Point
-  place u v = at (colOf SU u) (rowOf SU u v)
+  place x y = pt a (colOf S x) (rowOf S x y)
 
-  row-form : (u v : ℕ) → rowOf SU u v ≡ wrap jv (s .N) (pick (ju && eqb u (s .M)) (inverse (s .su) (s .N) v) v)
-  unfolding rowOf carried strip
-  row-form u v = pick-wrap (ju && eqb u (s .M)) jv (s .N) (inverse (s .su) (s .N) v) v
-
-  col-form : (u : ℕ) → colOf SU u ≡ wrap ju (s .M) u
+  col-form : (x : ℕ) → colOf S x ≡ wrap j X x
   unfolding colOf strip
-  col-form u = refl
+  col-form x = refl
 
-  one-round : (u v : ℕ) → vRule s (uRule s (at u v)) ≡ place u v
-  unfolding place
-  one-round u v =
-      ap (vRule s) (uRule-form s u v)
-      ∙ vRule-plain s (wrap ju (s .M) u) (pick (ju && eqb u (s .M)) (inverse (s .su) (s .N) v) v) plain
-      ∙ sym (ap (λ (z : ℕ). at z (rowOf SU u v)) (col-form u) ∙ ap (at (wrap ju (s .M) u)) (row-form u v))
+  row-form : (x y : ℕ) → rowOf S x y ≡ pick (last a s x) (carried (seamOf a s) c Y y) (wrap c Y y)
+  unfolding rowOf strip
+  row-form x y = refl
 
-  second-round : (u v : ℕ) → vRule s (uRule s (place u v)) ≡ place u v
-  unfolding place
-  second-round u v =
-      ap (vRule s)
-      (uRule-form s (colOf SU u) (rowOf SU u v)
-      ∙ ap (λ (t : Bool). at (wrap ju (s .M) (colOf SU u)) (pick t (inverse (s .su) (s .N) (rowOf SU u v)) (rowOf SU u v)))
-      (ap (λ (z : ℕ). ju && eqb z (s .M)) (col-form u) ∙ settled ju (s .M) u (omega arith))
-      ∙ ap (λ (z : ℕ). at z (rowOf SU u v)) (ap (wrap ju (s .M)) (col-form u) ∙ wrap-wrap ju (s .M) u (omega arith) ∙ sym (col-form u)))
-      ∙ vRule-plain s (colOf SU u) (rowOf SU u v) plain
-      ∙ ap (at (colOf SU u)) (ap (wrap jv (s .N)) (row-form u v) ∙ wrap-wrap jv (s .N) (pick (ju && eqb u (s .M)) (inverse (s .su) (s .N) v) v) (omega arith) ∙ sym (row-form u v))
-
-  joined-u : (r : Rule) (u v : ℕ) → joinedBy r s (at u v) ≡ place u v
-  unfolding joinedBy
-  joined-u once u v = one-round u v
-  joined-u twice u v = ap (λ (p : Point). vRule s (uRule s p)) (one-round u v) ∙ second-round u v
-
-  corner-u : (r : Rule) → KeepsInside r (s .su) jv (s .N) → (row u v : ℕ) → row < s .N → v ≤ row + 1 → cornerBy r s row (at u v) ≡ place u v
-  unfolding cornerBy joinedBy place
-  corner-u twice t row u v h k = joined-u twice u v
-  corner-u once t row u v h k =
-      ⊎-elim
-      (λ w. ap (λ (z : Bool). pick z (vRule s (uRule s (at u v))) (uRule s (at u v))) (w .0) ∙ one-round u v)
-      (λ w. ap (λ (z : Bool). pick z (vRule s (uRule s (at u v))) (uRule s (at u v))) (w .0) ∙ uRule-form s u v ∙ sym (ap (λ (z : ℕ). at z (rowOf SU u v)) (col-form u) ∙ ap (at (wrap ju (s .M) u)) (row-form u v ∙ wrap-fix jv (s .N) (pick (ju && eqb u (s .M)) (inverse (s .su) (s .N) v) v) (λ e. inner e (ju && eqb u (s .M)) (below (w .1))))))
-      (eqb-cases (row + 1) (s .N))
-    where
-      below : (row + 1 ≡ s .N → ⊥) → v < s .N
-      below w = omega arith
-
-      inner : jv ≡ true → (z : Bool) → v < s .N → pick z (inverse (s .su) (s .N) v) v < s .N
-      inner e true l = t e v l
-      inner e false l = l
-
-  J-u : (u v : ℕ) → J s u v ≡ pointOf SU u v
-  unfolding J pointOf strip place
-  J-u u v = ap (number s) (joined-u (s .rule) u v)
-
-  C-u : (row u v : ℕ) → row < s .N → v ≤ row + 1 → corner s row u v ≡ pointOf SU u v
-  unfolding corner pointOf strip place
-  C-u row u v h k = ap (number s) (corner-u (s .rule) inside row u v h k)
-
--- seen along v: the u rule closes the columns first, and the v rule then joins them
-module _ (s : Shape) (m : 3 ≤ s .M) (n : 3 ≤ s .N) (w : SeenAlong axisV s) where
-  open SeenAlong w using (fits, plain, inside)
-
-  abbrev SV : Strip
-  SV = strip s m n axisV w
-
-  abbrev ku : Bool
-  ku = joined (s .su)
-
-  abbrev kv : Bool
-  kv = joined (s .sv)
-
-  placeV : ℕ → ℕ → Point
-  placeV u v = at (rowOf SV v u) (colOf SV v)
-
-  far : ℕ → Bool
-  far v = kv && eqb v (s .N)
-
-  rowV-form : (u v : ℕ) → rowOf SV v u ≡ pick (far v) (carried (s .sv) ku (s .M) u) (wrap ku (s .M) u)
-  unfolding rowOf strip far
-  rowV-form u v = refl
-
-  colV-form : (v : ℕ) → colOf SV v ≡ wrap kv (s .N) v
-  unfolding colOf strip
-  colV-form v = refl
-
-  far-settled : (v : ℕ) → far (wrap kv (s .N) v) ≡ false
-  unfolding far
-  far-settled v = settled kv (s .N) v (omega arith)
-
-  rowV-below : (u v : ℕ) → v < s .N → rowOf SV v u ≡ wrap ku (s .M) u
-  unfolding strip
-  rowV-below u v h = row-below SV v u h
-
-  colV-below : (v : ℕ) → v < s .N → colOf SV v ≡ v
-  unfolding strip
-  colV-below v h = col-below SV v h
-
-  -- after one round
-  first : (u v : ℕ) → vRule s (uRule s (at u v)) ≡ at (pick (far v) (inverse (s .sv) (s .M) (wrap ku (s .M) u)) (wrap ku (s .M) u)) (wrap kv (s .N) v)
-  unfolding far
-  first u v = ap (vRule s) (uRule-plain s u v plain) ∙ vRule-form s (wrap ku (s .M) u) v
-
-  once-row : KeepsInside once (s .sv) ku (s .M) → (u v : ℕ) → u ≤ s .M → pick (far v) (inverse (s .sv) (s .M) (wrap ku (s .M) u)) (wrap ku (s .M) u) ≡ rowOf SV v u
+  row-wrap : (x y : ℕ) → rowOf S x y ≡ wrap c Y (pick (last a s x) (inv y) y)
   unfolding carried
-  once-row t u v h = go (far v) ∙ sym (rowV-form u v)
+  row-wrap x y = row-form x y ∙ pick-wrap (last a s x) c Y (inv y) y
+
+  -- the seam's rule, then the closing rule
+  seam-closing : (x y : ℕ) → closingRule a s (seamRule a s (pt a x y)) ≡ place x y
+  unfolding place
+  seam-closing x y =
+      ap (closingRule a s) (seam-rule s a x y)
+      ∙ closing-rule s a (wrap j X x) (pick (last a s x) (inv y) y) plain
+      ∙ pt-same a (sym (col-form x)) (sym (row-wrap x y))
+
+  -- and no further rule moves the point
+  seam-stays : (x y : ℕ) → seamRule a s (place x y) ≡ place x y
+  unfolding place
+  seam-stays x y =
+      seam-rule s a (colOf S x) (rowOf S x y)
+      ∙ pt-same a (ap (wrap j X) (col-form x) ∙ wrap-wrap j X x X>0 ∙ sym (col-form x)) (ap (λ (t : Bool). pick t (inv (rowOf S x y)) (rowOf S x y)) not-last)
     where
-      go : (z : Bool) → pick z (inverse (s .sv) (s .M) (wrap ku (s .M) u)) (wrap ku (s .M) u) ≡ pick z (carried (s .sv) ku (s .M) u) (wrap ku (s .M) u)
-      go true =
-          sym (wrap-fix ku (s .M) (inverse (s .sv) (s .M) (wrap ku (s .M) u)) (λ e. t e (wrap ku (s .M) u) (wrap-lt ku (s .M) u (omega arith) h e)))
-          ∙ carried-wrap (s .sv) ku (s .M) u (omega arith) fits
+      not-last : last a s (colOf S x) ≡ false
+      not-last = ap (last a s) (col-form x) ∙ settled j X x X>0
+
+  closing-stays : (x y : ℕ) → closingRule a s (place x y) ≡ place x y
+  unfolding place
+  closing-stays x y =
+      closing-rule s a (colOf S x) (rowOf S x y) plain
+      ∙ pt-same a refl (ap (wrap c Y) (row-wrap x y) ∙ wrap-wrap c Y (pick (last a s x) (inv y) y) Y>0 ∙ sym (row-wrap x y))
+
+  -- the closing rule first
+  closed-first : (x y : ℕ) → place x (wrap c Y y) ≡ place x y
+  unfolding place
+  closed-first x y = pt-same a refl (row-form x (wrap c Y y) ∙ go (last a s x) ∙ sym (row-form x y))
+    where
+      go : (t : Bool) → pick t (carried (seamOf a s) c Y (wrap c Y y)) (wrap c Y (wrap c Y y)) ≡ pick t (carried (seamOf a s) c Y y) (wrap c Y y)
+      go true = carried-wrap (seamOf a s) c Y y Y>0 fits
+      go false = wrap-wrap c Y y Y>0
+
+  closing-seam : KeepsInside once (seamOf a s) c Y → (x y : ℕ) → y ≤ Y → seamRule a s (closingRule a s (pt a x y)) ≡ place x y
+  unfolding place carried
+  closing-seam k x y h =
+      ap (seamRule a s) (closing-rule s a x y plain)
+      ∙ seam-rule s a x (wrap c Y y)
+      ∙ pt-same a (sym (col-form x)) (go (last a s x) ∙ sym (row-form x y))
+    where
+      go : (t : Bool) → pick t (inv (wrap c Y y)) (wrap c Y y) ≡ pick t (carried (seamOf a s) c Y y) (wrap c Y y)
+      go true = sym (wrap-fix c Y (inv (wrap c Y y)) (λ e. k e (wrap c Y y) (wrap-lt c Y y Y>0 h e))) ∙ carried-wrap (seamOf a s) c Y y Y>0 fits
       go false = refl
 
-  joined-once : KeepsInside once (s .sv) ku (s .M) → (u v : ℕ) → u ≤ s .M → vRule s (uRule s (at u v)) ≡ placeV u v
-  unfolding placeV
-  joined-once t u v h = first u v ∙ ap (λ (z : ℕ). at z (wrap kv (s .N) v)) (once-row t u v h) ∙ ap (at (rowOf SV v u)) (sym (colV-form v))
+  -- ---- one rule alone
 
-  joined-twice : (u v : ℕ) → vRule s (uRule s (vRule s (uRule s (at u v)))) ≡ placeV u v
-  unfolding placeV carried
-  joined-twice u v =
-      ap (λ (p : Point). vRule s (uRule s p)) (first u v)
-      ∙ first (pick (far v) (inverse (s .sv) (s .M) (wrap ku (s .M) u)) (wrap ku (s .M) u)) (wrap kv (s .N) v)
-      ∙ again
+  -- inside a column the seam's rule is enough
+  seam-alone : KeepsInside once (seamOf a s) c Y → (x y : ℕ) → y < Y → seamRule a s (pt a x y) ≡ place x y
+  unfolding place
+  seam-alone k x y h =
+      seam-rule s a x y
+      ∙ pt-same a (sym (col-form x)) (sym (row-wrap x y ∙ wrap-fix c Y (pick (last a s x) (inv y) y) (λ e. go e (last a s x))))
     where
-      u₁ : ℕ
-      u₁ = pick (far v) (inverse (s .sv) (s .M) (wrap ku (s .M) u)) (wrap ku (s .M) u)
+      go : c ≡ true → (t : Bool) → pick t (inv y) y < Y
+      go e true = k e y h
+      go e false = h
 
-      rows : (z : Bool) → wrap ku (s .M) (pick z (inverse (s .sv) (s .M) (wrap ku (s .M) u)) (wrap ku (s .M) u)) ≡ pick z (carried (s .sv) ku (s .M) u) (wrap ku (s .M) u)
-      rows true = carried-wrap (s .sv) ku (s .M) u (omega arith) fits
-      rows false = wrap-wrap ku (s .M) u (omega arith)
+  -- before the last column the closing rule is enough
+  closing-alone : (x y : ℕ) → x < X → closingRule a s (pt a x y) ≡ place x y
+  unfolding place strip
+  closing-alone x y h = closing-rule s a x y plain ∙ pt-same a (sym (col-below S x h)) (sym (row-below S x y h))
 
-      stays : far (wrap kv (s .N) v) ≡ false
-      stays = far-settled v
+-- ---- J and the corner rule
 
-      again : at (pick (far (wrap kv (s .N) v)) (inverse (s .sv) (s .M) (wrap ku (s .M) u₁)) (wrap ku (s .M) u₁)) (wrap kv (s .N) (wrap kv (s .N) v)) ≡ at (rowOf SV v u) (colOf SV v)
-      again =
-          ap (λ (t : Bool). at (pick t (inverse (s .sv) (s .M) (wrap ku (s .M) u₁)) (wrap ku (s .M) u₁)) (wrap kv (s .N) (wrap kv (s .N) v))) stays
-          ∙ ap (at (wrap ku (s .M) u₁)) (wrap-wrap kv (s .N) v (omega arith) ∙ sym (colV-form v))
-          ∙ ap (λ (z : ℕ). at z (colOf SV v)) (rows (far v) ∙ sym (rowV-form u v))
+joined-place : (s : Shape) (m : 3 ≤ s .M) (n : 3 ≤ s .N) (a : Axis) (w : SeenAlong a s) (r : Rule) →
+    KeepsInside r (seamOf a s) (joined (closing a s)) (rows a s) → (x y : ℕ) → y ≤ rows a s → joinedBy r s (pt a x y) ≡ place s m n a w x y
+unfolding joinedBy
+joined-place s m n axisU w once k x y h = seam-closing s m n axisU w x y
+joined-place s m n axisU w twice k x y h =
+    ap (λ (p : Point). vRule s (uRule s p)) (seam-closing s m n axisU w x y) ∙ ap (vRule s) (seam-stays s m n axisU w x y) ∙ closing-stays s m n axisU w x y
+joined-place s m n axisV w once k x y h = closing-seam s m n axisV w k x y h
+joined-place s m n axisV w twice k x y h =
+    ap (λ (p : Point). vRule s (uRule s (vRule s p))) (closing-rule s axisV x y (w .plain))
+    ∙ ap (vRule s) (seam-closing s m n axisV w x (wrap (joined (s .su)) (s .M) y) ∙ closed-first s m n axisV w x y)
+    ∙ seam-stays s m n axisV w x y
 
-  joined-v : (r : Rule) → KeepsInside r (s .sv) ku (s .M) → (u v : ℕ) → u ≤ s .M → joinedBy r s (at u v) ≡ placeV u v
-  unfolding joinedBy
-  joined-v once t u v h = joined-once t u v h
-  joined-v twice t u v h = joined-twice u v
+-- a corner is where both rules lead; before row N−1, where the u rule leads
+corner-once : (s : Shape) (row : ℕ) (p q : Point) → vRule s (uRule s p) ≡ q → ((row + 1 ≡ s .N → ⊥) → uRule s p ≡ q) → cornerBy once s row p ≡ q
+unfolding cornerBy
+corner-once s row p q e f =
+    ⊎-elim
+    (λ t. ap (λ (z : Bool). pick z (vRule s (uRule s p)) (uRule s p)) (t .0) ∙ e)
+    (λ t. ap (λ (z : Bool). pick z (vRule s (uRule s p)) (uRule s p)) (t .0) ∙ f (t .1))
+    (eqb-cases (row + 1) (s .N))
 
-  corner-v : (r : Rule) → KeepsInside r (s .sv) ku (s .M) → (row u v : ℕ) → row < s .N → v ≤ row + 1 → u ≤ s .M → cornerBy r s row (at u v) ≡ placeV u v
-  unfolding cornerBy joinedBy placeV
-  corner-v twice t row u v h k l = joined-v twice t u v l
-  corner-v once t row u v h k l =
-      ⊎-elim
-      (λ w. ap (λ (z : Bool). pick z (vRule s (uRule s (at u v))) (uRule s (at u v))) (w .0) ∙ joined-once t u v l)
-      (λ w. ap (λ (z : Bool). pick z (vRule s (uRule s (at u v))) (uRule s (at u v))) (w .0) ∙ uRule-plain s u v plain ∙ sym (inside (below (w .1))))
-      (eqb-cases (row + 1) (s .N))
-    where
-      below : (row + 1 ≡ s .N → ⊥) → v < s .N
-      below w = omega arith
+-- in request 8 every corner is J's point
+twice-corner : (s : Shape) (row : ℕ) (p : Point) → cornerBy twice s row p ≡ joinedBy twice s p
+unfolding cornerBy joinedBy
+twice-corner s row p = refl
 
-      inside : v < s .N → placeV u v ≡ at (wrap ku (s .M) u) v
-      inside b = ap (λ (z : ℕ). at z (colOf SV v)) (rowV-below u v b) ∙ ap (at (wrap ku (s .M) u)) (colV-below v b)
-
-  J-v : (u v : ℕ) → u ≤ s .M → J s u v ≡ pointOf SV v u
-  unfolding J pointOf strip placeV
-  J-v u v h = ap (number s) (joined-v (s .rule) inside u v h)
-
-  C-v : (row u v : ℕ) → row < s .N → v ≤ row + 1 → u ≤ s .M → corner s row u v ≡ pointOf SV v u
-  unfolding corner pointOf strip placeV
-  C-v row u v h k l = ap (number s) (corner-v (s .rule) inside row u v h k l)
+corner-place : (s : Shape) (m : 3 ≤ s .M) (n : 3 ≤ s .N) (a : Axis) (w : SeenAlong a s) (r : Rule) →
+    KeepsInside r (seamOf a s) (joined (closing a s)) (rows a s) → (row u v : ℕ) → row < s .N → v ≤ row + 1 → u ≤ s .M →
+    cornerBy r s row (at u v) ≡ place s m n a w (xOf a u v) (yOf a u v)
+corner-place s m n axisU w once k row u v h i l =
+    corner-once s row (at u v) (place s m n axisU w u v) (seam-closing s m n axisU w u v) (λ e. seam-alone s m n axisU w k u v (omega arith))
+corner-place s m n axisV w once k row u v h i l =
+    corner-once s row (at u v) (place s m n axisV w v u) (closing-seam s m n axisV w k v u l) (λ e. closing-alone s m n axisV w v u (omega arith))
+corner-place s m n axisU w twice k row u v h i l = twice-corner s row (at u v) ∙ joined-place s m n axisU w twice k u v (omega arith)
+corner-place s m n axisV w twice k row u v h i l = twice-corner s row (at u v) ∙ joined-place s m n axisV w twice k v u l
 
 -- J of a grid point is the strip's point
-pub J-is : (s : Shape) (m : 3 ≤ s .M) (n : 3 ≤ s .N) (a : Axis) (w : SeenAlong a s) (x y : ℕ) → x ≤ columns a s → y ≤ rows a s → J s (xOf a x y) (yOf a x y) ≡ pointOf (strip s m n a w) x y
-J-is s m n axisU w x y h k = J-u s m n w x y
-J-is s m n axisV w x y h k = J-v s m n w y x k
+pub J-is : (s : Shape) (m : 3 ≤ s .M) (n : 3 ≤ s .N) (a : Axis) (w : SeenAlong a s) (x y : ℕ) → x ≤ columns a s → y ≤ rows a s →
+    J s (xOf a x y) (yOf a x y) ≡ pointOf (strip s m n a w) x y
+unfolding J pointOf strip place
+J-is s m n a w x y h k = ap (number s) (joined-place s m n a w (s .rule) (w .inside) x y k)
 
 -- and so is a corner of a cell
-pub corner-is : (s : Shape) (m : 3 ≤ s .M) (n : 3 ≤ s .N) (a : Axis) (w : SeenAlong a s) (u v : ℕ) → u < s .M → v < s .N → (i j : Bool) → cellCorners s u v i j ≡ corners (strip s m n a w) (xOf a u v) (yOf a u v) (xOf a i j) (yOf a i j)
-corner-is s m n axisU w u v h k i j = C-u s m n w v (shift i u) (shift j v) k (shift-le j v)
-corner-is s m n axisV w u v h k i j = C-v s m n w v (shift i u) (shift j v) k (shift-le j v) (omega (arith, shift-le i u))
+pub corner-is : (s : Shape) (m : 3 ≤ s .M) (n : 3 ≤ s .N) (a : Axis) (w : SeenAlong a s) (u v : ℕ) → u < s .M → v < s .N → (i j : Bool) →
+    cellCorners s u v i j ≡ corners (strip s m n a w) (xOf a u v) (yOf a u v) (xOf a i j) (yOf a i j)
+unfolding corner pointOf strip place
+corner-is s m n axisU w u v h k i j = ap (number s) (corner-place s m n axisU w (s .rule) (w .inside) v (shift i u) (shift j v) k (shift-le j v) (omega (arith, shift-le i u)))
+corner-is s m n axisV w u v h k i j = ap (number s) (corner-place s m n axisV w (s .rule) (w .inside) v (shift i u) (shift j v) k (shift-le j v) (omega (arith, shift-le i u)))

@@ -131,7 +131,8 @@ unfolding strip
 seen-rim s m n axisU w p q r = ⊎-elim (λ z. inl z) (λ z. inr (plain-open (s .sv) (w .plain) (z .0), z .1)) (rim-from (S s m n axisU w) (P s m n axisU w) (P-is s m n axisU w) p q r)
 seen-rim s m n axisV w p q r = ⊎-elim (λ z. inr z) (λ z. inl (plain-open (s .su) (w .plain) (z .0), z .1)) (rim-from (S s m n axisV w) (P s m n axisV w) (P-is s m n axisV w) p q r)
 
-pub edge-seen : (s : Shape) (m : 3 ≤ s .M) (n : 3 ≤ s .N) (a : Axis) (w : SeenAlong a s) (i j i′ j′ : ℕ) → GridEdge s i j i′ j′ → EdgeAt (strip s m n a w) (J s i j) (J s i′ j′)
+pub edge-seen : (s : Shape) (m : 3 ≤ s .M) (n : 3 ≤ s .N) (a : Axis) (w : SeenAlong a s) (i j i′ j′ : ℕ) → GridEdge s i j i′ j′ →
+    EdgeAt (strip s m n a w) (J s i j) (J s i′ j′)
 unfolding strip
 edge-seen s m n axisU w i j i′ j′ (along-u {u} {v} h k) = edge-across (S s m n axisU w) (P s m n axisU w) (P-is s m n axisU w) u v h k
 edge-seen s m n axisU w i j i′ j′ (along-v {u} {v} h k) = edge-straight (S s m n axisU w) (P s m n axisU w) (P-is s m n axisU w) u v h k
@@ -143,7 +144,8 @@ edge-seen s m n axisV w i j i′ j′ (falls {u} {v} h k e) = edge-flip (S s m n
 edge-seen s m n axisV w i j i′ j′ (rises {u} {v} h k e) = edge-rising (S s m n axisV w) (P s m n axisV w) (P-is s m n axisV w) v u k h e
 
 -- only the strip's seam can be reversed
-pub flipped-seen : (s : Shape) (a : Axis) → Plain (closing a s) → flipped s ≡ pick (reversed (seamOf a s)) (process s (seamOf a s) (rows a s) (lows a s) (highs a s) (rows a s) []) []
+pub flipped-seen : (s : Shape) (a : Axis) → Plain (closing a s) →
+    flipped s ≡ pick (reversed (seamOf a s)) (process s (seamOf a s) (rows a s) (lows a s) (highs a s) (rows a s) []) []
 unfolding flipped
 flipped-seen s axisU w =
     let us = pick (reversed (s .su)) (process s (s .su) (s .N) (lowU s) (highU s) (s .N) []) [] in

@@ -109,7 +109,8 @@ inv-forward o n b p q r =
     unfolded : inverse (forward o) n b ≡ (b + n - o) % n
     unfolded = rw (ne-eqb o 0 (λ e. omega arith), mod-eq-of-lt q)
 
-pub inv-reverse : (o n b : ℕ) → 0 < o → o < n → b ≤ n → ((b ≤ o) × (inverse (reverse o) n b ≡ o - b)) ⊎ (((o < b) × (b < n) × (inverse (reverse o) n b ≡ o + n - b)) ⊎ ((b ≡ n) × (inverse (reverse o) n b ≡ o)))
+pub inv-reverse : (o n b : ℕ) → 0 < o → o < n → b ≤ n →
+    ((b ≤ o) × (inverse (reverse o) n b ≡ o - b)) ⊎ (((o < b) × (b < n) × (inverse (reverse o) n b ≡ o + n - b)) ⊎ ((b ≡ n) × (inverse (reverse o) n b ≡ o)))
 unfolding mapping.inverse
 inv-reverse o n b p q r =
     ⊎-elim
@@ -221,7 +222,8 @@ unfoldable pub carried : Seam → Bool → ℕ → ℕ → ℕ
 carried m c n y = wrap c n (inverse m n y)
 
 -- A forward seam lays step y on step `laidOn`, the same way round.
-pub adj-forward : (o : ℕ) (c : Bool) (n y : ℕ) → Offset o c n → y < n → (carried (forward o) c n y ≡ laidOn (forward o) n y) × (carried (forward o) c n (y + 1) ≡ wrap c n (laidOn (forward o) n y + 1))
+pub adj-forward : (o : ℕ) (c : Bool) (n y : ℕ) → Offset o c n → y < n →
+    (carried (forward o) c n y ≡ laidOn (forward o) n y) × (carried (forward o) c n (y + 1) ≡ wrap c n (laidOn (forward o) n y + 1))
 unfolding carried
 adj-forward zero c n y f h =
     let e : laidOn (forward 0) n y ≡ y = ⊎-elim (λ w. omega arith) (λ w. omega arith) (on-forward 0 n y) in
@@ -238,7 +240,8 @@ adj-forward (suc o) true n y f h =
 adj-forward (suc o) false n y f h = absurd f
 
 -- A reversed seam's two points of a step, before the ends of a closed row are made one.
-pub reverse-step : (o : ℕ) (c : Bool) (n y : ℕ) → Offset o c n → y < n → (inverse (reverse o) n (y + 1) ≡ laidOn (reverse o) n y) × ((inverse (reverse o) n y ≡ laidOn (reverse o) n y + 1) ⊎ ((inverse (reverse o) n y ≡ 0) × (laidOn (reverse o) n y + 1 ≡ n)))
+pub reverse-step : (o : ℕ) (c : Bool) (n y : ℕ) → Offset o c n → y < n →
+    (inverse (reverse o) n (y + 1) ≡ laidOn (reverse o) n y) × ((inverse (reverse o) n y ≡ laidOn (reverse o) n y + 1) ⊎ ((inverse (reverse o) n y ≡ 0) × (laidOn (reverse o) n y + 1 ≡ n)))
 reverse-step zero c n y f h =
     let e : laidOn (reverse 0) n y ≡ n - 1 - y = ⊎-elim (λ w. omega arith) (λ w. omega arith) (on-reverse 0 n y) in
     (omega (arith, inv-reverse-0 n (y + 1)), inl (omega (arith, inv-reverse-0 n y)))
@@ -255,7 +258,8 @@ reverse-step (suc o) true n y f h = (
 reverse-step (suc o) false n y f h = absurd f
 
 -- A reversed seam lays step y on step `laidOn`, the other way round.
-pub adj-reverse : (o : ℕ) (c : Bool) (n y : ℕ) → Offset o c n → y < n → (carried (reverse o) c n (y + 1) ≡ laidOn (reverse o) n y) × (carried (reverse o) c n y ≡ wrap c n (laidOn (reverse o) n y + 1))
+pub adj-reverse : (o : ℕ) (c : Bool) (n y : ℕ) → Offset o c n → y < n →
+    (carried (reverse o) c n (y + 1) ≡ laidOn (reverse o) n y) × (carried (reverse o) c n y ≡ wrap c n (laidOn (reverse o) n y + 1))
 unfolding carried
 adj-reverse zero c n y f h =
     let e : laidOn (reverse 0) n y ≡ n - 1 - y = ⊎-elim (λ w. omega arith) (λ w. omega arith) (on-reverse 0 n y) in
