@@ -1,2 +1,4 @@
 -- The definitions that the contracts of this crate cite.
 pub mod Mesh
+pub mod Corners
+pub mod Held

@@ -1,0 +1,5 @@
+-- Laws that belong to no one function.
+pub mod Firsts
+pub mod Holding
+pub mod Cells
+pub mod Joins
