@@ -3,3 +3,4 @@ pub mod Firsts
 pub mod Holding
 pub mod Cells
 pub mod Joins
+pub mod Inner

@@ -3,7 +3,7 @@ use crate::corner::Surface;
 use crate::corner::cell_corners;
 ghost use mathlib.Core.Path.{_≡_};
 ghost use mathlib.Core.List.{[], _∷_, _++_};
-ghost use Prim.Native.Nat.{ℕ, _+_, _*_, _≤_, _<_};
+ghost use Prim.Native.Nat.{ℕ, _+_, _-_, _*_, _≤_, _<_};
 ghost use lib.ListN.{length, getD};
 ghost use Rattle.surface.specs.Surface.{pick, tri, proper, kept, numberOf};
 ghost use Rattle.mesh.specs.Corners.{shapeOf, Bounded};
@@ -16,6 +16,16 @@ pub fn differ(a: usize, b: usize, c: usize) -> bool
     (a != b) & ((a != c) & (b != c))
 }
 
+// Writes a triangle after the first `count`.
+fn write_triangle(triangles: &mut [usize], count: usize, a: usize, b: usize, c: usize)
+    requires { ⌜ 3 * count + 3 ≤ length (now triangles) ⌝ }
+    ensures { λ _. ⌜ trianglesIn (count + 1) (now (triangles .exit)) ≡ trianglesIn count (now (triangles .entry)) ++ (tri a b c ∷ []) ⌝ }
+{
+    triangles[3 * count] = a;
+    triangles[3 * count + 1] = b;
+    triangles[3 * count + 2] = c;
+}
+
 // Adds a triangle to the first `count` if its three numbers differ, and gives the new count.
 fn add_triangle(triangles: &mut [usize], count: usize, a: usize, b: usize, c: usize) -> usize
     requires { ⌜ 3 * count + 3 ≤ length (now triangles) ⌝ }
@@ -24,9 +34,7 @@ fn add_triangle(triangles: &mut [usize], count: usize, a: usize, b: usize, c: us
     if !differ(a, b, c) {
         return count;
     }
-    triangles[3 * count] = a;
-    triangles[3 * count + 1] = b;
-    triangles[3 * count + 2] = c;
+    write_triangle(triangles, count, a, b, c);
     count + 1
 }
 
@@ -42,8 +50,54 @@ fn build_cell(surface: Surface, u: usize, v: usize, triangles: &mut [usize], cou
     add_triangle(triangles, first, c.i10, c.i11, c.i01)
 }
 
+// The same of a cell that touches neither the last u nor the last v: no rule applies, and its numbers differ.
+fn build_inner_cell(surface: Surface, u: usize, v: usize, triangles: &mut [usize], count: usize) -> usize
+    requires { ⌜ Bounded surface × (u + 1 < surface .m) × (v + 1 < surface .n) ⌝ }
+    requires { ⌜ 6 * (surface .m * surface .n) ≤ length (now triangles) ⌝ }
+    requires { ⌜ trianglesIn count (now triangles) ≡ kept (shapeOf surface) (2 * (u * surface .n + v)) ⌝ }
+    ensures { λ r. ⌜ trianglesIn r (now (triangles .exit)) ≡ kept (shapeOf surface) (2 * (u * surface .n + (v + 1))) ⌝ }
+{
+    let n = surface.n;
+    let i00 = grid::point_number(n, u, v);
+    let i10 = i00 + n + 1;
+    write_triangle(triangles, count, i00, i10, i00 + 1);
+    write_triangle(triangles, count + 1, i10, i10 + 1, i00 + 1);
+    count + 2
+}
+
+// Adds the triangles of the cells (u, 0) to (u, N−2), where u is not the last.
+fn build_inner_row(surface: Surface, u: usize, triangles: &mut [usize], start: usize) -> usize
+    requires { ⌜ Bounded surface × (u + 1 < surface .m) ⌝ }
+    requires { ⌜ 6 * (surface .m * surface .n) ≤ length (now triangles) ⌝ }
+    requires { ⌜ trianglesIn start (now triangles) ≡ kept (shapeOf surface) (2 * (u * surface .n)) ⌝ }
+    ensures { λ r. ⌜ trianglesIn r (now (triangles .exit)) ≡ kept (shapeOf surface) (2 * (u * surface .n + (surface .n - 1))) ⌝ }
+{
+    let last = surface.n - 1;
+    let mut count = start;
+    let mut v: usize = 0;
+    while v < last {
+        count = build_inner_cell(surface, u, v, triangles, count);
+        v += 1;
+    }
+    count
+}
+
 // Adds the triangles of the cells (u, 0) to (u, N−1).
 fn build_row(surface: Surface, u: usize, triangles: &mut [usize], start: usize) -> usize
+    requires { ⌜ Bounded surface × (u < surface .m) ⌝ }
+    requires { ⌜ 6 * (surface .m * surface .n) ≤ length (now triangles) ⌝ }
+    requires { ⌜ trianglesIn start (now triangles) ≡ kept (shapeOf surface) (2 * (u * surface .n)) ⌝ }
+    ensures { λ r. ⌜ trianglesIn r (now (triangles .exit)) ≡ kept (shapeOf surface) (2 * ((u + 1) * surface .n)) ⌝ }
+{
+    if u + 1 < surface.m {
+        let count = build_inner_row(surface, u, triangles, start);
+        return build_cell(surface, u, surface.n - 1, triangles, count);
+    }
+    build_rule_row(surface, u, triangles, start)
+}
+
+// The same, cell by cell.
+fn build_rule_row(surface: Surface, u: usize, triangles: &mut [usize], start: usize) -> usize
     requires { ⌜ Bounded surface × (u < surface .m) ⌝ }
     requires { ⌜ 6 * (surface .m * surface .n) ≤ length (now triangles) ⌝ }
     requires { ⌜ trianglesIn start (now triangles) ≡ kept (shapeOf surface) (2 * (u * surface .n)) ⌝ }

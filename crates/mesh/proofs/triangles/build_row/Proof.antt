@@ -1,66 +1,63 @@
--- `mesh::triangles::build_row` meets its contract: after v cells the list holds the triangles of the slots up to cell (u, v). Assumes nothing.
-use Prim.Native.Nat.{_+_, _-_, _*_, _≤_}
-use mathlib.Core.Path.{_≡_, refl, _∙_}
+-- `mesh::triangles::build_row` meets its contract: the inner cells and then the last one, or cell by cell. Assumes nothing.
+use Prim.Native.Nat.{_+_, _-_}
+use mathlib.Core.Path.{_∙_}
 use native.Mathlib.Omega.{arith}
-use lib.ListN.{length}
-use Rattle.surface.specs.Surface.{kept}
 use Rattle.mesh.specs.Corners.{shapeOf}
-use Rattle.mesh.specs.Held.{trianglesIn}
-use Rattle.mesh.proofs.Cells.{row-first, row-next}
+use Rattle.mesh.proofs.Cells.{row-next}
+use borrow.Author.Needs.{needs}
 use Rattle.mesh.proofs.triangles.build_row.Statement.{statement}
 use Rattle.mesh.proofs.triangles.build_row.Tie as tie
 use Rattle.mesh.proofs.triangles.build_row.Reads as reads
 use Rattle.mesh.proofs.triangles.build_row.Lts as lts
 use Rattle.mesh.proofs.triangles.build_cell.Reads as build-cell-reads
+use Rattle.mesh.proofs.triangles.build_inner_row.Reads as build-inner-row-reads
+use Rattle.mesh.proofs.triangles.build_rule_row.Reads as build-rule-row-reads
 
-abbrev Inv-loop : tie.InvT-loop
-Inv-loop surface u triangles₀ start n count₀ v₀ triangles count v =
-    (v ≤ surface .n) × (trianglesIn count triangles ≡ kept (shapeOf surface) (2 * (u * surface .n + v))) × (length triangles ≡ length triangles₀)
+add-if1 : tie.Need-add-if1
+add-if1 c = search needs
 
-abbrev μ-loop : tie.MeasureT-loop
-μ-loop surface u triangles₀ start n count₀ v₀ triangles count v = surface .n - v
-
-loop-holds : tie.Need-loop-holds Inv-loop μ-loop
-loop-holds c =
-    let t = c .before in
-    (omega arith, t .pre .1 .1 ∙ row-first (shapeOf (t .args .surface)) (t .args .surface .n) (t .args .u), refl)
-
-build-cell-requires : tie.Need-build-cell-requires Inv-loop μ-loop
-build-cell-requires c κs =
-    let w = c .before .before .loop in
+build-inner-row-requires : tie.Need-build-inner-row-requires
+build-inner-row-requires c κs =
     let t = c .before .before .before .before in
-    ((t .pre .0 .0, t .pre .0 .1, omega arith), (omega arith, w .inv .1))
+    ((t .pre .0 .0, c .before .if1 .taken), t .pre .1)
 
-add-v : tie.Need-add-v Inv-loop μ-loop
-add-v c = omega arith
+sub-build-cell : tie.Need-sub-build-cell
+sub-build-cell c = search needs
 
-loop-less : tie.Need-loop-less Inv-loop μ-loop
-loop-less c = omega arith
+build-cell-requires : tie.Need-build-cell-requires
+build-cell-requires c κs =
+    let r = c .before .before .before .before .build-inner-row in
+    let t = c .before .before .before .before .before .before .before .before .before in
+    ((t .pre .0 .0, t .pre .0 .1, omega (arith, t .pre .0 .0 .n-least)), (omega (arith, r .kept .1 .1 .0, t .pre .1 .0), r .ensures))
 
-loop-again : tie.Need-loop-again Inv-loop μ-loop
-loop-again c =
-    let b = c .before .before .build-cell in
-    (omega arith, b .ensures, omega (arith, b .kept .1 .1 .1 .0))
+same-length : tie.Need-same-length
+same-length c = search needs
 
-same-length : tie.Need-same-length Inv-loop μ-loop
-same-length c = omega arith
-
-returns : tie.Need-returns Inv-loop μ-loop
+returns : tie.Need-returns
 returns c =
-    let w = c .before .loop in
-    let a = c .before .before .before .args in
-    w .inv .1 ∙ row-next (shapeOf (a .surface)) (a .surface .n) (a .u) (w .v) (omega arith)
+    let t = c .before .before .before .before .before .before .before .before .before .before .before .before in
+    let a = t .args in
+    c .before .before .build-cell .ensures ∙ row-next (shapeOf (a .surface)) (a .surface .n) (a .u) (a .surface .n - 1 + 1) (omega (arith, t .pre .0 .0 .n-least))
+
+build-rule-row-requires : tie.Need-build-rule-row-requires
+build-rule-row-requires c κs = c .before .before .before .before .pre
+
+same-length-2 : tie.Need-same-length-2
+same-length-2 c = search needs
+
+returns-2 : tie.Need-returns-2
+returns-2 c = c .before .before .build-rule-row .ensures
 
 pub build-row-spec : {M : Type 1} → statement M
 build-row-spec =
     tie.close
     (tie.spec
-    Inv-loop
-    μ-loop
-    loop-holds
+    add-if1
+    build-inner-row-requires
+    sub-build-cell
     build-cell-requires
-    add-v
-    loop-less
-    loop-again
     same-length
-    returns)
+    returns
+    build-rule-row-requires
+    same-length-2
+    returns-2)
