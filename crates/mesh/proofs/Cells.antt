@@ -68,10 +68,11 @@ pub none-held : (s : Shape) (n : ℕ) (l : List ℕ) → trianglesIn 0 l ≡ kep
 unfolding firsts kept
 none-held s n l = rw (zero-mul n)
 
-pub first-start : (s : Shape) (n : ℕ) (l : List ℕ) → 0 < length l → (i : ℕ) → i ≤ 0 → getD (set l 0 0) i 0 ≡ numberOf s (2 * (i * n))
-first-start s n l h i q =
+-- the first value of f written into a list
+pub value-first : (f : ℕ → ℕ) (l : List ℕ) (x : ℕ) → 0 < length l → x ≡ f 0 → (i : ℕ) → i ≤ 0 → getD (set l 0 x) i 0 ≡ f i
+value-first f l x h z i q =
     let e : i ≡ 0 = omega arith in
-    ap (λ (j : ℕ). getD (set l 0 0) j 0) e ∙ getD-set-same l 0 0 0 h ∙ held-count s (2 * (0 * n)) 0 l (none-held s n l) ∙ ap (λ (j : ℕ). numberOf s (2 * (j * n))) (sym e)
+    ap (λ (j : ℕ). getD (set l 0 x) j 0) e ∙ getD-set-same l 0 x 0 h ∙ z ∙ ap f (sym e)
 
 -- one more value of f written into a list that has those up to u
 pub values-more : (f : ℕ → ℕ) (l : List ℕ) (u x : ℕ) → u + 1 < length l → ((i : ℕ) → i ≤ u → getD l i 0 ≡ f i) → x ≡ f (u + 1) →

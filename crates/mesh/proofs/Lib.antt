@@ -4,3 +4,4 @@ pub mod Holding
 pub mod Cells
 pub mod Joins
 pub mod Inner
+pub mod Counts

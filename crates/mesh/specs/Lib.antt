@@ -2,3 +2,4 @@
 pub mod Mesh
 pub mod Corners
 pub mod Held
+pub mod Rims

@@ -3,6 +3,7 @@ use cyclic::seam::SeamSearch;
 use refusal::Refusal;
 
 pub mod corner;
+pub mod flipped;
 pub mod pairs;
 pub mod triangles;
 

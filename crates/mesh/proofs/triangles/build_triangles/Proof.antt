@@ -7,7 +7,7 @@ use lib.ListN.{length, getD, length-set}
 use Rattle.surface.specs.Surface.{kept, numberOf}
 use Rattle.mesh.specs.Corners.{shapeOf}
 use Rattle.mesh.specs.Held.{trianglesIn}
-use Rattle.mesh.proofs.Cells.{none-held, first-start, held-count, values-more}
+use Rattle.mesh.proofs.Cells.{none-held, value-first, held-count, values-more}
 use Rattle.mesh.proofs.triangles.build_triangles.Statement.{statement}
 use Rattle.mesh.proofs.triangles.build_triangles.Tie as tie
 use Rattle.mesh.proofs.triangles.build_triangles.Reads as reads
@@ -32,7 +32,9 @@ loop-holds : tie.Need-loop-holds Inv-loop μ-loop
 loop-holds c =
     let t = c .before .before in
     let a = t .args in
-    (omega arith, none-held (shapeOf (a .surface)) (a .surface .n) (a .triangles .now), refl, refl, first-start (shapeOf (a .surface)) (a .surface .n) (a .starts .now) (omega arith))
+    let s = shapeOf (a .surface) in
+    let none = none-held s (a .surface .n) (a .triangles .now) in
+    (omega arith, none, refl, refl, value-first (λ (i : ℕ). numberOf s (2 * (i * a .surface .n))) (a .starts .now) 0 (omega arith) (held-count s (2 * (0 * a .surface .n)) 0 (a .triangles .now) none))
 
 build-row-requires : tie.Need-build-row-requires Inv-loop μ-loop
 build-row-requires c κs =
