@@ -5,3 +5,4 @@ pub mod Cells
 pub mod Joins
 pub mod Inner
 pub mod Counts
+pub mod Flips
