@@ -4,26 +4,27 @@ use mathlib.Core.Path.{_≡_, refl, sym, ap, subst, _∙_}
 use mathlib.Core.Logic.{_⊎_, inl, inr, ⊎-elim}
 use mathlib.Core.Bool.{Bool, true, false, _&&_}
 use mathlib.Core.List.{List, [], _∷_}
+use native.Mathlib.Nat.{add-mul}
 use native.Mathlib.Omega.{arith}
 use native.Mathlib.Numerals.{add-one}
 use lib.Dec.{ltb}
-use lib.ListN.{length}
+use lib.ListN.{length, getD}
 use borrow.Author.Tests.{lt-ltb, le-ltb}
 use Rattle.cyclic.specs.declared.mapping.CyclicMapping.{CyclicMapping}
 use Rattle.cyclic.specs.declared.mapping.CyclicMapping.the-variants.{Forward, Reverse}
 use Rattle.cyclic.specs.declared.seam.Seam.{Seam as Found}
 use Rattle.cyclic.specs.declared.seam.Seam.the-variants.{Joined, Unjoined}
 use Rattle.cyclic.specs.Mapping as cyclic
-use Rattle.surface.specs.Surface.{pick, both, Seam, Shape, Pair, ordered, insert, proper, slot, numberOf, stepOn, reversed, process}
+use Rattle.surface.specs.Surface.{pick, both, Seam, Shape, Pair, ordered, insert, proper, slot, numberOf, stepOn, reversed, process, flipped, lowU, highU, lowV, highV}
 use Rattle.surface.specs.Found.{ofMapping, seamOf}
 use Rattle.mesh.specs.declared.corner.Surface.{Surface}
 use Rattle.mesh.specs.declared.flipped.Axis.{Axis}
 use Rattle.mesh.specs.declared.flipped.Axis.the-variants.{U, «V»}
 use Rattle.mesh.specs.Corners.{shapeOf, Bounded, Maps}
 use Rattle.mesh.specs.Held.{pair, pairAt, pairsIn}
-use Rattle.mesh.specs.Rims.{plus, stepsOf, lowOf, highOf, flipStep, flipSteps, flips}
+use Rattle.mesh.specs.Rims.{plus, stepsOf, lowOf, highOf, Starts, Rims, flipStep, flipSteps, flips}
 use Rattle.mesh.proofs.Firsts.{length-firsts}
-use Rattle.mesh.proofs.Counts.{number-step}
+use Rattle.mesh.proofs.Counts.{number-step, low-u, low-v, high-u, high-v}
 
 pub steps-most : (axis : Axis) (surface : Surface) → Bounded surface → stepsOf axis (shapeOf surface) ≤ 255
 steps-most U surface b = b .n-most
@@ -132,3 +133,42 @@ module _ (axis : Axis) (s : Shape) (ps : List Pair) {seam : Found} where
 
     pub seam-reverse : cyclic.isReverse m ≡ true → flipSteps axis s (ofMapping m) (stepsOf axis s) ps ≡ flips axis s (seamOf seam) ps
     seam-reverse f = sym (ap (λ (x : Found). flips axis s (seamOf x) ps) e ∙ rw (sym (reverse-is m) ∙ f))
+
+-- The counts along the rims
+
+module _ (surface : Surface) (b : Bounded surface) where
+  pub rims-u : (low high : List ℕ) → surface .n < length low → surface .n < length high →
+      ((i : ℕ) → i ≤ surface .n → getD low i 0 ≡ numberOf (shapeOf surface) (2 * (0 * surface .n + i))) →
+      ((i : ℕ) → i ≤ surface .n → getD high i 0 ≡ numberOf (shapeOf surface) (2 * ((surface .m - 1) * surface .n + i))) →
+      Rims U (shapeOf surface) low high
+  rims-u low high p q l h =
+      let s = shapeOf surface in
+      record {
+        low-room = p;
+        high-room = q;
+        before = λ i k. l i (omega arith) ∙ ap (numberOf s) (low-u (surface .m) (surface .n) (surface .u) (surface .v) i);
+        after = λ i k. h (i + 1) (omega arith) ∙ ap (numberOf s) (next i);
+      }
+    where
+      next : (i : ℕ) → 2 * ((surface .m - 1) * surface .n + (i + 1)) ≡ highU (shapeOf surface) i + 1
+      next i = omega (arith, high-u (surface .m) (surface .n) (surface .u) (surface .v) i)
+
+  pub rims-v : (starts : List ℕ) → Starts surface starts → Rims «V» (shapeOf surface) starts starts
+  rims-v starts t =
+      let s = shapeOf surface in
+      record {
+        low-room = t .room;
+        high-room = t .room;
+        before = λ i k. t .at i (omega arith) ∙ ap (numberOf s) (first i);
+        after = λ i k. t .at (i + 1) (omega arith) ∙ ap (numberOf s) (next i);
+      }
+    where
+      first : (i : ℕ) → 2 * (i * surface .n) ≡ lowV (shapeOf surface) i
+      first i = omega (arith, low-v (surface .m) (surface .n) (surface .u) (surface .v) i)
+
+      next : (i : ℕ) → 2 * ((i + 1) * surface .n) ≡ highV (shapeOf surface) i + 1
+      next i = omega (arith, add-mul i 1 (surface .n), high-v (surface .m) (surface .n) (surface .u) (surface .v) i, b .n-least)
+
+pub flipped-is : (s : Shape) → flips «V» s (s .sv) (flips U s (s .su) []) ≡ flipped s
+unfolding flipped
+flipped-is s = refl

@@ -6,6 +6,8 @@ use mathlib.Core.List.{List, []}
 use lib.Dec.{ltb}
 use lib.ListN.{length, getD}
 use Rattle.surface.specs.Surface.{pick, Seam, reversed, Shape, numberOf, stepOn, lowU, highU, lowV, highV, Pair, putDown, process}
+use Rattle.mesh.specs.declared.corner.Surface.{Surface}
+use Rattle.mesh.specs.Corners.{shapeOf}
 use Rattle.mesh.specs.declared.flipped.Axis.{Axis}
 use Rattle.mesh.specs.declared.flipped.Axis.the-variants.{U, «V»}
 
@@ -27,6 +29,11 @@ lowOf «V» s i = lowV s i
 abbrev pub highOf : Axis → Shape → ℕ → ℕ
 highOf U s i = highU s i
 highOf «V» s i = highV s i
+
+-- the number of triangles before each u, and of all
+pub record Starts (surface : Surface) (starts : List ℕ) : Type 0 where
+  pub room : surface .m < length starts
+  pub at : (u : ℕ) → u ≤ surface .m → getD starts u 0 ≡ numberOf (shapeOf surface) (2 * (u * surface .n))
 
 -- the number of triangles before each triangle of the low rim, and after each of the high rim
 pub record Rims (axis : Axis) (s : Shape) (low high : List ℕ) : Type 0 where

@@ -13,7 +13,7 @@ ghost use Rattle.surface.specs.Surface.{proper, slot, numberOf, wrapEnds, stepO
 ghost use Rattle.surface.specs.Found.{ofMapping, seamOf};
 ghost use Rattle.mesh.specs.Corners.{shapeOf, Bounded, Maps};
 ghost use Rattle.mesh.specs.Held.{pairsIn};
-ghost use Rattle.mesh.specs.Rims.{stepsOf, lowOf, highOf, Rims, plus, flipStep, flipSteps, flips};
+ghost use Rattle.mesh.specs.Rims.{stepsOf, lowOf, highOf, Rims, Starts, plus, flipStep, flipSteps, flips};
 
 // Which seam: the one that joins u = 0 and u = M, or the one that joins v = 0 and v = N. Its low rim is the first of
 // the two, its high rim the other.
@@ -215,19 +215,37 @@ fn flip_seam(
     }
 }
 
-// All flipped pairs. `starts` has the number of triangles before each u, and of all.
-pub fn find_flipped(surface: Surface, starts: &[usize], flipped: &mut [usize]) -> usize
-    requires { ⌜ Bounded surface × (surface .m < length (now starts)) × (2 * (surface .m + surface .n) ≤ length (now flipped)) ⌝ }
-    requires { ⌜ ((i : ℕ) → i ≤ surface .m → getD (now starts) i 0 ≡ numberOf (shapeOf surface) (2 * (i * surface .n))) ⌝ }
-    ensures { λ r. ⌜ pairsIn r (now (flipped .exit)) ≡ allFlipped (shapeOf surface) ⌝ }
+// The counts along the rims of the u seam: before each cell with u = 0, and before each with u = M−1.
+fn count_rims(surface: Surface, starts: &[usize], low: &mut [usize], high: &mut [usize])
+    requires { ⌜ Bounded surface × (surface .n < length (now low)) × (surface .n < length (now high)) ⌝ }
+    requires { ⌜ Starts surface (now starts) ⌝ }
+    ensures { λ _. ⌜ Rims Axis.U (shapeOf surface) (now (low .exit)) (now (high .exit)) ⌝ }
 {
     let last = surface.m - 1;
-    let mut low = [0usize; 256];
-    let mut high = [0usize; 256];
-    count_row(surface, 0, starts[0], &mut low);
-    count_row(surface, last, starts[last], &mut high);
+    count_row(surface, 0, starts[0], low);
+    count_row(surface, last, starts[last], high);
+}
+
+// The flipped pairs of the u seam, then those of the v seam.
+fn flip_seams(surface: Surface, low: &[usize], high: &[usize], starts: &[usize], flipped: &mut [usize]) -> usize
+    requires { ⌜ Bounded surface × Rims Axis.U (shapeOf surface) (now low) (now high) × Starts surface (now starts) ⌝ }
+    requires { ⌜ 2 * (surface .m + surface .n) ≤ length (now flipped) ⌝ }
+    ensures { λ r. ⌜ pairsIn r (now (flipped .exit)) ≡ allFlipped (shapeOf surface) ⌝ }
+{
     let u_seam = surface.u;
     let v_seam = surface.v;
-    let count = flip_seam(surface, Axis::U, u_seam, &low, &high, flipped, 0);
+    let count = flip_seam(surface, Axis::U, u_seam, low, high, flipped, 0);
     flip_seam(surface, Axis::V, v_seam, starts, starts, flipped, count)
+}
+
+// All flipped pairs. `starts` has the number of triangles before each u, and of all.
+pub fn find_flipped(surface: Surface, starts: &[usize], flipped: &mut [usize]) -> usize
+    requires { ⌜ Bounded surface × Starts surface (now starts) ⌝ }
+    requires { ⌜ 2 * (surface .m + surface .n) ≤ length (now flipped) ⌝ }
+    ensures { λ r. ⌜ pairsIn r (now (flipped .exit)) ≡ allFlipped (shapeOf surface) ⌝ }
+{
+    let mut low = [0usize; 256];
+    let mut high = [0usize; 256];
+    count_rims(surface, starts, &mut low, &mut high);
+    flip_seams(surface, &low, &high, starts, flipped)
 }

@@ -3,11 +3,12 @@ use crate::corner::Surface;
 use crate::corner::cell_corners;
 ghost use mathlib.Core.Path.{_≡_};
 ghost use mathlib.Core.List.{[], _∷_, _++_};
-ghost use Prim.Native.Nat.{ℕ, _+_, _-_, _*_, _≤_, _<_};
-ghost use lib.ListN.{length, getD};
-ghost use Rattle.surface.specs.Surface.{pick, tri, proper, kept, numberOf};
+ghost use Prim.Native.Nat.{_+_, _-_, _*_, _≤_, _<_};
+ghost use lib.ListN.{length};
+ghost use Rattle.surface.specs.Surface.{pick, tri, proper, kept};
 ghost use Rattle.mesh.specs.Corners.{shapeOf, Bounded};
 ghost use Rattle.mesh.specs.Held.{trianglesIn};
+ghost use Rattle.mesh.specs.Rims.{Starts};
 
 // Whether three numbers differ.
 pub fn differ(a: usize, b: usize, c: usize) -> bool
@@ -118,7 +119,7 @@ pub fn build_triangles(surface: Surface, triangles: &mut [usize], starts: &mut [
     requires { ⌜ Bounded surface × (surface .m < length (now starts)) ⌝ }
     requires { ⌜ 6 * (surface .m * surface .n) ≤ length (now triangles) ⌝ }
     ensures { λ r. ⌜ trianglesIn r (now (triangles .exit)) ≡ kept (shapeOf surface) (2 * (surface .m * surface .n)) ⌝ }
-    ensures { λ r. ⌜ ((i : ℕ) → i ≤ surface .m → getD (now (starts .exit)) i 0 ≡ numberOf (shapeOf surface) (2 * (i * surface .n))) ⌝ }
+    ensures { λ _. ⌜ Starts surface (now (starts .exit)) ⌝ }
 {
     let m = surface.m;
     let mut count: usize = 0;

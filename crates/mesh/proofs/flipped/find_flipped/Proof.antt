@@ -1,82 +1,46 @@
+-- `mesh::flipped::find_flipped` meets its contract: two scratch lists for the counts along the rims, then both seams. Assumes nothing.
+use native.Mathlib.Omega.{arith}
 use borrow.Author.Needs.{needs}
 use Rattle.mesh.proofs.flipped.find_flipped.Statement.{statement}
 use Rattle.mesh.proofs.flipped.find_flipped.Tie as tie
-use Rattle.mesh.proofs.flipped.find_flipped.Reads as reads
-use Rattle.mesh.proofs.flipped.find_flipped.Lts as lts
-use Rattle.mesh.proofs.flipped.count_row.Reads as count-row-reads
-use Rattle.mesh.proofs.flipped.flip_seam.Reads as flip-seam-reads
 
--- src/flipped.rt:224:16
-sub-last : tie.Need-sub-last
-sub-last c = search needs
+slice-aggregate-count-rims : tie.Need-slice-aggregate-count-rims
+slice-aggregate-count-rims c = search needs
 
--- src/flipped.rt:227:27
-shared-slice-read-count-row : tie.Need-shared-slice-read-count-row
-shared-slice-read-count-row c = search needs
+slice-aggregate-count-rims-2 : tie.Need-slice-aggregate-count-rims-2
+slice-aggregate-count-rims-2 c = search needs
 
--- src/flipped.rt:227:38
-slice-aggregate-count-row : tie.Need-slice-aggregate-count-row
-slice-aggregate-count-row c = search needs
+count-rims-requires : tie.Need-count-rims-requires
+count-rims-requires c κs =
+    let t = c .before .before .before .before in
+    ((t .pre .0 .0, omega (arith, t .pre .0 .0 .n-most), omega (arith, t .pre .0 .0 .n-most)), t .pre .0 .1)
 
--- src/flipped.rt:227:5
-count-row-requires : tie.Need-count-row-requires
-count-row-requires c κs = search needs
+slice-aggregate-flip-seams : tie.Need-slice-aggregate-flip-seams
+slice-aggregate-flip-seams c = search needs
 
--- src/flipped.rt:228:30
-mul-count-row : tie.Need-mul-count-row
-mul-count-row c = search needs
+slice-aggregate-flip-seams-2 : tie.Need-slice-aggregate-flip-seams-2
+slice-aggregate-flip-seams-2 c = search needs
 
--- src/flipped.rt:228:30
-shared-slice-read-count-row-2 : tie.Need-shared-slice-read-count-row-2
-shared-slice-read-count-row-2 c = search needs
+flip-seams-requires : tie.Need-flip-seams-requires
+flip-seams-requires c κs =
+    let t = c .before .before .before .before .before .before .before .before .before .before in
+    ((t .pre .0 .0, c .before .before .before .before .before .count-rims .ensures, t .pre .0 .1), t .pre .1)
 
--- src/flipped.rt:228:44
-slice-aggregate-count-row-2 : tie.Need-slice-aggregate-count-row-2
-slice-aggregate-count-row-2 c = search needs
-
--- src/flipped.rt:228:5
-count-row-requires-2 : tie.Need-count-row-requires-2
-count-row-requires-2 c κs = search needs
-
--- src/flipped.rt:231:53
-slice-aggregate-flip-seam : tie.Need-slice-aggregate-flip-seam
-slice-aggregate-flip-seam c = search needs
-
--- src/flipped.rt:231:59
-slice-aggregate-flip-seam-2 : tie.Need-slice-aggregate-flip-seam-2
-slice-aggregate-flip-seam-2 c = search needs
-
--- src/flipped.rt:231:9
-flip-seam-requires : tie.Need-flip-seam-requires
-flip-seam-requires c κs = search needs
-
--- src/flipped.rt:232:5
-flip-seam-requires-2 : tie.Need-flip-seam-requires-2
-flip-seam-requires-2 c κs = search needs
-
--- src/flipped.rt:219:1
 same-length : tie.Need-same-length
 same-length c = search needs
 
--- src/flipped.rt:219:1
 returns : tie.Need-returns
-returns c = search needs
+returns c = c .before .before .flip-seams .ensures
 
 pub find-flipped-spec : {M : Type 1} → statement M
 find-flipped-spec =
     tie.close
     (tie.spec
-    sub-last
-    shared-slice-read-count-row
-    slice-aggregate-count-row
-    count-row-requires
-    mul-count-row
-    shared-slice-read-count-row-2
-    slice-aggregate-count-row-2
-    count-row-requires-2
-    slice-aggregate-flip-seam
-    slice-aggregate-flip-seam-2
-    flip-seam-requires
-    flip-seam-requires-2
+    slice-aggregate-count-rims
+    slice-aggregate-count-rims-2
+    count-rims-requires
+    slice-aggregate-flip-seams
+    slice-aggregate-flip-seams-2
+    flip-seams-requires
     same-length
     returns)

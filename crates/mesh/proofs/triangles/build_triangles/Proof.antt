@@ -85,7 +85,7 @@ returns c =
     let w = c .before .loop in
     let a = c .before .before .before .before .args in
     let e : w .u ≡ a .surface .m = omega arith in
-    (w .inv .1 ∙ ap (λ (u : ℕ). kept (shapeOf (a .surface)) (2 * (u * a .surface .n))) e, λ i h. w .inv .4 i (omega arith))
+    (w .inv .1 ∙ ap (λ (u : ℕ). kept (shapeOf (a .surface)) (2 * (u * a .surface .n))) e, record { room = omega (arith, w .inv .3, length-set (a .starts .now) 0 0); at = λ i h. w .inv .4 i (omega arith) })
 
 pub build-triangles-spec : {M : Type 1} → statement M
 build-triangles-spec =
