@@ -2,17 +2,16 @@
 use Prim.Native.Nat.{ℕ, zero, suc, _+_, _*_, _/_, _%_, _≤_, _<_}
 use mathlib.Core.Path.{_≡_, refl, sym, ap, _∙_}
 use mathlib.Core.Logic.{⊎-elim}
-use mathlib.Core.Bool.{Bool, true, false, not, _&&_}
+use mathlib.Core.Bool.{Bool, true, false}
 use mathlib.Core.List.{List, [], _∷_, _++_, append-nil}
 use native.Mathlib.Omega.{arith}
 use native.Mathlib.Nat.{zero-mul, add-mul}
-use lib.Dec.{eqb}
 use lib.Arith.{digits-div, digits-mod, digits-lt}
 use lib.ListN.{length, getD, set, length-append}
 use lib.Seq.{getD-set-same, getD-set-other}
 use Rattle.surface.proofs.Steps.{lt-or-le}
 use Rattle.cyclic.specs.declared.seam.Seam.{Seam}
-use Rattle.surface.specs.Surface.{pick, both, Shape, Triangle, tri, proper, Split, falling, halfOf, slot, kept, numberOf}
+use Rattle.surface.specs.Surface.{pick, Shape, Triangle, proper, Split, falling, halfOf, slot, kept, numberOf}
 use Rattle.surface.specs.Found.{surfaceWith}
 use Rattle.mesh.specs.declared.corner.Cell.{Cell}
 use Rattle.mesh.specs.Held.{firsts, triangleAt, trianglesIn}
@@ -22,19 +21,6 @@ use Rattle.mesh.specs.Corners.{cellOf, firstOf, secondOf}
 -- the triangles that a slot adds
 abbrev pub addedBy : Triangle → List Triangle
 addedBy t = pick (proper t) (t ∷ []) []
-
--- three numbers differ, as the code tests it
-pub differ-is : (a b c : ℕ) → not (eqb a b) && (not (eqb a c) && not (eqb b c)) ≡ proper (tri a b c)
-differ-is a b c = go (eqb a b) (eqb a c) (eqb b c)
-  where
-    go : (x y z : Bool) → not x && (not y && not z) ≡ both (pick x false true) (both (pick y false true) (pick z false true))
-    go true y z = refl
-    go false true z = refl
-    go false false z = last z
-      where
-        last : (z : Bool) → not z ≡ pick z false true
-        last true = refl
-        last false = refl
 
 pub added-none : (ts : List Triangle) (t : Triangle) → proper t ≡ false → ts ≡ ts ++ addedBy t
 added-none ts t e = rw e (sym (append-nil ts))

@@ -1,16 +1,15 @@
 -- Numbers of triangles: how a slot adds to the count, which slots the rims have, and the step of one rim on another. Assumes nothing.
 use Prim.Native.Nat.{ℕ, zero, suc, _+_, _-_, _*_, _≤_, _<_}
 use mathlib.Core.Path.{_≡_, refl, sym, ap, subst, _∙_}
-use mathlib.Core.Bool.{Bool, true, false, _&&_}
+use mathlib.Core.Bool.{Bool, true, false}
 use mathlib.Core.List.{List, [], _∷_, _++_}
 use native.Mathlib.Nat.{zero-mul, mul-le-mul}
 use native.Mathlib.Omega.{arith}
-use lib.Dec.{eqb}
 use lib.ListN.{length, length-append}
 use Rattle.cyclic.specs.declared.mapping.CyclicMapping.{CyclicMapping}
 use Rattle.cyclic.specs.declared.seam.Seam.{Seam}
 use Rattle.cyclic.specs.Mapping as cyclic
-use Rattle.surface.specs.Surface.{pick, both, Shape, Triangle, proper, slot, kept, numberOf, wrapEnds, stepOn, lowU, highU, lowV, highV}
+use Rattle.surface.specs.Surface.{pick, Shape, proper, slot, kept, numberOf, wrapEnds, stepOn, lowU, highU, lowV, highV}
 use Rattle.surface.specs.Found.{ofMapping, surfaceWith}
 use Rattle.mesh.specs.declared.flipped.Axis.{Axis}
 use Rattle.mesh.specs.Rims.{plus, stepsOf}
@@ -72,14 +71,6 @@ module _ (m n : ℕ) (su sv : Seam) (i : ℕ) where
   high-v = refl
 
 -- The step of one rim on another
-
-pub wrap-is : (steps a b : ℕ) → wrapEnds steps a b ≡
-    pick (eqb (a + 1) steps && eqb b 0) a (pick (eqb (b + 1) steps && eqb a 0) b (pick (eqb (a + 1) b) a (pick (eqb (b + 1) a) b steps)))
-wrap-is steps a b = rw (both-and (eqb (a + 1) steps) (eqb b 0), both-and (eqb (b + 1) steps) (eqb a 0))
-  where
-    both-and : (x y : Bool) → both x y ≡ x && y
-    both-and true y = refl
-    both-and false y = refl
 
 pub step-is : (m : CyclicMapping) (steps i : ℕ) {a b r : ℕ} → cyclic.stepsOf m ≡ steps → a ≡ cyclic.inverse m i → b ≡ cyclic.inverse m (i + 1) → r ≡ wrapEnds steps a b → r ≡ stepOn (ofMapping m) steps i
 unfolding stepOn

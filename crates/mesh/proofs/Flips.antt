@@ -15,13 +15,13 @@ use Rattle.cyclic.specs.declared.mapping.CyclicMapping.the-variants.{Forward, R
 use Rattle.cyclic.specs.declared.seam.Seam.{Seam as Found}
 use Rattle.cyclic.specs.declared.seam.Seam.the-variants.{Joined, Unjoined}
 use Rattle.cyclic.specs.Mapping as cyclic
-use Rattle.surface.specs.Surface.{pick, both, Seam, Shape, Pair, ordered, insert, proper, slot, numberOf, stepOn, reversed, process, flipped, lowU, highU, lowV, highV}
+use Rattle.surface.specs.Surface.{pick, Seam, Shape, Pair, ordered, insert, proper, slot, numberOf, stepOn, reversed, process, flipped, lowU, highU, lowV, highV, pair}
 use Rattle.surface.specs.Found.{ofMapping, seamOf}
 use Rattle.mesh.specs.declared.corner.Surface.{Surface}
 use Rattle.mesh.specs.declared.flipped.Axis.{Axis}
 use Rattle.mesh.specs.declared.flipped.Axis.the-variants.{U, «V»}
 use Rattle.mesh.specs.Corners.{shapeOf, Bounded, Maps}
-use Rattle.mesh.specs.Held.{pair, pairAt, pairsIn}
+use Rattle.mesh.specs.Held.{pairAt, pairsIn}
 use Rattle.mesh.specs.Rims.{plus, stepsOf, lowOf, highOf, Starts, Rims, flipStep, flipSteps, flips}
 use Rattle.mesh.proofs.Firsts.{length-firsts}
 use Rattle.mesh.proofs.Counts.{number-step, low-u, low-v, high-u, high-v}
@@ -48,17 +48,13 @@ ordered-down a b h =
     let r : max a b ≡ a = omega arith in
     rw (l, r)
 
-both-and : (x y : Bool) → both x y ≡ x && y
-both-and true y = refl
-both-and false y = refl
-
 module _ (axis : Axis) (s : Shape) (m : Seam) (i : ℕ) (ps : List Pair) {on : ℕ} (here : on ≡ stepOn m (stepsOf axis s) i) where
   pub no-step : stepsOf axis s ≤ on → ps ≡ flipStep axis s m i ps
   no-step h = sym (rw (sym here, le-ltb on (stepsOf axis s) h))
 
   module _ (there : on < stepsOf axis s) {a b : Bool} (low : a ≡ proper (slot s (lowOf axis s on))) (high : b ≡ proper (slot s (highOf axis s i))) where
-    tested : both (proper (slot s (lowOf axis s on))) (proper (slot s (highOf axis s i))) ≡ a && b
-    tested = both-and (proper (slot s (lowOf axis s on))) (proper (slot s (highOf axis s i))) ∙ rw (low, high)
+    tested : proper (slot s (lowOf axis s on)) && proper (slot s (highOf axis s i)) ≡ a && b
+    tested = rw (low, high)
 
     pub not-both : a && b ≡ false → ps ≡ flipStep axis s m i ps
     not-both e = sym (rw (sym here, lt-ltb on (stepsOf axis s) there, tested, e))
@@ -100,7 +96,7 @@ insert-most p (q ∷ qs) =
 step-most : (axis : Axis) (s : Shape) (m : Seam) (i : ℕ) (ps : List Pair) → length (flipStep axis s m i ps) ≤ suc (length ps)
 step-most axis s m i ps =
     pick-most (ltb (stepOn m (stepsOf axis s) i) (stepsOf axis s)) _ _ _
-    (pick-most (both (proper (slot s (lowOf axis s (stepOn m (stepsOf axis s) i)))) (proper (slot s (highOf axis s i)))) _ _ _
+    (pick-most (proper (slot s (lowOf axis s (stepOn m (stepsOf axis s) i))) && proper (slot s (highOf axis s i))) _ _ _
     (insert-most (ordered (numberOf s (lowOf axis s (stepOn m (stepsOf axis s) i))) (numberOf s (highOf axis s i))) ps)
     (omega arith))
     (omega arith)

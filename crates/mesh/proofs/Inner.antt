@@ -1,7 +1,7 @@
 -- A cell that touches neither the last u nor the last v: no rule applies to its corners, and its two triangles are proper. Assumes nothing.
 use Prim.Native.Nat.{ℕ, _+_, _*_, _≤_, _<_}
 use mathlib.Core.Path.{_≡_, refl, sym, ap, _∙_}
-use mathlib.Core.Bool.{Bool, true, false}
+use mathlib.Core.Bool.{Bool, true, false, _&&_}
 use mathlib.Core.List.{List, [], _∷_, _++_}
 use native.Mathlib.Nat.{add-mul}
 use native.Mathlib.Omega.{arith}
@@ -9,14 +9,14 @@ use lib.Dec.{eqb}
 use borrow.Author.Tests.{ne-eqb}
 use Rattle.grid.specs.Grid.{pointNumber}
 use Rattle.cyclic.specs.declared.seam.Seam.{Seam}
-use Rattle.surface.specs.Surface.{both, joined, corner, cornerBy, Triangle, tri, proper, kept}
+use Rattle.surface.specs.Surface.{joined, corner, cornerBy, Triangle, tri, proper, kept}
 use Rattle.surface.specs.Found.{seamOf, surfaceWith}
 use Rattle.mesh.specs.Corners.{cellOf, firstOf, secondOf}
 use Rattle.mesh.proofs.Cells.{corners-same, added-one, cell-first, cell-second}
 
-both-false : (b : Bool) → both b false ≡ false
-both-false true = refl
-both-false false = refl
+and-false : (b : Bool) → b && false ≡ false
+and-false true = refl
+and-false false = refl
 
 proper-of : (a b c : ℕ) → (a ≡ b → ⊥) → (a ≡ c → ⊥) → (b ≡ c → ⊥) → proper (tri a b c) ≡ true
 proper-of a b c p q r = rw (ne-eqb a b p, ne-eqb a c q, ne-eqb b c r)
@@ -24,7 +24,7 @@ proper-of a b c p q r = rw (ne-eqb a b p, ne-eqb a c q, ne-eqb b c r)
 module _ (m n : ℕ) (su sv : Seam) where
   plain-corner : (row u v : ℕ) → u < m → row + 1 < n → corner (surfaceWith m n su sv) row u v ≡ pointNumber n u v
   unfolding corner cornerBy
-  plain-corner row u v p q = rw (ne-eqb (row + 1) n (λ e. omega arith), ne-eqb u m (λ e. omega arith), both-false (joined (seamOf su)))
+  plain-corner row u v p q = rw (ne-eqb (row + 1) n (λ e. omega arith), ne-eqb u m (λ e. omega arith), and-false (joined (seamOf su)))
 
   module _ (u v : ℕ) (p : u + 1 < m) (q : v + 1 < n) where
     plain-cell : cellOf (surfaceWith m n su sv) u v ≡ record { i00 = pointNumber n u v; i10 = pointNumber n u v + n + 1; i01 = pointNumber n u v + 1; i11 = pointNumber n u v + n + 1 + 1 }

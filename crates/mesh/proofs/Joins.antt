@@ -1,7 +1,7 @@
 -- The corner rule by the code's steps: one rule for either seam gives 01's two, and stays within the grid. Assumes nothing.
-use Prim.Native.Nat.{ℕ, _+_, _-_, _*_, _%_, _≤_, _<_}
+use Prim.Native.Nat.{ℕ, _+_, _≤_, _<_}
 use mathlib.Core.Path.{_≡_, refl, sym, ap, subst, _∙_}
-use mathlib.Core.Bool.{Bool, true, false}
+use mathlib.Core.Bool.{Bool, true, false, _&&_}
 use native.Mathlib.Omega.{arith}
 use lib.Dec.{eqb}
 use borrow.Author.Tests.{eq-eqb, ne-eqb}
@@ -12,7 +12,8 @@ use Rattle.cyclic.specs.declared.seam.Seam.{Seam}
 use Rattle.cyclic.specs.declared.seam.Seam.the-variants.{Joined, Unjoined}
 use Rattle.cyclic.specs.Mapping as cyclic
 use Rattle.cyclic.proofs.Mappings.{inverse-within}
-use Rattle.surface.specs.Surface.{pick, both, joined, inverse, Point, at, uRule, vRule, corner, cornerBy}
+use Rattle.surface.specs.Surface.{pick, joined, inverse, Point, at, uRule, vRule, corner, cornerBy}
+use Rattle.surface.proofs.Joinings.{inverse-of}
 use Rattle.surface.specs.Found.{ofMapping, seamOf, surfaceWith}
 use Rattle.mesh.specs.declared.corner.Place.{Place}
 use Rattle.mesh.specs.Corners.{Maps, Joins, placed, joinOf}
@@ -55,25 +56,12 @@ join-within seam steps last line step e h most l = subst (λ (q : Place). (q .li
 
 -- The two rules
 
-inverse-same : (m : CyclicMapping) (j : ℕ) → inverse (ofMapping m) (cyclic.stepsOf m) j ≡ cyclic.inverse m j
-unfolding cyclic.inverse
-inverse-same (Forward o n) j = go (eqb o 0)
-  where
-    go : (b : Bool) → pick b j ((j + n - (o % n)) % n) ≡ cyclic.pick b j ((j + n - o % n) % n)
-    go true = refl
-    go false = refl
-inverse-same (Reverse o n) j = go (eqb o 0)
-  where
-    go : (b : Bool) → pick b (n - j) ((o + n - (j % n)) % n) ≡ cyclic.pick b (n - j) ((o + n - j % n) % n)
-    go true = refl
-    go false = refl
-
 pub inverse-is : (m : CyclicMapping) (steps j : ℕ) → cyclic.stepsOf m ≡ steps → inverse (ofMapping m) steps j ≡ cyclic.inverse m j
-inverse-is m steps j e = ap (λ (n : ℕ). inverse (ofMapping m) n j) (sym e) ∙ inverse-same m j
+inverse-is m steps j e = ap (λ (n : ℕ). inverse (ofMapping m) n j) (sym e) ∙ inverse-of m j
 
 -- 01's rule, of points that are given by their lines and steps
 rule-is : (f : ℕ → ℕ → Point) (seam : Seam) (steps last line step : ℕ) → Maps seam steps →
-    pick (both (joined (seamOf seam)) (eqb line last)) (f 0 (inverse (seamOf seam) steps step)) (f line step) ≡ f (joinOf seam last line step .line) (joinOf seam last line step .step)
+    pick (joined (seamOf seam) && eqb line last) (f 0 (inverse (seamOf seam) steps step)) (f line step) ≡ f (joinOf seam last line step .line) (joinOf seam last line step .step)
 unfolding joinOf
 rule-is f Unjoined steps last line step h = refl
 rule-is f (Joined m) steps last line step h = rw (found m, inverse-is m steps step (h .0)) (go (eqb line last))

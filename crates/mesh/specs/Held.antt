@@ -3,7 +3,7 @@ use Prim.Native.Nat.{ℕ, zero, suc, _+_, _*_, _≤_}
 use mathlib.Core.Path.{_≡_}
 use mathlib.Core.List.{List, [], _∷_, _++_}
 use lib.ListN.{length, getD, take, drop}
-use Rattle.surface.specs.Surface.{Triangle, tri, Pair, insert}
+use Rattle.surface.specs.Surface.{Triangle, tri, Pair, pair, insert}
 use Rattle.mesh.specs.declared.pairs.Spot.{Spot}
 use Rattle.mesh.specs.declared.pairs.Spot.the-variants.{Before, There}
 
@@ -18,9 +18,6 @@ triangleAt l i = tri (getD l (3 * i) 0) (getD l (3 * i + 1) 0) (getD l (3 * i + 
 -- the first k triangles
 abbrev pub trianglesIn : ℕ → List ℕ → List Triangle
 trianglesIn k l = firsts (triangleAt l) k
-
-abbrev pub pair : ℕ → ℕ → Pair
-pair low high = record { low = low; high = high }
 
 abbrev pub pairAt : List ℕ → ℕ → Pair
 pairAt l i = pair (getD l (2 * i) 0) (getD l (2 * i + 1) 0)

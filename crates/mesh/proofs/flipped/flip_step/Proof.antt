@@ -6,10 +6,10 @@ use lib.ListN.{getD}
 use borrow.Author.Needs.{needs}
 use borrow.Author.Tests.{not-true, not-false}
 use Rattle.cyclic.specs.declared.seam.Seam.the-variants.{Joined}
-use Rattle.surface.specs.Surface.{Shape, Pair, insert, ordered, numberOf, stepOn}
+use Rattle.surface.specs.Surface.{Shape, Pair, insert, ordered, numberOf, stepOn, pair}
 use Rattle.surface.specs.Found.{ofMapping}
 use Rattle.mesh.specs.Corners.{shapeOf, Maps}
-use Rattle.mesh.specs.Held.{pair, pairsIn}
+use Rattle.mesh.specs.Held.{pairsIn}
 use Rattle.mesh.specs.Rims.{stepsOf, lowOf, highOf, flipStep}
 use Rattle.mesh.proofs.Flips.{steps-most, number-before, ordered-up, ordered-down, no-step, not-both, put-both, high-proper}
 use Rattle.mesh.proofs.flipped.flip_step.Statement.{statement}

@@ -3,7 +3,8 @@ use Prim.Native.Nat.{_≤_, _-_}
 use mathlib.Core.Path.{refl}
 use native.Mathlib.Omega.{arith}
 use lib.ListN.{length}
-use Rattle.mesh.specs.Held.{pair, pairAt, pairsIn}
+use Rattle.surface.specs.Surface.{pair}
+use Rattle.mesh.specs.Held.{pairAt, pairsIn}
 use Rattle.mesh.proofs.Firsts.{length-firsts}
 use Rattle.mesh.proofs.Holding.{PassedTo, spot-before, spot-there, spot-on, spot-end}
 use Rattle.mesh.proofs.pairs.find_spot.Statement.{statement}

@@ -1,7 +1,8 @@
 -- `mesh::pairs::insert_pair` meets its contract: the pair is put where it belongs, or is there already. Assumes nothing.
 use mathlib.Core.Path.{sym, _∙_}
 use native.Mathlib.Omega.{arith}
-use Rattle.mesh.specs.Held.{pair, pairAt, pairsIn}
+use Rattle.surface.specs.Surface.{pair}
+use Rattle.mesh.specs.Held.{pairAt, pairsIn}
 use Rattle.mesh.proofs.Firsts.{length-firsts}
 use Rattle.mesh.proofs.Holding.{spot-known, there-known}
 use borrow.Author.Needs.{needs}
