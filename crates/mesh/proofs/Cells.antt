@@ -1,0 +1,119 @@
+-- The triangles of a cell among all: which slots are its, and what is kept after them. Assumes nothing.
+use Prim.Native.Nat.{ℕ, zero, suc, _+_, _*_, _/_, _%_, _≤_, _<_}
+use mathlib.Core.Path.{_≡_, refl, sym, ap, _∙_}
+use mathlib.Core.Logic.{⊎-elim}
+use mathlib.Core.Bool.{Bool, true, false}
+use mathlib.Core.List.{List, [], _∷_, _++_, append-nil}
+use native.Mathlib.Omega.{arith}
+use native.Mathlib.Nat.{zero-mul, add-mul}
+use lib.Arith.{digits-div, digits-mod, digits-lt}
+use lib.ListN.{length, getD, set, length-append}
+use lib.Seq.{getD-set-same, getD-set-other}
+use Rattle.surface.proofs.Steps.{lt-or-le}
+use Rattle.cyclic.specs.declared.seam.Seam.{Seam}
+use Rattle.surface.specs.Surface.{pick, Shape, Triangle, proper, Split, falling, halfOf, slot, kept, numberOf}
+use Rattle.surface.specs.Found.{surfaceWith}
+use Rattle.mesh.specs.declared.corner.Cell.{Cell}
+use Rattle.mesh.specs.Held.{firsts, triangleAt, trianglesIn}
+use Rattle.mesh.proofs.Firsts.{length-firsts}
+use Rattle.mesh.specs.Corners.{cellOf, firstOf, secondOf}
+
+-- the triangles that a slot adds
+abbrev pub addedBy : Triangle → List Triangle
+addedBy t = pick (proper t) (t ∷ []) []
+
+pub added-none : (ts : List Triangle) (t : Triangle) → proper t ≡ false → ts ≡ ts ++ addedBy t
+added-none ts t e = rw e (sym (append-nil ts))
+
+pub added-one : (ts : List Triangle) (t : Triangle) → proper t ≡ true → ts ++ (t ∷ []) ≡ ts ++ addedBy t
+added-one ts t e = rw e
+
+-- a cell from its four corners
+pub corners-same : {A : Type 0} (f : ℕ → ℕ → ℕ → ℕ → A) {a b c d a′ b′ c′ d′ : ℕ} → a ≡ a′ → b ≡ b′ → c ≡ c′ → d ≡ d′ → f a b c d ≡ f a′ b′ c′ d′
+corners-same f p q r t = cc
+
+pub kept-most : (s : Shape) (k : ℕ) → length (kept s k) ≤ k
+unfolding kept
+kept-most s zero = omega arith
+kept-most s (suc k) = rw length-append (omega (arith, kept-most s k, one (proper (slot s k))))
+  where
+    one : (b : Bool) → length (pick b (slot s k ∷ []) []) ≤ 1
+    one true = omega arith
+    one false = omega arith
+
+-- a list that holds the triangles of the first k slots holds at most k
+pub held-most : (s : Shape) (k count : ℕ) (l : List ℕ) → trianglesIn count l ≡ kept s k → count ≤ k
+held-most s k count l e = omega (arith, length-firsts (triangleAt l) count, ap length e, kept-most s k)
+
+pub held-count : (s : Shape) (k count : ℕ) (l : List ℕ) → trianglesIn count l ≡ kept s k → count ≡ numberOf s k
+unfolding numberOf
+held-count s k count l e = sym (length-firsts (triangleAt l) count) ∙ ap length e
+
+-- before the first cell
+pub none-held : (s : Shape) (n : ℕ) (l : List ℕ) → trianglesIn 0 l ≡ kept s (2 * (0 * n))
+unfolding firsts kept
+none-held s n l = rw (zero-mul n)
+
+-- the first value of f written into a list
+pub value-first : (f : ℕ → ℕ) (l : List ℕ) (x : ℕ) → 0 < length l → x ≡ f 0 → (i : ℕ) → i ≤ 0 → getD (set l 0 x) i 0 ≡ f i
+value-first f l x h z i q =
+    let e : i ≡ 0 = omega arith in
+    ap (λ (j : ℕ). getD (set l 0 x) j 0) e ∙ getD-set-same l 0 x 0 h ∙ z ∙ ap f (sym e)
+
+-- one more value of f written into a list that has those up to u
+pub values-more : (f : ℕ → ℕ) (l : List ℕ) (u x : ℕ) → u + 1 < length l → ((i : ℕ) → i ≤ u → getD l i 0 ≡ f i) → x ≡ f (u + 1) →
+    (i : ℕ) → i ≤ u + 1 → getD (set l (u + 1) x) i 0 ≡ f i
+values-more f l u x h known e i q =
+    ⊎-elim
+    (λ m. getD-set-other l (u + 1) i x 0 (λ z. omega arith) ∙ known i (omega arith))
+    (λ m. let z : i ≡ u + 1 = omega arith in
+    ap (λ (j : ℕ). getD (set l (u + 1) x) j 0) z ∙ getD-set-same l (u + 1) x 0 h ∙ e ∙ ap f (sym z))
+    (lt-or-le i (u + 1))
+
+-- Cell (u, v)
+
+pub cell-below : {m n u v : ℕ} → u < m → v < n → u * n + v + 1 ≤ m * n
+cell-below p q = omega (arith, digits-lt p q)
+
+-- after the last cell of a row comes the next row
+pub row-next : (s : Shape) (n u v : ℕ) → v ≡ n → kept s (2 * (u * n + v)) ≡ kept s (2 * ((u + 1) * n))
+row-next s n u v e = ap (kept s) (omega (arith, add-mul u 1 n))
+
+pub row-first : (s : Shape) (n u : ℕ) → kept s (2 * (u * n)) ≡ kept s (2 * (u * n + 0))
+row-first s n u = ap (kept s) (omega arith)
+
+module _ (m n : ℕ) (su sv : Seam) (u v : ℕ) (h : v < n) where
+  slot-of : (i x : ℕ) → i % 2 ≡ x → i / 2 ≡ u * n + v → slot (surfaceWith m n su sv) i ≡ halfOf (surfaceWith m n su sv) falling x u v
+  unfolding slot
+  slot-of i x e d = rw (e, d, digits-div u h, digits-mod u h)
+
+  pub slot-first : slot (surfaceWith m n su sv) (2 * (u * n + v)) ≡ firstOf (cellOf (surfaceWith m n su sv) u v)
+  unfolding halfOf
+  slot-first = slot-of (2 * (u * n + v)) 0 (omega arith) (omega arith)
+
+  pub slot-second : slot (surfaceWith m n su sv) (2 * (u * n + v) + 1) ≡ secondOf (cellOf (surfaceWith m n su sv) u v)
+  unfolding halfOf
+  slot-second = slot-of (2 * (u * n + v) + 1) 1 (omega arith) (omega arith)
+
+  -- what the cell's triangles are added to, and give
+  pub cell-first : {cell : Cell} {before after : List Triangle} → cell ≡ cellOf (surfaceWith m n su sv) u v → before ≡ kept (surfaceWith m n su sv) (2 * (u * n + v)) →
+      after ≡ before ++ addedBy (firstOf cell) → after ≡ kept (surfaceWith m n su sv) (2 * (u * n + v) + 1)
+  unfolding kept
+  cell-first {cell} {before} {after} c b a =
+      let e : 2 * (u * n + v) + 1 ≡ suc (2 * (u * n + v)) = omega arith in
+      a
+      ∙ ap (λ (ts : List Triangle). ts ++ addedBy (firstOf cell)) b
+      ∙ ap (λ (x : Cell). kept (surfaceWith m n su sv) (2 * (u * n + v)) ++ addedBy (firstOf x)) c
+      ∙ ap (λ (t : Triangle). kept (surfaceWith m n su sv) (2 * (u * n + v)) ++ addedBy t) (sym slot-first)
+      ∙ ap (kept (surfaceWith m n su sv)) (sym e)
+
+  pub cell-second : {cell : Cell} {before after : List Triangle} → cell ≡ cellOf (surfaceWith m n su sv) u v → before ≡ kept (surfaceWith m n su sv) (2 * (u * n + v) + 1) →
+      after ≡ before ++ addedBy (secondOf cell) → after ≡ kept (surfaceWith m n su sv) (2 * (u * n + (v + 1)))
+  unfolding kept
+  cell-second {cell} {before} {after} c b a =
+      let e : 2 * (u * n + (v + 1)) ≡ suc (2 * (u * n + v) + 1) = omega arith in
+      a
+      ∙ ap (λ (ts : List Triangle). ts ++ addedBy (secondOf cell)) b
+      ∙ ap (λ (x : Cell). kept (surfaceWith m n su sv) (2 * (u * n + v) + 1) ++ addedBy (secondOf x)) c
+      ∙ ap (λ (t : Triangle). kept (surfaceWith m n su sv) (2 * (u * n + v) + 1) ++ addedBy t) (sym slot-second)
+      ∙ ap (kept (surfaceWith m n su sv)) (sym e)

@@ -1,0 +1,80 @@
+-- Numbers of triangles: how a slot adds to the count, which slots the rims have, and the step of one rim on another. Assumes nothing.
+use Prim.Native.Nat.{ℕ, zero, suc, _+_, _-_, _*_, _≤_, _<_}
+use mathlib.Core.Path.{_≡_, refl, sym, ap, subst, _∙_}
+use mathlib.Core.Bool.{Bool, true, false}
+use mathlib.Core.List.{List, [], _∷_, _++_}
+use native.Mathlib.Nat.{zero-mul, mul-le-mul}
+use native.Mathlib.Omega.{arith}
+use lib.ListN.{length, length-append}
+use Rattle.cyclic.specs.declared.mapping.CyclicMapping.{CyclicMapping}
+use Rattle.cyclic.specs.declared.seam.Seam.{Seam}
+use Rattle.cyclic.specs.Mapping as cyclic
+use Rattle.surface.specs.Surface.{pick, Shape, proper, slot, kept, numberOf, wrapEnds, stepOn, lowU, highU, lowV, highV}
+use Rattle.surface.specs.Found.{ofMapping, surfaceWith}
+use Rattle.mesh.specs.declared.flipped.Axis.{Axis}
+use Rattle.mesh.specs.Rims.{plus, stepsOf}
+use Rattle.mesh.proofs.Cells.{kept-most}
+use Rattle.mesh.proofs.Joins.{inverse-is}
+
+pub number-step : (s : Shape) (k : ℕ) → numberOf s (suc k) ≡ plus (numberOf s k) (proper (slot s k))
+unfolding numberOf kept
+number-step s k = length-append (kept s k) (pick (proper (slot s k)) (slot s k ∷ []) []) ∙ go (proper (slot s k))
+  where
+    go : (b : Bool) → length (kept s k) + length (pick b (slot s k ∷ []) []) ≡ plus (length (kept s k)) b
+    go true = refl
+    go false = omega arith
+
+pub number-most : (s : Shape) (k : ℕ) → numberOf s k ≤ k
+unfolding numberOf
+number-most s k = kept-most s k
+
+pub plus-most : (k : ℕ) (b : Bool) → plus k b ≤ k + 1
+plus-most k true = omega arith
+plus-most k false = omega arith
+
+pub cells-most : (m n : ℕ) → m ≤ 255 → n ≤ 255 → m * n ≤ 65025
+cells-most m n p q = mul-le-mul {n₂ = 255} {m₂ = 255} p q
+
+-- both triangles of cell (u, v) counted
+pub cell-counted : (s : Shape) (n u v : ℕ) {count first last : ℕ} {a b : Bool} → count ≡ numberOf s (2 * (u * n + v)) →
+    a ≡ proper (slot s (2 * (u * n + v))) → first ≡ plus count a →
+    b ≡ proper (slot s (2 * (u * n + v) + 1)) → last ≡ plus first b →
+    last ≡ numberOf s (2 * (u * n + (v + 1)))
+cell-counted s n u v {count} {first} {last} {a} {b} e p q r t =
+    let x : suc (2 * (u * n + v)) ≡ 2 * (u * n + v) + 1 = omega arith in
+    let y : suc (2 * (u * n + v) + 1) ≡ 2 * (u * n + (v + 1)) = omega arith in
+    let one : first ≡ numberOf s (2 * (u * n + v) + 1) =
+    q ∙ ap (λ (k : ℕ). plus k a) e ∙ ap (plus (numberOf s (2 * (u * n + v)))) p ∙ sym (number-step s (2 * (u * n + v))) ∙ ap (numberOf s) x in
+    t ∙ ap (λ (k : ℕ). plus k b) one ∙ ap (plus (numberOf s (2 * (u * n + v) + 1))) r ∙ sym (number-step s (2 * (u * n + v) + 1)) ∙ ap (numberOf s) y
+
+-- The slots of the rims, as cells
+
+pub steps-along : {axis x : Axis} {i : ℕ} (s : Shape) → axis ≡ x → i < stepsOf axis s → i < stepsOf x s
+steps-along {i = i} s e h = subst (λ (a : Axis). i < stepsOf a s) e h
+
+
+module _ (m n : ℕ) (su sv : Seam) (i : ℕ) where
+  pub low-u : 2 * (0 * n + i) ≡ lowU (surfaceWith m n su sv) i
+  unfolding lowU
+  low-u = omega (arith, zero-mul n)
+
+  pub low-v : 2 * (i * n + 0) ≡ lowV (surfaceWith m n su sv) i
+  unfolding lowV
+  low-v = omega arith
+
+  pub high-u : 2 * ((m - 1) * n + i) + 1 ≡ highU (surfaceWith m n su sv) i
+  unfolding highU
+  high-u = refl
+
+  pub high-v : 2 * (i * n + (n - 1)) + 1 ≡ highV (surfaceWith m n su sv) i
+  unfolding highV
+  high-v = refl
+
+-- The step of one rim on another
+
+pub step-is : (m : CyclicMapping) (steps i : ℕ) {a b r : ℕ} → cyclic.stepsOf m ≡ steps → a ≡ cyclic.inverse m i → b ≡ cyclic.inverse m (i + 1) → r ≡ wrapEnds steps a b → r ≡ stepOn (ofMapping m) steps i
+unfolding stepOn
+step-is m steps i {a} {b} {r} e p q h =
+    h
+    ∙ ap (λ (x : ℕ). wrapEnds steps x b) (p ∙ sym (inverse-is m steps i e))
+    ∙ ap (wrapEnds steps _) (q ∙ sym (inverse-is m steps (i + 1) e))

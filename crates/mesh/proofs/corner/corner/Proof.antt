@@ -1,0 +1,68 @@
+-- `mesh::corner::corner` meets its contract: the u rule, then in the last row the v rule, each within the grid. Assumes nothing.
+use mathlib.Core.Path.{_≡_, ap, sym, _∙_}
+use native.Mathlib.Omega.{arith}
+use Rattle.grid.specs.Grid.{pointNumber}
+use Rattle.mesh.specs.declared.corner.Place.{Place}
+use Rattle.mesh.proofs.Joins.{maps-joins, join-within, corner-other, corner-last}
+use borrow.Author.Needs.{needs}
+use Rattle.mesh.proofs.corner.corner.Statement.{statement}
+use Rattle.mesh.proofs.corner.corner.Tie as tie
+use Rattle.mesh.proofs.corner.corner.Reads as reads
+use Rattle.mesh.proofs.corner.corner.Lts as lts
+use Rattle.grid.proofs.point_number.Reads as point-number-reads
+use Rattle.mesh.proofs.corner.join.Reads as join-reads
+
+join-requires : tie.Need-join-requires
+join-requires c κs = maps-joins (c .args .surface .u) (c .args .surface .n) (c .args .v) (c .pre .0 .u-maps) (omega arith) (omega arith)
+
+add-if1 : tie.Need-add-if1
+add-if1 c = search needs
+
+join-requires-2 : tie.Need-join-requires-2
+join-requires-2 c κs =
+    let a = c .before .before .args in
+    let b = c .before .before .pre .0 in
+    let w = join-within (a .surface .u) (a .surface .n) (a .surface .m) (a .u) (a .v) (c .before .join .ensures) (b .u-maps) (omega arith) (omega arith) in
+    maps-joins (a .surface .v) (a .surface .m) (c .before .join .result .line) (b .v-maps) (omega arith) (omega arith)
+
+point-number-requires : tie.Need-point-number-requires
+point-number-requires c κs =
+    let j = c .before .before .join in
+    let a = c .before .before .before .args in
+    let b = c .before .before .before .pre .0 in
+    let w = join-within (a .surface .u) (a .surface .n) (a .surface .m) (a .u) (a .v) (j .ensures) (b .u-maps) (omega arith) (omega arith) in
+    let z = join-within (a .surface .v) (a .surface .m) (a .surface .n) (j .result .step) (j .result .line) (c .join2 .ensures) (b .v-maps) (omega arith) (omega arith) in
+    omega arith
+
+returns : tie.Need-returns
+returns c =
+    let a = c .before .before .before .before .args in
+    let b = c .before .before .before .before .pre .0 in
+    c .point-number .ensures
+    ∙ corner-last (a .surface .m) (a .surface .n) (a .surface .u) (a .surface .v) (b .u-maps) (b .v-maps) (a .row) (a .u) (a .v) (c .before .before .if1 .taken) (c .before .before .before .join .ensures) (c .before .join2 .ensures)
+
+point-number-requires-2 : tie.Need-point-number-requires-2
+point-number-requires-2 c κs =
+    let a = c .before .before .args in
+    let b = c .before .before .pre .0 in
+    let w = join-within (a .surface .u) (a .surface .n) (a .surface .m) (a .u) (a .v) (c .before .join .ensures) (b .u-maps) (omega arith) (omega arith) in
+    omega arith
+
+returns-2 : tie.Need-returns-2
+returns-2 c =
+    let a = c .before .before .before .args in
+    let b = c .before .before .before .pre .0 in
+    c .point-number2 .ensures
+    ∙ corner-other (a .surface .m) (a .surface .n) (a .surface .u) (a .surface .v) (b .u-maps) (b .v-maps) (a .row) (a .u) (a .v) (c .before .if1 .left) (c .before .before .join .ensures)
+
+pub corner-spec : {M : Type 1} → statement M
+corner-spec =
+    tie.close
+    (tie.spec
+    join-requires
+    add-if1
+    join-requires-2
+    point-number-requires
+    returns
+    point-number-requires-2
+    returns-2)

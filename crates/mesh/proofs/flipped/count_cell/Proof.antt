@@ -1,0 +1,48 @@
+-- `mesh::flipped::count_cell` meets its contract: one more for each of the two triangles that is kept. Assumes nothing.
+use Prim.Native.Nat.{_+_, _*_, _≤_}
+use native.Mathlib.Omega.{arith}
+use Rattle.mesh.specs.Corners.{shapeOf}
+use Rattle.mesh.proofs.Cells.{cell-below}
+use Rattle.mesh.proofs.Counts.{number-most, plus-most, cells-most, cell-counted}
+use borrow.Author.Needs.{needs}
+use Rattle.mesh.proofs.flipped.count_cell.Statement.{statement}
+use Rattle.mesh.proofs.flipped.count_cell.Tie as tie
+use Rattle.mesh.proofs.flipped.count_cell.Reads as reads
+use Rattle.mesh.proofs.flipped.count_cell.Lts as lts
+use Rattle.mesh.proofs.flipped.first_differs.Reads as first-differs-reads
+use Rattle.mesh.proofs.flipped.plus.Reads as plus-reads
+use Rattle.mesh.proofs.flipped.second_differs.Reads as second-differs-reads
+
+bound : (t : tie.Start) → t .args .count + 1 ≤ 130050
+bound t =
+    let a = t .args in
+    omega (
+      arith,
+      number-most (shapeOf (a .surface)) (2 * (a .u * a .surface .n + a .v)),
+      cell-below {m = a .surface .m} {n = a .surface .n} {u = a .u} {v = a .v} (omega arith) (omega arith),
+      cells-most (a .surface .m) (a .surface .n) (omega arith) (omega arith),
+    )
+
+first-differs-requires : tie.Need-first-differs-requires
+first-differs-requires c κs = search needs
+
+plus-requires : tie.Need-plus-requires
+plus-requires c κs = omega (arith, bound (c .before))
+
+second-differs-requires : tie.Need-second-differs-requires
+second-differs-requires c κs = search needs
+
+plus-requires-2 : tie.Need-plus-requires-2
+plus-requires-2 c κs = omega (arith, c .before .plus .ensures, plus-most (c .before .before .before .args .count) (c .before .before .first-differs .result), bound (c .before .before .before))
+
+returns : tie.Need-returns
+returns c =
+    let g = c .before .before .plus in
+    let t = c .before .before .before .before in
+    let a = t .args in
+    cell-counted (shapeOf (a .surface)) (a .surface .n) (a .u) (a .v) (t .pre .1) (c .before .before .before .first-differs .ensures) (g .ensures) (c .before .second-differs .ensures) (c .plus2 .ensures)
+
+pub count-cell-spec : {M : Type 1} → statement M
+count-cell-spec =
+    tie.close
+    (tie.spec first-differs-requires plus-requires second-differs-requires plus-requires-2 returns)

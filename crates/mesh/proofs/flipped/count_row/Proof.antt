@@ -1,0 +1,97 @@
+-- `mesh::flipped::count_row` meets its contract: after v cells the counts are known up to v. Assumes nothing.
+use Prim.Native.Nat.{ℕ, _+_, _-_, _*_, _≤_}
+use mathlib.Core.Path.{_≡_, refl, sym, ap, _∙_}
+use native.Mathlib.Omega.{arith}
+use lib.ListN.{length, getD, length-set}
+use Rattle.surface.specs.Surface.{numberOf}
+use Rattle.mesh.specs.Corners.{shapeOf}
+use Rattle.mesh.proofs.Cells.{value-first, values-more}
+use Rattle.mesh.proofs.flipped.count_row.Statement.{statement}
+use Rattle.mesh.proofs.flipped.count_row.Tie as tie
+use Rattle.mesh.proofs.flipped.count_row.Reads as reads
+use Rattle.mesh.proofs.flipped.count_row.Lts as lts
+use Rattle.mesh.proofs.flipped.count_cell.Reads as count-cell-reads
+
+abbrev Inv-loop : tie.InvT-loop
+Inv-loop surface u start counts₀ n count₀ v₀ counts count v =
+    (v ≤ surface .n)
+    × (count ≡ numberOf (shapeOf surface) (2 * (u * surface .n + v)))
+    × (length counts ≡ length counts₀)
+    × ((i : ℕ) → i ≤ v → getD counts i 0 ≡ numberOf (shapeOf surface) (2 * (u * surface .n + i)))
+
+abbrev μ-loop : tie.MeasureT-loop
+μ-loop surface u start counts₀ n count₀ v₀ counts count v = surface .n - v
+
+slice-write-counts : tie.Need-slice-write-counts Inv-loop μ-loop
+slice-write-counts c = omega arith
+
+loop-holds : tie.Need-loop-holds Inv-loop μ-loop
+loop-holds c =
+    let t = c .before in
+    let a = t .args in
+    let s = shapeOf (a .surface) in
+    let e : 2 * (a .u * a .surface .n) ≡ 2 * (a .u * a .surface .n + 0) = omega arith in
+    let z = t .pre .1 ∙ ap (numberOf s) e in
+    (omega arith, z, refl, value-first (λ (i : ℕ). numberOf s (2 * (a .u * a .surface .n + i))) (a .counts .now) (a .start) (omega arith) z)
+
+count-cell-requires : tie.Need-count-cell-requires Inv-loop μ-loop
+count-cell-requires c κs =
+    let w = c .before .loop in
+    let t = c .before .before .before in
+    ((t .pre .0 .0, t .pre .0 .1, omega arith), w .inv .1)
+
+add-v : tie.Need-add-v Inv-loop μ-loop
+add-v c = omega arith
+
+mul-counts : tie.Need-mul-counts Inv-loop μ-loop
+mul-counts c = omega arith
+
+slice-write-counts-2 : tie.Need-slice-write-counts-2 Inv-loop μ-loop
+slice-write-counts-2 c =
+    let a = c .before .before .before .before .args in
+    omega (arith, c .before .before .loop .inv .2, length-set (a .counts .now) 0 (a .start))
+
+loop-less : tie.Need-loop-less Inv-loop μ-loop
+loop-less c = omega arith
+
+loop-again : tie.Need-loop-again Inv-loop μ-loop
+loop-again c =
+    let w = c .before .before .loop in
+    let a = c .before .before .before .before .args in
+    let s = shapeOf (a .surface) in
+    (
+      omega arith,
+      c .count-cell .ensures,
+      length-set (w .counts) (w .v + 1) (c .count-cell .result) ∙ w .inv .2,
+      values-more (λ (i : ℕ). numberOf s (2 * (a .u * a .surface .n + i))) (w .counts) (w .v) (c .count-cell .result)
+          (omega (arith, length-set (a .counts .now) 0 (a .start)))
+          (w .inv .3)
+          (c .count-cell .ensures),
+    )
+
+same-length : tie.Need-same-length Inv-loop μ-loop
+same-length c =
+    let a = c .before .before .before .args in
+    c .before .loop .inv .2 ∙ length-set (a .counts .now) 0 (a .start)
+
+returns : tie.Need-returns Inv-loop μ-loop
+returns c =
+    let w = c .before .loop in
+    λ i h. w .inv .3 i (omega arith)
+
+pub count-row-spec : {M : Type 1} → statement M
+count-row-spec =
+    tie.close
+    (tie.spec
+    Inv-loop
+    μ-loop
+    slice-write-counts
+    loop-holds
+    count-cell-requires
+    add-v
+    mul-counts
+    slice-write-counts-2
+    loop-less
+    loop-again
+    same-length
+    returns)

@@ -1,0 +1,30 @@
+-- `mesh::flipped::first_differs` meets its contract: the cell's first triangle is its first slot's. Assumes nothing.
+use mathlib.Core.Path.{ap, sym, _∙_}
+use Rattle.surface.specs.Surface.{Triangle, proper}
+use Rattle.mesh.specs.declared.corner.Cell.{Cell}
+use Rattle.mesh.specs.Corners.{firstOf}
+use Rattle.mesh.proofs.Cells.{slot-first}
+use borrow.Author.Needs.{needs}
+use Rattle.mesh.proofs.flipped.first_differs.Statement.{statement}
+use Rattle.mesh.proofs.flipped.first_differs.Tie as tie
+use Rattle.mesh.proofs.flipped.first_differs.Reads as reads
+use Rattle.mesh.proofs.flipped.first_differs.Lts as lts
+use Rattle.mesh.proofs.corner.cell_corners.Reads as cell-corners-reads
+use Rattle.mesh.proofs.triangles.differ.Reads as differ-reads
+
+cell-corners-requires : tie.Need-cell-corners-requires
+cell-corners-requires c κs = search needs
+
+differ-requires : tie.Need-differ-requires
+differ-requires c κs = search needs
+
+returns : tie.Need-returns
+returns c =
+    let t = c .before .before in
+    let a = t .args in
+    c .differ .ensures
+    ∙ ap (λ (x : Cell). proper (firstOf x)) (c .before .cell-corners .ensures)
+    ∙ ap (λ (x : Triangle). proper x) (sym (slot-first (a .surface .m) (a .surface .n) (a .surface .u) (a .surface .v) (a .u) (a .v) (t .pre .2)))
+
+pub first-differs-spec : {M : Type 1} → statement M
+first-differs-spec = tie.close (tie.spec cell-corners-requires differ-requires returns)

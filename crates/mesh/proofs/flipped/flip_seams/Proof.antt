@@ -1,0 +1,50 @@
+-- `mesh::flipped::flip_seams` meets its contract: the u seam's pairs, and the v seam's put into them. Assumes nothing.
+use mathlib.Core.Path.{_≡_, refl, ap, _∙_}
+use mathlib.Core.List.{List, []}
+use native.Mathlib.Omega.{arith}
+use borrow.Author.Needs.{needs}
+use lib.ListN.{length}
+use Rattle.surface.specs.Surface.{Pair}
+use Rattle.surface.specs.Found.{seamOf}
+use Rattle.mesh.specs.declared.flipped.Axis.the-variants.{U, «V»}
+use Rattle.mesh.specs.Corners.{shapeOf}
+use Rattle.mesh.specs.Held.{firsts, pairsIn}
+use Rattle.mesh.specs.Rims.{flips}
+use Rattle.mesh.proofs.Flips.{rims-v, seam-most, held-pairs, flipped-is}
+use Rattle.mesh.proofs.flipped.flip_seams.Statement.{statement}
+use Rattle.mesh.proofs.flipped.flip_seams.Tie as tie
+
+-- the u seam's pairs
+first : (e : tie.After-flip-seam) → pairsIn (e .flip-seam .result) (e .flip-seam .last .1 .1 .1 .1 .1 .0) ≡ flips U (shapeOf (e .before .before .before .before .before .before .args .surface)) (seamOf (e .before .before .before .before .before .before .args .surface .u)) []
+unfolding firsts
+first e = e .flip-seam .ensures
+
+flip-seam-requires : tie.Need-flip-seam-requires
+flip-seam-requires c κs =
+    let t = c .before .before .before .before .before in
+    ((t .pre .0 .0, t .pre .0 .0 .u-maps), (t .pre .0 .1, omega (arith, t .pre .1)))
+
+flip-seam-requires-2 : tie.Need-flip-seam-requires-2
+flip-seam-requires-2 c κs =
+    let t = c .before .before .before .before .before .before .before .before .before in
+    let a = t .args in
+    let f = c .before .before .before .flip-seam in
+    let k = held-pairs (f .result) (f .last .1 .1 .1 .1 .1 .0) (first (c .before .before .before)) in
+    (
+      (t .pre .0 .0, t .pre .0 .0 .v-maps),
+      (rims-v (a .surface) (t .pre .0 .0) (a .starts .now) (t .pre .0 .2), omega (arith, k, seam-most U (shapeOf (a .surface)) (seamOf (a .surface .u)) [], f .kept .1 .1 .1 .1 .1 .0, t .pre .1)),
+    )
+
+same-length : tie.Need-same-length
+same-length c = search needs
+
+returns : tie.Need-returns
+returns c =
+    let a = c .before .before .before .before .before .before .before .before .before .before .before .before .args in
+    let s = shapeOf (a .surface) in
+    c .before .before .flip-seam2 .ensures
+    ∙ ap (λ (ps : List Pair). flips «V» s (seamOf (a .surface .v)) ps) (first (c .before .before .before .before .before .before))
+    ∙ flipped-is s
+
+pub flip-seams-spec : {M : Type 1} → statement M
+flip-seams-spec = tie.close (tie.spec flip-seam-requires flip-seam-requires-2 same-length returns)

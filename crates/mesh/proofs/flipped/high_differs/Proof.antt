@@ -1,0 +1,68 @@
+-- `mesh::flipped::high_differs` meets its contract: the cell at a step of the high rim. Assumes nothing.
+use Prim.Native.Nat.{ℕ}
+use mathlib.Core.Path.{ap, sym, _∙_}
+use native.Mathlib.Omega.{arith}
+use Rattle.surface.specs.Surface.{proper, slot}
+use Rattle.mesh.specs.declared.flipped.Axis.{Axis}
+use Rattle.mesh.specs.Corners.{shapeOf}
+use Rattle.mesh.specs.Rims.{highOf}
+use Rattle.mesh.proofs.Counts.{steps-along, high-u, high-v}
+use borrow.Author.Needs.{needs}
+use Rattle.mesh.proofs.flipped.high_differs.Statement.{statement}
+use Rattle.mesh.proofs.flipped.high_differs.Tie as tie
+use Rattle.mesh.proofs.flipped.high_differs.Reads as reads
+use Rattle.mesh.proofs.flipped.high_differs.Lts as lts
+use Rattle.mesh.proofs.flipped.second_differs.Reads as second-differs-reads
+
+enum-told : tie.Need-enum-told
+enum-told c = search needs
+
+sub-second-differs : tie.Need-sub-second-differs
+sub-second-differs c = search needs
+
+second-differs-requires : tie.Need-second-differs-requires
+second-differs-requires c κs =
+    let t = c .before .before .before in
+    let l = steps-along (shapeOf (t .args .surface)) (c .before .enum-told .given .1) (t .pre .1) in
+    (t .pre .0, omega (arith, t .pre .0 .m-least), l)
+
+enum-told-2 : tie.Need-enum-told-2
+enum-told-2 c = search needs
+
+sub-second-differs-2 : tie.Need-sub-second-differs-2
+sub-second-differs-2 c = search needs
+
+second-differs-requires-2 : tie.Need-second-differs-requires-2
+second-differs-requires-2 c κs =
+    let t = c .before .before .before in
+    let l = steps-along (shapeOf (t .args .surface)) (c .before .enum-told2 .given .1) (t .pre .1) in
+    (t .pre .0, l, omega (arith, t .pre .0 .n-least))
+
+returns : tie.Need-returns
+returns c =
+    let t = c .before .before .before .before in
+    let a = t .args in
+    let s = shapeOf (a .surface) in
+    c .second-differs .ensures
+    ∙ ap (λ (k : ℕ). proper (slot s k)) (high-u (a .surface .m) (a .surface .n) (a .surface .u) (a .surface .v) (a .i) ∙ ap (λ (x : Axis). highOf x s (a .i)) (sym (c .before .before .enum-told .given .1)))
+
+returns-2 : tie.Need-returns-2
+returns-2 c =
+    let t = c .before .before .before .before in
+    let a = t .args in
+    let s = shapeOf (a .surface) in
+    c .second-differs2 .ensures
+    ∙ ap (λ (k : ℕ). proper (slot s k)) (high-v (a .surface .m) (a .surface .n) (a .surface .u) (a .surface .v) (a .i) ∙ ap (λ (x : Axis). highOf x s (a .i)) (sym (c .before .before .enum-told2 .given .1)))
+
+pub high-differs-spec : {M : Type 1} → statement M
+high-differs-spec =
+    tie.close
+    (tie.spec
+    enum-told
+    sub-second-differs
+    second-differs-requires
+    enum-told-2
+    sub-second-differs-2
+    second-differs-requires-2
+    returns
+    returns-2)

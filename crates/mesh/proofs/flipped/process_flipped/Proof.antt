@@ -1,0 +1,100 @@
+-- `mesh::flipped::process_flipped` meets its contract: after i steps the list holds what `process` gives for them. Assumes nothing.
+use Prim.Native.Nat.{ℕ, _+_, _-_, _≤_}
+use mathlib.Core.Path.{_≡_, refl, ap, _∙_}
+use mathlib.Core.List.{List}
+use native.Mathlib.Omega.{arith}
+use lib.ListN.{length}
+use borrow.Author.Needs.{needs}
+use Rattle.surface.specs.Surface.{Pair}
+use Rattle.surface.specs.Found.{ofMapping}
+use Rattle.mesh.specs.Corners.{shapeOf}
+use Rattle.mesh.specs.Held.{pairsIn, pairAt}
+use Rattle.mesh.specs.Rims.{stepsOf, flipStep, flipSteps}
+use Rattle.mesh.proofs.Firsts.{length-firsts}
+use Rattle.mesh.proofs.Flips.{flips-none, flips-more, flips-most, held-pairs}
+use Rattle.mesh.proofs.flipped.process_flipped.Statement.{statement}
+use Rattle.mesh.proofs.flipped.process_flipped.Tie as tie
+use Rattle.mesh.proofs.flipped.process_flipped.Reads as reads
+use Rattle.mesh.proofs.flipped.process_flipped.Lts as lts
+use Rattle.mesh.proofs.flipped.flip_step.Reads as flip-step-reads
+use Rattle.mesh.proofs.flipped.rim_steps.Reads as rim-steps-reads
+
+abbrev Inv-loop : tie.InvT-loop
+Inv-loop surface axis mapping low high flipped₀ start steps count₀ i₀ flipped count i =
+    (i ≤ steps)
+    × (pairsIn count flipped ≡ flipSteps axis (shapeOf surface) (ofMapping mapping) i (pairsIn start flipped₀))
+    × (length flipped ≡ length flipped₀)
+
+abbrev μ-loop : tie.MeasureT-loop
+μ-loop surface axis mapping low high flipped₀ start steps count₀ i₀ flipped count i = steps - i
+
+rim-steps-requires : tie.Need-rim-steps-requires Inv-loop μ-loop
+rim-steps-requires c κs = search needs
+
+loop-holds : tie.Need-loop-holds Inv-loop μ-loop
+loop-holds c =
+    let a = c .before .before .before .before .args in
+    (omega arith, flips-none (a .axis) (shapeOf (a .surface)) (ofMapping (a .mapping)) (pairsIn (a .start) (a .flipped .now)), refl)
+
+flip-step-requires : tie.Need-flip-step-requires Inv-loop μ-loop
+flip-step-requires c κs =
+    let w = c .before .before .loop in
+    let r = c .before .before .before .rim-steps in
+    let t = c .before .before .before .before .before .before .before in
+    let a = t .args in
+    let s = shapeOf (a .surface) in
+    let ps = pairsIn (a .start) (a .flipped .now) in
+    let k = held-pairs (w .count) (w .flipped) (w .inv .1) in
+    (
+      (t .pre .0 .0, t .pre .0 .1, omega (arith, c .before .loop-test .taken, r .ensures)),
+      (
+        t .pre .1 .0,
+        omega (arith, k, flips-most (a .axis) s (ofMapping (a .mapping)) (w .i) ps, length-firsts (pairAt (a .flipped .now)) (a .start), c .before .loop-test .taken, r .ensures, t .pre .1 .1, w .inv .2),
+      ),
+    )
+
+add-i : tie.Need-add-i Inv-loop μ-loop
+add-i c = omega arith
+
+loop-less : tie.Need-loop-less Inv-loop μ-loop
+loop-less c = omega arith
+
+loop-again : tie.Need-loop-again Inv-loop μ-loop
+loop-again c =
+    let f = c .before .before .flip-step in
+    let w = c .before .before .before .before .before .loop in
+    let a = c .before .before .before .before .before .before .before .before .before .before .args in
+    let s = shapeOf (a .surface) in
+    let m = ofMapping (a .mapping) in
+    (
+      omega arith,
+      f .ensures
+      ∙ ap (λ (ps : List Pair). flipStep (a .axis) s m (w .i) ps) (w .inv .1)
+      ∙ flips-more (a .axis) s m (w .i) (pairsIn (a .start) (a .flipped .now)),
+      omega (arith, f .kept .1 .1 .1 .1 .1 .1 .0),
+    )
+
+same-length : tie.Need-same-length Inv-loop μ-loop
+same-length c = omega arith
+
+returns : tie.Need-returns Inv-loop μ-loop
+returns c =
+    let w = c .before .loop in
+    let a = c .before .before .before .before .before .before .args in
+    let e : w .i ≡ stepsOf (a .axis) (shapeOf (a .surface)) = omega (arith, c .before .before .rim-steps .ensures) in
+    w .inv .1 ∙ ap (λ (n : ℕ). flipSteps (a .axis) (shapeOf (a .surface)) (ofMapping (a .mapping)) n (pairsIn (a .start) (a .flipped .now))) e
+
+pub process-flipped-spec : {M : Type 1} → statement M
+process-flipped-spec =
+    tie.close
+    (tie.spec
+    Inv-loop
+    μ-loop
+    rim-steps-requires
+    loop-holds
+    flip-step-requires
+    add-i
+    loop-less
+    loop-again
+    same-length
+    returns)

@@ -1,0 +1,30 @@
+-- `mesh::flipped::second_differs` meets its contract: the cell's second triangle is its second slot's. Assumes nothing.
+use mathlib.Core.Path.{ap, sym, _∙_}
+use Rattle.surface.specs.Surface.{Triangle, proper}
+use Rattle.mesh.specs.declared.corner.Cell.{Cell}
+use Rattle.mesh.specs.Corners.{secondOf}
+use Rattle.mesh.proofs.Cells.{slot-second}
+use borrow.Author.Needs.{needs}
+use Rattle.mesh.proofs.flipped.second_differs.Statement.{statement}
+use Rattle.mesh.proofs.flipped.second_differs.Tie as tie
+use Rattle.mesh.proofs.flipped.second_differs.Reads as reads
+use Rattle.mesh.proofs.flipped.second_differs.Lts as lts
+use Rattle.mesh.proofs.corner.cell_corners.Reads as cell-corners-reads
+use Rattle.mesh.proofs.triangles.differ.Reads as differ-reads
+
+cell-corners-requires : tie.Need-cell-corners-requires
+cell-corners-requires c κs = search needs
+
+differ-requires : tie.Need-differ-requires
+differ-requires c κs = search needs
+
+returns : tie.Need-returns
+returns c =
+    let t = c .before .before in
+    let a = t .args in
+    c .differ .ensures
+    ∙ ap (λ (x : Cell). proper (secondOf x)) (c .before .cell-corners .ensures)
+    ∙ ap (λ (x : Triangle). proper x) (sym (slot-second (a .surface .m) (a .surface .n) (a .surface .u) (a .surface .v) (a .u) (a .v) (t .pre .2)))
+
+pub second-differs-spec : {M : Type 1} → statement M
+second-differs-spec = tie.close (tie.spec cell-corners-requires differ-requires returns)

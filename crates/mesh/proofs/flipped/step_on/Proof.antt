@@ -1,0 +1,42 @@
+-- `mesh::flipped::step_on` meets its contract: the step between the inverse images of the two ends. Assumes nothing.
+use Prim.Native.Nat.{_+_}
+use native.Mathlib.Omega.{arith}
+use Rattle.cyclic.specs.declared.seam.Seam.the-variants.{Joined}
+use Rattle.cyclic.proofs.Mappings.{inverse-within}
+use Rattle.mesh.proofs.Joins.{maps-joins}
+use Rattle.mesh.proofs.Counts.{step-is}
+use borrow.Author.Needs.{needs}
+use Rattle.mesh.proofs.flipped.step_on.Statement.{statement}
+use Rattle.mesh.proofs.flipped.step_on.Tie as tie
+use Rattle.mesh.proofs.flipped.step_on.Reads as reads
+use Rattle.mesh.proofs.flipped.step_on.Lts as lts
+use Rattle.cyclic.proofs.mapping.CyclicMapping.inverse.Reads as inverse-reads
+use Rattle.mesh.proofs.flipped.wrap_ends.Reads as wrap-ends-reads
+
+inverse-requires : tie.Need-inverse-requires
+inverse-requires c κs = maps-joins (Joined (c .args .mapping)) (c .args .steps) (c .args .i) (c .pre .0) (omega arith) (omega arith)
+
+add-inverse : tie.Need-add-inverse
+add-inverse c = search needs
+
+inverse-requires-2 : tie.Need-inverse-requires-2
+inverse-requires-2 c κs =
+    let t = c .before in
+    maps-joins (Joined (t .args .mapping)) (t .args .steps) (t .args .i + 1) (t .pre .0) (omega arith) (omega arith)
+
+wrap-ends-requires : tie.Need-wrap-ends-requires
+wrap-ends-requires c κs =
+    let t = c .before .before in
+    let a = t .args in
+    let p = inverse-within (a .mapping) (a .i) (maps-joins (Joined (a .mapping)) (a .steps) (a .i) (t .pre .0) (omega arith) (omega arith)) in
+    let q = inverse-within (a .mapping) (a .i + 1) (maps-joins (Joined (a .mapping)) (a .steps) (a .i + 1) (t .pre .0) (omega arith) (omega arith)) in
+    omega (arith, c .before .inverse .ensures, c .inverse2 .ensures, t .pre .0 .0, t .pre .1)
+
+returns : tie.Need-returns
+returns c =
+    let t = c .before .before .before in
+    step-is (t .args .mapping) (t .args .steps) (t .args .i) (t .pre .0 .0) (c .before .before .inverse .ensures) (c .before .inverse2 .ensures) (c .wrap-ends .ensures)
+
+pub step-on-spec : {M : Type 1} → statement M
+step-on-spec =
+    tie.close (tie.spec inverse-requires add-inverse inverse-requires-2 wrap-ends-requires returns)

@@ -1,0 +1,92 @@
+-- `mesh::pairs::find_spot` meets its contract: the pairs before i all stand before (low, high), so that inserting it leaves them as they are. Assumes nothing.
+use Prim.Native.Nat.{_≤_, _-_}
+use mathlib.Core.Path.{refl}
+use native.Mathlib.Omega.{arith}
+use lib.ListN.{length}
+use Rattle.surface.specs.Surface.{pair}
+use Rattle.mesh.specs.Held.{pairAt, pairsIn}
+use Rattle.mesh.proofs.Firsts.{length-firsts}
+use Rattle.mesh.proofs.Holding.{PassedTo, spot-before, spot-there, spot-on, spot-end}
+use Rattle.mesh.proofs.pairs.find_spot.Statement.{statement}
+use Rattle.mesh.proofs.pairs.find_spot.Tie as tie
+
+abbrev Inv-loop : tie.InvT-loop
+Inv-loop list count low high i₀ i = (i ≤ count) × PassedTo i (pair low high) (pairsIn count list)
+
+abbrev μ-loop : tie.MeasureT-loop
+μ-loop list count low high i₀ i = count - i
+
+loop-holds : tie.Need-loop-holds Inv-loop μ-loop
+loop-holds c = (omega arith, refl)
+
+mul-a : tie.Need-mul-a Inv-loop μ-loop
+mul-a c = omega arith
+
+mul-a-2 : tie.Need-mul-a-2 Inv-loop μ-loop
+mul-a-2 c = omega arith
+
+shared-slice-read-a : tie.Need-shared-slice-read-a Inv-loop μ-loop
+shared-slice-read-a c = omega arith
+
+mul-b : tie.Need-mul-b Inv-loop μ-loop
+mul-b c = omega arith
+
+add-b : tie.Need-add-b Inv-loop μ-loop
+add-b c = omega arith
+
+mul-b-2 : tie.Need-mul-b-2 Inv-loop μ-loop
+mul-b-2 c = omega arith
+
+shared-slice-read-b : tie.Need-shared-slice-read-b Inv-loop μ-loop
+shared-slice-read-b c = omega arith
+
+returns : tie.Need-returns Inv-loop μ-loop
+returns c =
+    let a = c .before .before .before .before .before .args in
+    let i = c .before .before .before .before .loop in
+    (omega (arith, length-firsts (pairAt (a .list .now)) (a .count)), spot-before (pairAt (a .list .now)) (a .count) (i .i) (pair (a .low) (a .high)) (omega arith) (i .inv .1) (c .if1 .taken))
+
+returns-2 : tie.Need-returns-2 Inv-loop μ-loop
+returns-2 c =
+    let a = c .before .before .before .before .before .before .args in
+    let i = c .before .before .before .before .before .loop in
+    spot-there (pairAt (a .list .now)) (a .count) (i .i) (pair (a .low) (a .high)) (omega arith) (i .inv .1) (c .if2 .taken)
+
+add-i : tie.Need-add-i Inv-loop μ-loop
+add-i c = omega arith
+
+loop-less : tie.Need-loop-less Inv-loop μ-loop
+loop-less c = omega arith
+
+loop-again : tie.Need-loop-again Inv-loop μ-loop
+loop-again c =
+    let a = c .before .before .before .before .before .before .args in
+    let i = c .before .before .before .before .before .loop in
+    (omega arith, spot-on (pairAt (a .list .now)) (a .count) (i .i) (pair (a .low) (a .high)) (omega arith) (i .inv .1) (c .before .if1 .left) (c .if2 .left))
+
+returns-3 : tie.Need-returns-3 Inv-loop μ-loop
+returns-3 c =
+    let a = c .before .before .args in
+    let i = c .before .loop in
+    (omega (arith, length-firsts (pairAt (a .list .now)) (a .count)), spot-end (pairAt (a .list .now)) (a .count) (i .i) (pair (a .low) (a .high)) (omega arith) (i .inv .1))
+
+pub find-spot-spec : {M : Type 1} → statement M
+find-spot-spec =
+    tie.close
+    (tie.spec
+    Inv-loop
+    μ-loop
+    loop-holds
+    mul-a
+    mul-a-2
+    shared-slice-read-a
+    mul-b
+    add-b
+    mul-b-2
+    shared-slice-read-b
+    returns
+    returns-2
+    add-i
+    loop-less
+    loop-again
+    returns-3)

@@ -1,0 +1,62 @@
+-- `mesh::pairs::insert_pair` meets its contract: the pair is put where it belongs, or is there already. Assumes nothing.
+use mathlib.Core.Path.{sym, _∙_}
+use native.Mathlib.Omega.{arith}
+use Rattle.surface.specs.Surface.{pair}
+use Rattle.mesh.specs.Held.{pairAt, pairsIn}
+use Rattle.mesh.proofs.Firsts.{length-firsts}
+use Rattle.mesh.proofs.Holding.{spot-known, there-known}
+use borrow.Author.Needs.{needs}
+use Rattle.mesh.proofs.pairs.insert_pair.Statement.{statement}
+use Rattle.mesh.proofs.pairs.insert_pair.Tie as tie
+
+find-spot-requires : tie.Need-find-spot-requires
+find-spot-requires c κs = search needs
+
+enum-told : tie.Need-enum-told
+enum-told c = search needs
+
+enum-known-i : tie.Need-enum-known-i
+enum-known-i c = search needs
+
+put-pair-requires : tie.Need-put-pair-requires
+put-pair-requires c κs =
+    let t = c .before .before in
+    let a = t .before .before .before .before .before .args in
+    let w = spot-known (pair (a .low) (a .high)) (pairsIn (a .count) (a .list .now)) (t .i .given .1) (t .before .before .find-spot .ensures) in
+    (omega (arith, length-firsts (pairAt (a .list .now)) (a .count)), t .before .before .before .before .before .pre)
+
+add-result : tie.Need-add-result
+add-result c = search needs
+
+same-length : tie.Need-same-length
+same-length c = search needs
+
+returns : tie.Need-returns
+returns c =
+    let t = c .before .before in
+    let a = t .before .before .before .args in
+    sym (there-known (pair (a .low) (a .high)) (pairsIn (a .count) (a .list .now)) (c .enum-told .given .1) (t .find-spot .ensures))
+
+same-length-2 : tie.Need-same-length-2
+same-length-2 c = search needs
+
+returns-2 : tie.Need-returns-2
+returns-2 c =
+    let t = c .before .before .before .before .before in
+    let a = t .before .before .before .before .before .args in
+    c .before .before .put-pair .ensures
+    ∙ sym (spot-known (pair (a .low) (a .high)) (pairsIn (a .count) (a .list .now)) (t .i .given .1) (t .before .before .find-spot .ensures) .1)
+
+pub insert-pair-spec : {M : Type 1} → statement M
+insert-pair-spec =
+    tie.close
+    (tie.spec
+    find-spot-requires
+    enum-told
+    enum-known-i
+    put-pair-requires
+    add-result
+    same-length
+    returns
+    same-length-2
+    returns-2)

@@ -1,0 +1,38 @@
+-- `mesh::triangles::add_triangle` meets its contract: one triangle more, or none. Assumes nothing.
+use mathlib.Core.Path.{_≡_, sym, _∙_}
+use borrow.Author.Tests.{not-true, not-false}
+use Rattle.surface.specs.Surface.{tri}
+use Rattle.mesh.specs.Held.{trianglesIn}
+use Rattle.mesh.proofs.Cells.{added-none, added-one}
+use borrow.Author.Needs.{needs}
+use Rattle.mesh.proofs.triangles.add_triangle.Statement.{statement}
+use Rattle.mesh.proofs.triangles.add_triangle.Tie as tie
+
+differ-requires : tie.Need-differ-requires
+differ-requires c κs = search needs
+
+returns : tie.Need-returns
+returns c =
+    let a = c .before .before .before .args in
+    added-none (trianglesIn (a .count) (a .triangles .now)) (tri (a .a) (a .b) (a .c)) (sym (c .before .differ .ensures) ∙ not-true _ (c .if1 .taken))
+
+write-triangle-requires : tie.Need-write-triangle-requires
+write-triangle-requires c κs = search needs
+
+add-result : tie.Need-add-result
+add-result c = search needs
+
+same-length : tie.Need-same-length
+same-length c = search needs
+
+returns-2 : tie.Need-returns-2
+returns-2 c =
+    let w = c .before .before .write-triangle in
+    let t = c .before .before .before .before in
+    let a = t .before .before .before .args in
+    w .ensures ∙ added-one (trianglesIn (a .count) (a .triangles .now)) (tri (a .a) (a .b) (a .c)) (sym (t .before .differ .ensures) ∙ not-false _ (t .if1 .left))
+
+pub add-triangle-spec : {M : Type 1} → statement M
+add-triangle-spec =
+    tie.close
+    (tie.spec differ-requires returns write-triangle-requires add-result same-length returns-2)

@@ -1,0 +1,68 @@
+-- `mesh::triangles::build_inner_row` meets its contract: after v cells the list holds the triangles of the slots up to cell (u, v). Assumes nothing.
+use Prim.Native.Nat.{ℕ, _+_, _-_, _*_, _≤_}
+use mathlib.Core.Path.{_≡_, refl, ap, _∙_}
+use native.Mathlib.Omega.{arith}
+use lib.ListN.{length}
+use Rattle.surface.specs.Surface.{kept}
+use Rattle.mesh.specs.Corners.{shapeOf}
+use Rattle.mesh.specs.Held.{trianglesIn}
+use Rattle.mesh.proofs.Cells.{row-first}
+use Rattle.mesh.proofs.triangles.build_inner_row.Statement.{statement}
+use Rattle.mesh.proofs.triangles.build_inner_row.Tie as tie
+
+abbrev Inv-loop : tie.InvT-loop
+Inv-loop surface u triangles₀ start last count₀ v₀ triangles count v =
+    (v ≤ surface .n - 1) × (trianglesIn count triangles ≡ kept (shapeOf surface) (2 * (u * surface .n + v))) × (length triangles ≡ length triangles₀)
+
+abbrev μ-loop : tie.MeasureT-loop
+μ-loop surface u triangles₀ start last count₀ v₀ triangles count v = surface .n - 1 - v
+
+sub-last : tie.Need-sub-last Inv-loop μ-loop
+sub-last c = omega arith
+
+loop-holds : tie.Need-loop-holds Inv-loop μ-loop
+loop-holds c =
+    let t = c .before .before in
+    (omega arith, t .pre .1 .1 ∙ row-first (shapeOf (t .args .surface)) (t .args .surface .n) (t .args .u), refl)
+
+build-inner-cell-requires : tie.Need-build-inner-cell-requires Inv-loop μ-loop
+build-inner-cell-requires c κs =
+    let w = c .before .before .loop in
+    let t = c .before .before .before .before .before in
+    ((t .pre .0 .0, t .pre .0 .1, omega arith), (omega arith, w .inv .1))
+
+add-v : tie.Need-add-v Inv-loop μ-loop
+add-v c = omega arith
+
+loop-less : tie.Need-loop-less Inv-loop μ-loop
+loop-less c = omega arith
+
+loop-again : tie.Need-loop-again Inv-loop μ-loop
+loop-again c =
+    let b = c .before .before .build-inner-cell in
+    (omega arith, b .ensures, omega (arith, b .kept .1 .1 .1 .0))
+
+same-length : tie.Need-same-length Inv-loop μ-loop
+same-length c = omega arith
+
+returns : tie.Need-returns Inv-loop μ-loop
+returns c =
+    let w = c .before .loop in
+    let a = c .before .before .before .before .args in
+    let e : w .v ≡ a .surface .n - 1 = omega arith in
+    w .inv .1 ∙ ap (λ (v : ℕ). kept (shapeOf (a .surface)) (2 * (a .u * a .surface .n + v))) e
+
+pub build-inner-row-spec : {M : Type 1} → statement M
+build-inner-row-spec =
+    tie.close
+    (tie.spec
+    Inv-loop
+    μ-loop
+    sub-last
+    loop-holds
+    build-inner-cell-requires
+    add-v
+    loop-less
+    loop-again
+    same-length
+    returns)

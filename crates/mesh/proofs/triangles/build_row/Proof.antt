@@ -1,0 +1,63 @@
+-- `mesh::triangles::build_row` meets its contract: the inner cells and then the last one, or cell by cell. Assumes nothing.
+use Prim.Native.Nat.{_+_, _-_}
+use mathlib.Core.Path.{_∙_}
+use native.Mathlib.Omega.{arith}
+use Rattle.mesh.specs.Corners.{shapeOf}
+use Rattle.mesh.proofs.Cells.{row-next}
+use borrow.Author.Needs.{needs}
+use Rattle.mesh.proofs.triangles.build_row.Statement.{statement}
+use Rattle.mesh.proofs.triangles.build_row.Tie as tie
+use Rattle.mesh.proofs.triangles.build_row.Reads as reads
+use Rattle.mesh.proofs.triangles.build_row.Lts as lts
+use Rattle.mesh.proofs.triangles.build_cell.Reads as build-cell-reads
+use Rattle.mesh.proofs.triangles.build_inner_row.Reads as build-inner-row-reads
+use Rattle.mesh.proofs.triangles.build_rule_row.Reads as build-rule-row-reads
+
+add-if1 : tie.Need-add-if1
+add-if1 c = search needs
+
+build-inner-row-requires : tie.Need-build-inner-row-requires
+build-inner-row-requires c κs =
+    let t = c .before .before .before .before in
+    ((t .pre .0 .0, c .before .if1 .taken), t .pre .1)
+
+sub-build-cell : tie.Need-sub-build-cell
+sub-build-cell c = search needs
+
+build-cell-requires : tie.Need-build-cell-requires
+build-cell-requires c κs =
+    let r = c .before .before .before .before .build-inner-row in
+    let t = c .before .before .before .before .before .before .before .before .before in
+    ((t .pre .0 .0, t .pre .0 .1, omega (arith, t .pre .0 .0 .n-least)), (omega (arith, r .kept .1 .1 .0, t .pre .1 .0), r .ensures))
+
+same-length : tie.Need-same-length
+same-length c = search needs
+
+returns : tie.Need-returns
+returns c =
+    let t = c .before .before .before .before .before .before .before .before .before .before .before .before in
+    let a = t .args in
+    c .before .before .build-cell .ensures ∙ row-next (shapeOf (a .surface)) (a .surface .n) (a .u) (a .surface .n - 1 + 1) (omega (arith, t .pre .0 .0 .n-least))
+
+build-rule-row-requires : tie.Need-build-rule-row-requires
+build-rule-row-requires c κs = c .before .before .before .before .pre
+
+same-length-2 : tie.Need-same-length-2
+same-length-2 c = search needs
+
+returns-2 : tie.Need-returns-2
+returns-2 c = c .before .before .build-rule-row .ensures
+
+pub build-row-spec : {M : Type 1} → statement M
+build-row-spec =
+    tie.close
+    (tie.spec
+    add-if1
+    build-inner-row-requires
+    sub-build-cell
+    build-cell-requires
+    same-length
+    returns
+    build-rule-row-requires
+    same-length-2
+    returns-2)

@@ -1,0 +1,66 @@
+-- `mesh::triangles::build_rule_row` meets its contract: after v cells the list holds the triangles of the slots up to cell (u, v). Assumes nothing.
+use Prim.Native.Nat.{_+_, _-_, _*_, _≤_}
+use mathlib.Core.Path.{_≡_, refl, _∙_}
+use native.Mathlib.Omega.{arith}
+use lib.ListN.{length}
+use Rattle.surface.specs.Surface.{kept}
+use Rattle.mesh.specs.Corners.{shapeOf}
+use Rattle.mesh.specs.Held.{trianglesIn}
+use Rattle.mesh.proofs.Cells.{row-first, row-next}
+use Rattle.mesh.proofs.triangles.build_rule_row.Statement.{statement}
+use Rattle.mesh.proofs.triangles.build_rule_row.Tie as tie
+use Rattle.mesh.proofs.triangles.build_rule_row.Reads as reads
+use Rattle.mesh.proofs.triangles.build_rule_row.Lts as lts
+use Rattle.mesh.proofs.triangles.build_cell.Reads as build-cell-reads
+
+abbrev Inv-loop : tie.InvT-loop
+Inv-loop surface u triangles₀ start n count₀ v₀ triangles count v =
+    (v ≤ surface .n) × (trianglesIn count triangles ≡ kept (shapeOf surface) (2 * (u * surface .n + v))) × (length triangles ≡ length triangles₀)
+
+abbrev μ-loop : tie.MeasureT-loop
+μ-loop surface u triangles₀ start n count₀ v₀ triangles count v = surface .n - v
+
+loop-holds : tie.Need-loop-holds Inv-loop μ-loop
+loop-holds c =
+    let t = c .before in
+    (omega arith, t .pre .1 .1 ∙ row-first (shapeOf (t .args .surface)) (t .args .surface .n) (t .args .u), refl)
+
+build-cell-requires : tie.Need-build-cell-requires Inv-loop μ-loop
+build-cell-requires c κs =
+    let w = c .before .before .loop in
+    let t = c .before .before .before .before in
+    ((t .pre .0 .0, t .pre .0 .1, omega arith), (omega arith, w .inv .1))
+
+add-v : tie.Need-add-v Inv-loop μ-loop
+add-v c = omega arith
+
+loop-less : tie.Need-loop-less Inv-loop μ-loop
+loop-less c = omega arith
+
+loop-again : tie.Need-loop-again Inv-loop μ-loop
+loop-again c =
+    let b = c .before .before .build-cell in
+    (omega arith, b .ensures, omega (arith, b .kept .1 .1 .1 .0))
+
+same-length : tie.Need-same-length Inv-loop μ-loop
+same-length c = omega arith
+
+returns : tie.Need-returns Inv-loop μ-loop
+returns c =
+    let w = c .before .loop in
+    let a = c .before .before .before .args in
+    w .inv .1 ∙ row-next (shapeOf (a .surface)) (a .surface .n) (a .u) (w .v) (omega arith)
+
+pub build-rule-row-spec : {M : Type 1} → statement M
+build-rule-row-spec =
+    tie.close
+    (tie.spec
+    Inv-loop
+    μ-loop
+    loop-holds
+    build-cell-requires
+    add-v
+    loop-less
+    loop-again
+    same-length
+    returns)

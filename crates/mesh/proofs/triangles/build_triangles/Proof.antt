@@ -1,0 +1,106 @@
+-- `mesh::triangles::build_triangles` meets its contract: after u rows the list holds the triangles of their slots, and the starts are known up to u. Assumes nothing.
+use Prim.Native.Nat.{ℕ, _+_, _-_, _*_, _≤_, _<_}
+use mathlib.Core.Path.{_≡_, refl, ap, _∙_}
+use native.Mathlib.Omega.{arith}
+use mathlib.Core.List.{List}
+use lib.ListN.{length, getD, length-set}
+use Rattle.surface.specs.Surface.{kept, numberOf}
+use Rattle.mesh.specs.Corners.{shapeOf}
+use Rattle.mesh.specs.Held.{trianglesIn}
+use Rattle.mesh.proofs.Cells.{none-held, value-first, held-count, values-more}
+use Rattle.mesh.proofs.triangles.build_triangles.Statement.{statement}
+use Rattle.mesh.proofs.triangles.build_triangles.Tie as tie
+use Rattle.mesh.proofs.triangles.build_triangles.Reads as reads
+use Rattle.mesh.proofs.triangles.build_triangles.Lts as lts
+use Rattle.mesh.proofs.triangles.build_row.Reads as build-row-reads
+
+abbrev Inv-loop : tie.InvT-loop
+Inv-loop surface triangles₀ starts₀ m count₀ u₀ triangles starts count u =
+    (u ≤ surface .m)
+    × (trianglesIn count triangles ≡ kept (shapeOf surface) (2 * (u * surface .n)))
+    × (length triangles ≡ length triangles₀)
+    × (length starts ≡ length starts₀)
+    × ((i : ℕ) → i ≤ u → getD starts i 0 ≡ numberOf (shapeOf surface) (2 * (i * surface .n)))
+
+abbrev μ-loop : tie.MeasureT-loop
+μ-loop surface triangles₀ starts₀ m count₀ u₀ triangles starts count u = surface .m - u
+
+slice-write-starts : tie.Need-slice-write-starts Inv-loop μ-loop
+slice-write-starts c = omega arith
+
+loop-holds : tie.Need-loop-holds Inv-loop μ-loop
+loop-holds c =
+    let t = c .before .before in
+    let a = t .args in
+    let s = shapeOf (a .surface) in
+    let none = none-held s (a .surface .n) (a .triangles .now) in
+    (omega arith, none, refl, refl, value-first (λ (i : ℕ). numberOf s (2 * (i * a .surface .n))) (a .starts .now) 0 (omega arith) (held-count s (2 * (0 * a .surface .n)) 0 (a .triangles .now) none))
+
+build-row-requires : tie.Need-build-row-requires Inv-loop μ-loop
+build-row-requires c κs =
+    let w = c .before .before .loop in
+    let t = c .before .before .before .before .before in
+    ((t .pre .0 .0, omega arith), (omega arith, w .inv .1))
+
+add-u : tie.Need-add-u Inv-loop μ-loop
+add-u c = omega arith
+
+mul-starts : tie.Need-mul-starts Inv-loop μ-loop
+mul-starts c = omega arith
+
+slice-write-starts-2 : tie.Need-slice-write-starts-2 Inv-loop μ-loop
+slice-write-starts-2 c =
+    let w = c .before .before .before .before .before .loop in
+    omega (arith, w .inv .3, length-set (c .before .before .before .before .before .before .before .before .args .starts .now) 0 0)
+
+loop-less : tie.Need-loop-less Inv-loop μ-loop
+loop-less c = omega arith
+
+loop-again : tie.Need-loop-again Inv-loop μ-loop
+loop-again c =
+    let b = c .before .before .build-row in
+    let w = c .before .before .before .before .before .loop in
+    let a = c .before .before .before .before .before .before .before .before .args in
+    let s = shapeOf (a .surface) in
+    (
+      omega arith,
+      b .ensures,
+      omega (arith, b .kept .1 .1 .0),
+      length-set (w .starts) (w .u + 1) (b .result) ∙ w .inv .3,
+      values-more (λ (i : ℕ). numberOf s (2 * (i * a .surface .n))) (w .starts) (w .u) (b .result)
+          (omega (arith, length-set (a .starts .now) 0 0))
+          (w .inv .4)
+          (held-count s (2 * ((w .u + 1) * a .surface .n)) (b .result) (b .last .1 .1 .0) (b .ensures)),
+    )
+
+same-length : tie.Need-same-length Inv-loop μ-loop
+same-length c = omega arith
+
+same-length-2 : tie.Need-same-length-2 Inv-loop μ-loop
+same-length-2 c =
+    omega (arith, c .before .loop .inv .3, length-set (c .before .before .before .before .args .starts .now) 0 0)
+
+returns : tie.Need-returns Inv-loop μ-loop
+returns c =
+    let w = c .before .loop in
+    let a = c .before .before .before .before .args in
+    let e : w .u ≡ a .surface .m = omega arith in
+    (w .inv .1 ∙ ap (λ (u : ℕ). kept (shapeOf (a .surface)) (2 * (u * a .surface .n))) e, record { room = omega (arith, w .inv .3, length-set (a .starts .now) 0 0); at = λ i h. w .inv .4 i (omega arith) })
+
+pub build-triangles-spec : {M : Type 1} → statement M
+build-triangles-spec =
+    tie.close
+    (tie.spec
+    Inv-loop
+    μ-loop
+    slice-write-starts
+    loop-holds
+    build-row-requires
+    add-u
+    mul-starts
+    slice-write-starts-2
+    loop-less
+    loop-again
+    same-length
+    same-length-2
+    returns)

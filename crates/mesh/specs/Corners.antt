@@ -1,0 +1,54 @@
+-- The corner rule as the code takes it: one rule for either seam, and the corners of a cell (01, "Joining and triangles"). Assumes nothing.
+use Prim.Native.Nat.{ℕ, _+_, _≤_, _<_}
+use mathlib.Core.Path.{_≡_}
+use lib.Dec.{eqb}
+use Rattle.cyclic.specs.declared.mapping.CyclicMapping.{CyclicMapping}
+use Rattle.cyclic.specs.declared.seam.Seam.{Seam}
+use Rattle.cyclic.specs.declared.seam.Seam.the-variants.{Joined, Unjoined}
+use Rattle.cyclic.specs.Mapping.{offsetOf, stepsOf, inverse, Usable}
+use Rattle.surface.specs.Surface.{pick, Shape, Triangle, tri, corner}
+use Rattle.surface.specs.Found.{surfaceWith}
+use Rattle.mesh.specs.declared.corner.Surface.{Surface}
+use Rattle.mesh.specs.declared.corner.Place.{Place}
+use Rattle.mesh.specs.declared.corner.Cell.{Cell}
+
+abbrev pub shapeOf : Surface → Shape
+shapeOf s = surfaceWith (s .m) (s .n) (s .u) (s .v)
+
+-- a mapping of lines of so many steps
+abbrev pub Maps : Seam → ℕ → Type 0
+Maps Unjoined steps = Unit {0}
+Maps (Joined m) steps = (stepsOf m ≡ steps) × (offsetOf m < steps)
+
+-- a step that the seam's mapping takes
+abbrev pub Joins : Seam → ℕ → Type 0
+Joins Unjoined step = Unit {0}
+Joins (Joined m) step = Usable m step
+
+-- steps that pass refusal 1, and seams of the grid's own lines
+pub record Bounded (s : Surface) : Type 0 where
+  pub m-least : 1 ≤ s .m
+  pub m-most : s .m ≤ 255
+  pub n-least : 1 ≤ s .n
+  pub n-most : s .n ≤ 255
+  pub u-maps : Maps (s .u) (s .n)
+  pub v-maps : Maps (s .v) (s .m)
+
+abbrev pub placed : ℕ → ℕ → Place
+placed line step = record { line = line; step = step }
+
+-- "if its u is M and the u seam was found, v becomes the inverse image and u becomes 0", for either seam: its lines, and the steps along them
+unfoldable pub joinOf : Seam → ℕ → ℕ → ℕ → Place
+joinOf Unjoined last line step = placed line step
+joinOf (Joined m) last line step = pick (eqb line last) (placed 0 (inverse m step)) (placed line step)
+
+-- "With i00, i10, i01, i11 for corners (u,v), (u+1,v), (u,v+1), (u+1,v+1)"
+abbrev pub cellOf : Shape → ℕ → ℕ → Cell
+cellOf s u v = record { i00 = corner s v u v; i10 = corner s v (u + 1) v; i01 = corner s v u (v + 1); i11 = corner s v (u + 1) (v + 1) }
+
+-- "the cell emits (i00,i10,i01), then (i10,i11,i01)"
+abbrev pub firstOf : Cell → Triangle
+firstOf c = tri (c .i00) (c .i10) (c .i01)
+
+abbrev pub secondOf : Cell → Triangle
+secondOf c = tri (c .i10) (c .i11) (c .i01)

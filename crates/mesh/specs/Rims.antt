@@ -1,0 +1,55 @@
+-- The rims of a seam and their triangles, for either seam (01, "Flipped pairs follow `process_flipped` for reversed seams"). Assumes nothing.
+use Prim.Native.Nat.{ℕ, _+_, _*_, _≤_, _<_}
+use mathlib.Core.Path.{_≡_}
+use mathlib.Core.Bool.{Bool, true, false}
+use mathlib.Core.List.{List, []}
+use lib.Dec.{ltb}
+use lib.ListN.{length, getD}
+use Rattle.surface.specs.Surface.{pick, Seam, reversed, Shape, numberOf, stepOn, lowU, highU, lowV, highV, Pair, putDown, process}
+use Rattle.mesh.specs.declared.corner.Surface.{Surface}
+use Rattle.mesh.specs.Corners.{shapeOf}
+use Rattle.mesh.specs.declared.flipped.Axis.{Axis}
+use Rattle.mesh.specs.declared.flipped.Axis.the-variants.{U, «V»}
+
+-- one more, where it is so
+abbrev pub plus : ℕ → Bool → ℕ
+plus k true = k + 1
+plus k false = k
+
+-- the steps along a seam's rims
+abbrev pub stepsOf : Axis → Shape → ℕ
+stepsOf U s = s .N
+stepsOf «V» s = s .M
+
+-- the slot at step i of the low rim, and of the high rim
+abbrev pub lowOf : Axis → Shape → ℕ → ℕ
+lowOf U s i = lowU s i
+lowOf «V» s i = lowV s i
+
+abbrev pub highOf : Axis → Shape → ℕ → ℕ
+highOf U s i = highU s i
+highOf «V» s i = highV s i
+
+-- the number of triangles before each u, and of all
+pub record Starts (surface : Surface) (starts : List ℕ) : Type 0 where
+  pub room : surface .m < length starts
+  pub at : (u : ℕ) → u ≤ surface .m → getD starts u 0 ≡ numberOf (shapeOf surface) (2 * (u * surface .n))
+
+-- the number of triangles before each triangle of the low rim, and after each of the high rim
+pub record Rims (axis : Axis) (s : Shape) (low high : List ℕ) : Type 0 where
+  pub low-room : stepsOf axis s < length low
+  pub high-room : stepsOf axis s < length high
+  pub before : (i : ℕ) → i < stepsOf axis s → getD low i 0 ≡ numberOf s (lowOf axis s i)
+  pub after : (i : ℕ) → i < stepsOf axis s → getD high (i + 1) 0 ≡ numberOf s (highOf axis s i + 1)
+
+-- step i of the high rim with the step of the low rim that lies on it, if there is one
+abbrev pub flipStep : Axis → Shape → Seam → ℕ → List Pair → List Pair
+flipStep axis s m i ps = pick (ltb (stepOn m (stepsOf axis s) i) (stepsOf axis s)) (putDown s (lowOf axis s (stepOn m (stepsOf axis s) i)) (highOf axis s i) ps) ps
+
+-- steps 0 to n−1
+abbrev pub flipSteps : Axis → Shape → Seam → ℕ → List Pair → List Pair
+flipSteps axis s m n ps = process s m (stepsOf axis s) (lowOf axis s) (highOf axis s) n ps
+
+-- "for reversed seams"
+abbrev pub flips : Axis → Shape → Seam → List Pair → List Pair
+flips axis s m ps = pick (reversed m) (flipSteps axis s m (stepsOf axis s) ps) ps
