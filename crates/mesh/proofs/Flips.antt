@@ -24,7 +24,7 @@ use Rattle.mesh.specs.Corners.{shapeOf, Bounded, Maps}
 use Rattle.mesh.specs.Held.{pairAt, pairsIn}
 use Rattle.mesh.specs.Rims.{plus, stepsOf, lowOf, highOf, Starts, Rims, flipStep, flipSteps, flips}
 use Rattle.mesh.proofs.Firsts.{length-firsts}
-use Rattle.mesh.proofs.Counts.{number-step, low-u, low-v, high-u, high-v}
+use Rattle.mesh.proofs.Numbers.{number-step, low-u, low-v, high-u, high-v}
 
 pub steps-most : (axis : Axis) (surface : Surface) → Bounded surface → stepsOf axis (shapeOf surface) ≤ 255
 steps-most U surface b = b .n-most

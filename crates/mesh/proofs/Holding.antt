@@ -85,6 +85,30 @@ triangle-added k l a b c h =
 
 -- Pairs
 
+pairs-last : (ps : List Pair) (p : Pair) → pairNumbers (ps ++ (p ∷ [])) ≡ pairNumbers ps ++ (p .low ∷ p .high ∷ [])
+unfolding pairNumbers
+pairs-last [] p = refl
+pairs-last (x ∷ ps) p = ap (λ (l : List ℕ). x .low ∷ x .high ∷ l) (pairs-last ps p)
+
+-- two places further
+take-two : (l : List ℕ) (i : ℕ) → i + 2 ≤ length l → take (i + 2) l ≡ take i l ++ (getD l i 0 ∷ getD l (i + 1) 0 ∷ [])
+take-two l i h =
+    let e : i + 2 ≡ suc (suc i) = omega arith in
+    let e₁ : i + 1 ≡ suc i = omega arith in
+    let p : i < length l = omega arith in
+    let p₁ : suc i < length l = omega arith in
+    rw (e, e₁, take-suc l (suc i) 0 p₁, take-suc l i 0 p, append-assoc)
+
+pub pairs-held : (k : ℕ) (l : List ℕ) → 2 * k ≤ length l → pairNumbers (pairsIn k l) ≡ take (2 * k) l
+unfolding firsts pairNumbers
+pairs-held zero l h = refl
+pairs-held (suc k) l h =
+    let e : 2 * suc k ≡ 2 * k + 2 = omega arith in
+    pairs-last (pairsIn k l) (pairAt l k)
+    ∙ ap (λ (x : List ℕ). x ++ (getD l (2 * k) 0 ∷ getD l (2 * k + 1) 0 ∷ [])) (pairs-held k l (omega arith))
+    ∙ sym (take-two l (2 * k) (omega arith))
+    ∙ ap (λ (i : ℕ). take i l) (sym e)
+
 -- whether p stands before q, and whether they are one, as the code tests it
 abbrev pub comes : Pair → Pair → Bool
 comes p q = ltb (p .low) (q .low) || (eqb (p .low) (q .low) && ltb (p .high) (q .high))
@@ -92,11 +116,11 @@ comes p q = ltb (p .low) (q .low) || (eqb (p .low) (q .low) && ltb (p .high) (q 
 abbrev pub alike : Pair → Pair → Bool
 alike p q = eqb (p .low) (q .low) && eqb (p .high) (q .high)
 
-or-true : (a b : Bool) → a || b ≡ true → (a ≡ true) ⊎ (b ≡ true)
+pub or-true : (a b : Bool) → a || b ≡ true → (a ≡ true) ⊎ (b ≡ true)
 or-true true b h = inl refl
 or-true false b h = inr h
 
-or-false : (a b : Bool) → a || b ≡ false → (a ≡ false) × (b ≡ false)
+pub or-false : (a b : Bool) → a || b ≡ false → (a ≡ false) × (b ≡ false)
 or-false true b h = absurd (true≢false h)
 or-false false b h = (refl, h)
 

@@ -4,5 +4,6 @@ pub mod Holding
 pub mod Cells
 pub mod Joins
 pub mod Inner
-pub mod Counts
+pub mod Numbers
 pub mod Flips
+pub mod Answers

@@ -15,6 +15,7 @@ use Rattle.grid.specs.Grid.{stepsFit, lengthFits, coordinatesFit}
 use Rattle.cyclic.specs.declared.seam.SeamSearch.{SeamSearch}
 use Rattle.surface.specs.Surface.{Triangle, Pair, Shape, triangles, flipped}
 use Rattle.surface.specs.Found.{uSearch, vSearch, surfaceOf}
+use Rattle.mesh.specs.declared.MeshCounts.{MeshCounts}
 use Rattle.mesh.specs.declared.Triangulation.{Triangulation}
 use Rattle.mesh.specs.declared.Triangulation.the-variants.{Triangulated, Refused}
 
@@ -67,6 +68,13 @@ handedOver g m n t f =
       triangles = filled 0 (triangleNumbers (triangles s)) t;
       flipped = filled 0 (pairNumbers (flipped s)) f;
     }
+
+-- two lent lists, before and after they were filled with a surface's triangles and flipped pairs, and the counts of these
+pub record Filled (s : Shape) (r : MeshCounts) (t t′ f f′ : List ℕ) : Type 0 where
+  pub triangle-list : t′ ≡ filled 0 (triangleNumbers (triangles s)) t
+  pub pair-list : f′ ≡ filled 0 (pairNumbers (flipped s)) f
+  pub triangle-count : r .triangles ≡ length (triangles s)
+  pub pair-count : r .pairs ≡ length (flipped s)
 
 -- "Numbers 1 to 10 leave output lists untouched"
 abbrev pub afterCheck : Check → List ℕ → List ℕ → Handed → Handed

@@ -1,6 +1,16 @@
 // Triangles and flipped pairs of a grid, from the seams that are found in it.
+use corner::Surface;
 use cyclic::seam::SeamSearch;
+use refusal::Check;
 use refusal::Refusal;
+ghost use mathlib.Core.Path.{_≡_};
+ghost use Prim.Native.Nat.{_+_, _*_, _≤_};
+ghost use lib.ListN.{length};
+ghost use Rattle.surface.specs.Found.{uSearch, vSearch, SurfaceMeets};
+ghost use Rattle.grid.specs.Grid.{shapeCheck};
+ghost use Rattle.refusal.specs.declared.Check.the-variants.{Passed};
+ghost use Rattle.mesh.specs.Corners.{shapeOf, Bounded};
+ghost use Rattle.mesh.specs.Mesh.{meshCheck, triangulateGrid, Hands, Filled};
 
 pub mod corner;
 pub mod flipped;
@@ -11,4 +21,86 @@ pub mod triangles;
 pub enum Triangulation {
     Triangulated(SeamSearch, SeamSearch, usize, usize),
     Refused(Refusal),
+}
+
+// What a search finds for the u seam and for the v seam.
+pub struct Seams {
+    pub u: SeamSearch,
+    pub v: SeamSearch,
+}
+
+// The count of triangles and the count of flipped pairs.
+pub struct MeshCounts {
+    pub triangles: usize,
+    pub pairs: usize,
+}
+
+// Refusals 1, 2, 3 and 4.
+fn check_mesh(grid: &[f64], m: usize, n: usize, triangles: &[usize], flipped: &[usize]) -> Check
+    ensures { λ r. ⌜ r ≡ meshCheck (now (grid .entry)) m n (now (triangles .entry)) (now (flipped .entry)) ⌝ }
+{
+    match grid::check_shape(grid, m, n) {
+        Check::Failed(k) => Check::Failed(k),
+        Check::Passed => {
+            if (triangles.len() < 6 * (m * n)) | (flipped.len() < 2 * (m + n)) {
+                return Check::Failed(Refusal::Room);
+            }
+            if !grid::coordinates_fit(grid) {
+                return Check::Failed(Refusal::Coordinate);
+            }
+            Check::Passed
+        }
+    }
+}
+
+// The u seam compares column u = 0 with u = M, the v seam row v = 0 with v = N.
+fn find_seams(grid: &[f64], m: usize, n: usize) -> Seams
+    requires { ⌜ shapeCheck (now grid) m n ≡ Passed ⌝ }
+    ensures { λ r. ⌜ (r .u ≡ uSearch (now (grid .entry)) m n) × (r .v ≡ vSearch (now (grid .entry)) m n) ⌝ }
+{
+    let u = cyclic::seam::search_rows(grid, 0, grid, m * (n + 1), 1, n);
+    let v = cyclic::seam::search_rows(grid, 0, grid, n, n + 1, m);
+    Seams { u, v }
+}
+
+// The triangles and flipped pairs that two seams make, and zero past them.
+pub fn triangulate(surface: Surface, triangles: &mut [usize], flipped: &mut [usize]) -> MeshCounts
+    requires { ⌜ Bounded surface ⌝ }
+    requires { ⌜ (6 * (surface .m * surface .n) ≤ length (now triangles)) × (2 * (surface .m + surface .n) ≤ length (now flipped)) ⌝ }
+    ensures { λ r. ⌜ Filled (shapeOf surface) r (now (triangles .entry)) (now (triangles .exit)) (now (flipped .entry)) (now (flipped .exit)) ⌝ }
+{
+    let mut starts = [0usize; 256];
+    let count = triangles::build_triangles(surface, triangles, &mut starts);
+    let pairs = flipped::find_flipped(surface, &starts, flipped);
+    lent::zero_numbers(triangles, 3 * count);
+    lent::zero_numbers(flipped, 2 * pairs);
+    MeshCounts {
+        triangles: count,
+        pairs,
+    }
+}
+
+// The triangles and flipped pairs of a grid of m by n steps into the two lists, for the seams that are found in it.
+pub fn triangulate_grid(
+    grid: &[f64],
+    m: usize,
+    n: usize,
+    triangles: &mut [usize],
+    flipped: &mut [usize],
+) -> Triangulation
+    ensures handed { λ r. ⌜ Hands (triangulateGrid (now (grid .entry)) m n (now (triangles .entry)) (now (flipped .entry))) r (now (triangles .exit)) (now (flipped .exit)) ⌝ }
+    ensures surface { λ _. ⌜ SurfaceMeets (now (grid .entry)) m n ⌝ }
+{
+    match check_mesh(grid, m, n, triangles, flipped) {
+        Check::Failed(k) => Triangulation::Refused(k),
+        Check::Passed => {
+            let seams = find_seams(grid, m, n);
+            let u = seams.u;
+            let v = seams.v;
+            let u_seam = u.seam;
+            let v_seam = v.seam;
+            let counts = triangulate(Surface { m, n, u: u_seam, v: v_seam }, triangles, flipped);
+            Triangulation::Triangulated(u, v, counts.triangles, counts.pairs)
+        }
+    }
 }

@@ -3,7 +3,7 @@ use Prim.Native.Nat.{_+_, _*_, _≤_}
 use native.Mathlib.Omega.{arith}
 use Rattle.mesh.specs.Corners.{shapeOf}
 use Rattle.mesh.proofs.Cells.{cell-below}
-use Rattle.mesh.proofs.Counts.{number-most, plus-most, cells-most, cell-counted}
+use Rattle.mesh.proofs.Numbers.{number-most, plus-most, cells-most, cell-counted}
 use borrow.Author.Needs.{needs}
 use Rattle.mesh.proofs.flipped.count_cell.Statement.{statement}
 use Rattle.mesh.proofs.flipped.count_cell.Tie as tie

@@ -6,7 +6,7 @@ use Rattle.surface.specs.Surface.{proper, slot}
 use Rattle.mesh.specs.declared.flipped.Axis.{Axis}
 use Rattle.mesh.specs.Corners.{shapeOf}
 use Rattle.mesh.specs.Rims.{highOf}
-use Rattle.mesh.proofs.Counts.{steps-along, high-u, high-v}
+use Rattle.mesh.proofs.Numbers.{steps-along, high-u, high-v}
 use borrow.Author.Needs.{needs}
 use Rattle.mesh.proofs.flipped.high_differs.Statement.{statement}
 use Rattle.mesh.proofs.flipped.high_differs.Tie as tie

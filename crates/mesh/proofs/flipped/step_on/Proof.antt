@@ -4,7 +4,7 @@ use native.Mathlib.Omega.{arith}
 use Rattle.cyclic.specs.declared.seam.Seam.the-variants.{Joined}
 use Rattle.cyclic.proofs.Mappings.{inverse-within}
 use Rattle.mesh.proofs.Joins.{maps-joins}
-use Rattle.mesh.proofs.Counts.{step-is}
+use Rattle.mesh.proofs.Numbers.{step-is}
 use borrow.Author.Needs.{needs}
 use Rattle.mesh.proofs.flipped.step_on.Statement.{statement}
 use Rattle.mesh.proofs.flipped.step_on.Tie as tie

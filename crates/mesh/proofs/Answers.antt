@@ -1,0 +1,152 @@
+-- The open call's answer and lists: its refusals in order, what is known where none applies, and the lists that are handed over. Assumes nothing.
+use Prim.Native.Nat.{ℕ, zero, suc, _+_, _*_, _≤_, _<_, min}
+use mathlib.Core.Path.{_≡_, refl, sym, ap, subst, _∙_}
+use mathlib.Core.Logic.{_⊎_, inl, inr, ⊎-elim}
+use mathlib.Core.Bool.{Bool, true, false, _&&_, _||_}
+use mathlib.Core.List.{List, [], _∷_, _++_}
+use native.Mathlib.Omega.{arith}
+use lib.Dec.{leb, ltb}
+use lib.Ieee.{Float}
+use lib.ListN.{length, take}
+use lib.Seq.{length-take-le}
+use borrow.Author.Tests.{ltb-true, ltb-false, leb-true, le-leb, lt-leb}
+use Rattle.refusal.specs.declared.Check.{Check}
+use Rattle.refusal.specs.declared.Check.the-variants.{Passed, Failed}
+use Rattle.refusal.specs.declared.Refusal.{Refusal}
+use Rattle.refusal.specs.declared.Refusal.the-variants.{Room, Coordinate}
+use Rattle.refusal.specs.Refusals.{Answer, ok, numberOf, unless}
+use Rattle.lent.specs.Lent.{filled, zeroedFrom}
+use Rattle.lent.proofs.Laws.{zeroed-filled}
+use Rattle.grid.specs.Grid.{coordinatesFit, shapeCheck}
+use Rattle.grid.proofs.Laws.{andThen, and-both, unless-passed, shape-first, shape-known}
+use Rattle.cyclic.specs.declared.seam.Seam.{Seam}
+use Rattle.cyclic.specs.declared.seam.Seam.the-variants.{Joined, Unjoined}
+use Rattle.cyclic.specs.declared.seam.SeamSearch.{SeamSearch}
+use Rattle.surface.specs.Surface.{Shape, Triangle, Pair, kept, slots, triangles, flipped}
+use Rattle.surface.specs.Found.{uSearch, vSearch, surfaceWith}
+use Rattle.surface.proofs.Joinings.{OfRow, u-of-row, v-of-row}
+use Rattle.mesh.specs.declared.corner.Surface.{Surface}
+use Rattle.mesh.specs.declared.flipped.Axis.the-variants.{U, «V»}
+use Rattle.mesh.specs.declared.MeshCounts.{MeshCounts}
+use Rattle.mesh.specs.declared.Triangulation.the-variants.{Triangulated, Refused}
+use Rattle.mesh.specs.Mesh.{triangleNumbers, pairNumbers, Counts, roomFits, meshCheck, Handed, handedOver, afterCheck, triangulateGrid, Filled, Hands}
+use Rattle.mesh.specs.Corners.{Maps, Bounded}
+use Rattle.mesh.specs.Held.{triangleAt, trianglesIn, pairsIn}
+use Rattle.mesh.proofs.Firsts.{length-firsts}
+use Rattle.mesh.specs.Rims.{flips}
+use Rattle.mesh.proofs.Holding.{or-true, or-false, triangles-held, pairs-held}
+use Rattle.mesh.proofs.Cells.{held-most}
+use Rattle.mesh.proofs.Flips.{seam-most, held-pairs, flipped-is}
+
+-- Refusals
+
+pub mesh-is : (g : List Float) (m n : ℕ) (t f : List ℕ) → meshCheck g m n t f ≡ andThen (shapeCheck g m n) (unless (roomFits m n t f) Room (unless (coordinatesFit g) Coordinate Passed))
+unfolding meshCheck
+mesh-is g m n t f = shape-first g m n (unless (roomFits m n t f) Room (unless (coordinatesFit g) Coordinate Passed))
+
+and-false : (a : Bool) → a && false ≡ false
+and-false true = refl
+and-false false = refl
+
+-- the test of room, as the code makes it
+pub room-short : (m n : ℕ) (t f : List ℕ) → ltb (length t) (6 * (m * n)) || ltb (length f) (2 * (m + n)) ≡ true → roomFits m n t f ≡ false
+room-short m n t f h =
+    ⊎-elim
+    (λ e. rw (lt-leb (6 * (m * n)) (length t) (ltb-true (length t) (6 * (m * n)) e)))
+    (λ e. rw (lt-leb (2 * (m + n)) (length f) (ltb-true (length f) (2 * (m + n)) e)) (and-false (leb (6 * (m * n)) (length t))))
+    (or-true (ltb (length t) (6 * (m * n))) (ltb (length f) (2 * (m + n))) h)
+
+pub room-there : (m n : ℕ) (t f : List ℕ) → ltb (length t) (6 * (m * n)) || ltb (length f) (2 * (m + n)) ≡ false → roomFits m n t f ≡ true
+room-there m n t f h =
+    let w = or-false (ltb (length t) (6 * (m * n))) (ltb (length f) (2 * (m + n))) h in
+    rw (le-leb (6 * (m * n)) (length t) (ltb-false (length t) (6 * (m * n)) (w .0)), le-leb (2 * (m + n)) (length f) (ltb-false (length f) (2 * (m + n)) (w .1)))
+
+pub record Admitted (g : List Float) (m n : ℕ) (t f : List ℕ) : Type 0 where
+  pub shape : shapeCheck g m n ≡ Passed
+  pub triangle-room : 6 * (m * n) ≤ length t
+  pub pair-room : 2 * (m + n) ≤ length f
+
+both-passed : (c after : Check) → andThen c after ≡ Passed → (c ≡ Passed) × (after ≡ Passed)
+both-passed Passed after h = (refl, h)
+both-passed (Failed k) after h = let z : _≡_ {A = ℕ} 0 1 = cc in absurd (omega arith)
+
+pub admitted : (g : List Float) (m n : ℕ) (t f : List ℕ) → meshCheck g m n t f ≡ Passed → Admitted g m n t f
+admitted g m n t f h =
+    let a = both-passed (shapeCheck g m n) (unless (roomFits m n t f) Room (unless (coordinatesFit g) Coordinate Passed)) (sym (mesh-is g m n t f) ∙ h) in
+    let b = unless-passed (roomFits m n t f) Room (unless (coordinatesFit g) Coordinate Passed) (a .1) in
+    let r = and-both (leb (6 * (m * n)) (length t)) (leb (2 * (m + n)) (length f)) (b .0) in
+    record { shape = a .0; triangle-room = leb-true (6 * (m * n)) (length t) (r .0); pair-room = leb-true (2 * (m + n)) (length f) (r .1) }
+
+-- The seams that are found fit the grid
+
+maps-row : (steps : ℕ) (seam : Seam) → OfRow steps seam → Maps seam steps
+maps-row steps Unjoined h = tt
+maps-row steps (Joined k) h = h
+
+pub found-bounded : (g : List Float) (m n : ℕ) {u v : SeamSearch} → shapeCheck g m n ≡ Passed → u ≡ uSearch g m n → v ≡ vSearch g m n →
+    Bounded (record { m = m; n = n; u = u .seam; v = v .seam })
+found-bounded g m n {u} {v} h p q =
+    let s = shape-known g m n h .steps in
+    record {
+      m-least = s .m-least;
+      m-most = s .m-most;
+      n-least = s .n-least;
+      n-most = s .n-most;
+      u-maps = subst (λ (x : SeamSearch). Maps (x .seam) n) (sym p) (maps-row n (uSearch g m n .seam) (u-of-row g m n (s .n-least)));
+      v-maps = subst (λ (x : SeamSearch). Maps (x .seam) m) (sym q) (maps-row m (vSearch g m n .seam) (v-of-row g m n (s .m-least)));
+    }
+
+-- Filled lists
+
+list-filled : (k : ℕ) (contents l lent : List ℕ) → k ≤ length l → contents ≡ take k l → length l ≡ length lent → zeroedFrom 0 k l ≡ filled 0 contents lent
+list-filled k contents l lent h e q =
+    let n : length contents ≡ k = ap length e ∙ length-take-le k l h in
+    ap (λ (j : ℕ). zeroedFrom 0 j l) (sym n) ∙ zeroed-filled 0 contents l lent q (ap (λ (j : ℕ). take j l) n ∙ sym e)
+
+pub all-kept : (s : Shape) {ts : List Triangle} → ts ≡ kept s (2 * (s .M * s .N)) → ts ≡ triangles s
+unfolding triangles slots
+all-kept s e = e
+
+pub triangles-most : (s : Shape) (count : ℕ) (l : List ℕ) → trianglesIn count l ≡ kept s (2 * (s .M * s .N)) → 3 * count ≤ 6 * (s .M * s .N)
+triangles-most s count l e = omega (arith, held-most s (2 * (s .M * s .N)) count l e)
+
+pub triangles-counted : (count : ℕ) (l : List ℕ) {ts : List Triangle} → trianglesIn count l ≡ ts → count ≡ length ts
+triangles-counted count l e = sym (length-firsts (triangleAt l) count) ∙ ap length e
+
+pub triangles-filled : (s : Shape) (count : ℕ) (l lent : List ℕ) → trianglesIn count l ≡ triangles s → 3 * count ≤ length l → length l ≡ length lent →
+    zeroedFrom 0 (3 * count) l ≡ filled 0 (triangleNumbers (triangles s)) lent
+triangles-filled s count l lent e h q = list-filled (3 * count) (triangleNumbers (triangles s)) l lent h (ap triangleNumbers (sym e) ∙ triangles-held count l h) q
+
+pub pairs-most : (s : Shape) (count : ℕ) (l : List ℕ) → pairsIn count l ≡ flipped s → 2 * count ≤ 2 * (s .M + s .N)
+pairs-most s count l e =
+    let us = flips U s (s .su) [] in
+    omega (arith, held-pairs count l (e ∙ sym (flipped-is s)), seam-most «V» s (s .sv) us, seam-most U s (s .su) [])
+
+pub pairs-filled : (s : Shape) (count : ℕ) (l lent : List ℕ) → pairsIn count l ≡ flipped s → 2 * count ≤ length l → length l ≡ length lent →
+    zeroedFrom 0 (2 * count) l ≡ filled 0 (pairNumbers (flipped s)) lent
+pairs-filled s count l lent e h q = list-filled (2 * count) (pairNumbers (flipped s)) l lent h (ap pairNumbers (sym e) ∙ pairs-held count l h) q
+
+-- What is handed over
+
+pub refused-hands : (g : List Float) (m n : ℕ) (t f : List ℕ) {c : Check} {k : Refusal} → c ≡ meshCheck g m n t f → c ≡ Failed k → Hands (triangulateGrid g m n t f) (Refused k) t f
+unfolding triangulateGrid
+refused-hands g m n t f {c} {k} p e =
+    subst (λ (x : Check). Hands (afterCheck x t f (handedOver g m n t f)) (Refused k) t f) (sym e ∙ p) (record { answer = refl; triangles = refl; flipped = refl })
+
+pub passed-hands : (g : List Float) (m n : ℕ) (t f t′ f′ : List ℕ) {c : Check} {u v : SeamSearch} {r : MeshCounts} → c ≡ meshCheck g m n t f → c ≡ Passed →
+    u ≡ uSearch g m n → v ≡ vSearch g m n → Filled (surfaceWith m n (u .seam) (v .seam)) r t t′ f f′ →
+    Hands (triangulateGrid g m n t f) (Triangulated u v (r .triangles) (r .pairs)) t′ f′
+unfolding triangulateGrid
+passed-hands g m n t f t′ f′ {c} {u} {v} {r} p e a b w =
+    let here : Filled (surfaceWith m n (uSearch g m n .seam) (vSearch g m n .seam)) r t t′ f f′ =
+    subst (λ (x : SeamSearch). Filled (surfaceWith m n (uSearch g m n .seam) (x .seam)) r t t′ f f′) b
+    (subst (λ (x : SeamSearch). Filled (surfaceWith m n (x .seam) (v .seam)) r t t′ f f′) a w) in
+    subst (λ (x : Check). Hands (afterCheck x t f (handedOver g m n t f)) (Triangulated u v (r .triangles) (r .pairs)) t′ f′) (sym e ∙ p)
+    (record {
+      answer = answered (λ (x y : SeamSearch) (i j : ℕ). ok (record { u = x; v = y; triangles = i; pairs = j })) a b (here .triangle-count) (here .pair-count);
+      triangles = here .triangle-list;
+      flipped = here .pair-list;
+    })
+  where
+    answered : {A : Type 0} (h : SeamSearch → SeamSearch → ℕ → ℕ → A) {x x′ y y′ : SeamSearch} {i i′ j j′ : ℕ} → x ≡ x′ → y ≡ y′ → i ≡ i′ → j ≡ j′ → h x y i j ≡ h x′ y′ i′ j′
+    answered h p q r s = cc

@@ -1,0 +1,78 @@
+-- `mesh::find_seams` meets its contract: both searches are of rows with a stride, inside the grid. Assumes nothing.
+use Prim.Native.Nat.{_+_, _*_}
+use mathlib.Core.Path.{sym, _∙_}
+use native.Mathlib.Nat.{zero-mul, mul-le-mul}
+use native.Mathlib.Omega.{arith}
+use Rattle.grid.proofs.Laws.{Stepped, shape-known, point-inside, points-most}
+use Rattle.surface.proofs.Searches.{u-search, v-search}
+use Rattle.mesh.proofs.find_seams.Statement.{statement}
+use Rattle.mesh.proofs.find_seams.Tie as tie
+
+add-search-rows : tie.Need-add-search-rows
+add-search-rows c =
+    let t = c .before in
+    let a = t .args in
+    let s = shape-known (a .grid .now) (a .m) (a .n) (t .pre) in
+    let z = s .steps in
+    omega (arith, z .n-most)
+
+mul-search-rows : tie.Need-mul-search-rows
+mul-search-rows c =
+    let t = c .before in
+    let a = t .args in
+    let s = shape-known (a .grid .now) (a .m) (a .n) (t .pre) in
+    let z = s .steps in
+    omega (arith, point-inside (a .grid .now) (a .m) (a .n) (a .m) 0 s (omega arith) (omega arith), points-most (a .m) (a .n) (z .m-most) (z .n-most), s .size)
+
+search-rows-requires : tie.Need-search-rows-requires
+search-rows-requires c κs =
+    let t = c .before in
+    let a = t .args in
+    let s = shape-known (a .grid .now) (a .m) (a .n) (t .pre) in
+    let z = s .steps in
+    record {
+      steps-least = z .n-least;
+      steps-most = omega (arith, z .n-most);
+      a-inside = omega (arith, zero-mul (a .n + 1), point-inside (a .grid .now) (a .m) (a .n) 0 (a .n) s (omega arith) (omega arith));
+      b-inside = omega (arith, point-inside (a .grid .now) (a .m) (a .n) (a .m) (a .n) s (omega arith) (omega arith));
+    }
+
+add-search-rows-2 : tie.Need-add-search-rows-2
+add-search-rows-2 c =
+    let t = c .before .before in
+    let a = t .args in
+    let s = shape-known (a .grid .now) (a .m) (a .n) (t .pre) in
+    let z = s .steps in
+    omega (arith, z .n-most)
+
+search-rows-requires-2 : tie.Need-search-rows-requires-2
+search-rows-requires-2 c κs =
+    let t = c .before .before in
+    let a = t .args in
+    let s = shape-known (a .grid .now) (a .m) (a .n) (t .pre) in
+    let z = s .steps in
+    record {
+      steps-least = z .m-least;
+      steps-most = omega (arith, z .m-most);
+      a-inside = omega (arith, point-inside (a .grid .now) (a .m) (a .n) (a .m) 0 s (omega arith) (omega arith));
+      b-inside = omega (arith, point-inside (a .grid .now) (a .m) (a .n) (a .m) (a .n) s (omega arith) (omega arith));
+    }
+
+returns : tie.Need-returns
+returns c =
+    let t = c .before .before .before in
+    let a = t .args in
+    let s = shape-known (a .grid .now) (a .m) (a .n) (t .pre) in
+    let z = s .steps in
+    (c .before .search-rows .ensures ∙ sym (u-search (a .grid .now) (a .m) (a .n) (z .n-least)), c .search-rows2 .ensures ∙ sym (v-search (a .grid .now) (a .m) (a .n) (z .m-least)))
+
+pub find-seams-spec : {M : Type 1} → statement M
+find-seams-spec =
+    tie.close
+    (tie.spec
+    add-search-rows
+    mul-search-rows
+    search-rows-requires
+    add-search-rows-2
+    search-rows-requires-2
+    returns)

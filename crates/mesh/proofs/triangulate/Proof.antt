@@ -1,0 +1,94 @@
+-- `mesh::triangulate` meets its contract: the triangles and the pairs are in front of their lists, and zero is written past them. Assumes nothing.
+use Prim.Native.Nat.{_+_, _*_, _≤_}
+use mathlib.Core.Path.{_≡_, _∙_}
+use native.Mathlib.Omega.{arith}
+use lib.ListN.{length}
+use borrow.Author.Needs.{needs}
+use Rattle.surface.specs.Surface.{triangles, flipped}
+use Rattle.mesh.specs.Corners.{shapeOf}
+use Rattle.mesh.specs.Held.{trianglesIn, pairsIn}
+use Rattle.mesh.proofs.Numbers.{cells-most}
+use Rattle.mesh.proofs.Flips.{held-pairs}
+use Rattle.mesh.proofs.Answers.{all-kept, triangles-most, triangles-filled, triangles-counted, pairs-most, pairs-filled}
+use Rattle.mesh.proofs.triangulate.Statement.{statement}
+use Rattle.mesh.proofs.triangulate.Tie as tie
+
+triangles-fit : (e : tie.After-build-triangles) → 3 * e .build-triangles .result ≤ 6 * (e .before .before .before .before .before .args .surface .m * e .before .before .before .before .before .args .surface .n)
+triangles-fit e = triangles-most (shapeOf (e .before .before .before .before .before .args .surface)) (e .build-triangles .result) (e .build-triangles .last .1 .0) (e .build-triangles .ensures .0)
+
+pairs-fit : (e : tie.After-find-flipped) → 2 * e .find-flipped .result ≤ 2 * (e .before .before .before .before .before .before .before .before .before .before .before .args .surface .m + e .before .before .before .before .before .before .before .before .before .before .before .args .surface .n)
+pairs-fit e = pairs-most (shapeOf (e .before .before .before .before .before .before .before .before .before .before .before .args .surface)) (e .find-flipped .result) (e .find-flipped .last .1 .1 .0) (e .find-flipped .ensures)
+
+slice-aggregate-build-triangles : tie.Need-slice-aggregate-build-triangles
+slice-aggregate-build-triangles c = search needs
+
+build-triangles-requires : tie.Need-build-triangles-requires
+build-triangles-requires c κs =
+    let t = c .before .before .before .before in
+    ((t .pre .0, omega (arith, t .pre .0 .m-most)), t .pre .1 .0)
+
+slice-aggregate-find-flipped : tie.Need-slice-aggregate-find-flipped
+slice-aggregate-find-flipped c = search needs
+
+find-flipped-requires : tie.Need-find-flipped-requires
+find-flipped-requires c κs =
+    let t = c .before .before .before .before .before .before .before .before .before .before in
+    ((t .pre .0, c .before .before .before .before .before .build-triangles .ensures .1), t .pre .1 .1)
+
+mul-zero-numbers : tie.Need-mul-zero-numbers
+mul-zero-numbers c =
+    let t = c .before .before .before .before .before .before .before .before .before .before .before .before .before .before in
+    let a = t .args in
+    omega (arith, triangles-fit (c .before .before .before .before .before .before .before .before .before), cells-most (a .surface .m) (a .surface .n) (t .pre .0 .m-most) (t .pre .0 .n-most))
+
+zero-numbers-requires : tie.Need-zero-numbers-requires
+zero-numbers-requires c κs = search needs
+
+mul-zero-numbers-2 : tie.Need-mul-zero-numbers-2
+mul-zero-numbers-2 c =
+    let t = c .before .before .before .before .before .before .before .before .before .before .before .before .before .before .before .before .before .before in
+    omega (arith, pairs-fit (c .before .before .before .before .before .before .before), t .pre .0 .m-most, t .pre .0 .n-most)
+
+zero-numbers-requires-2 : tie.Need-zero-numbers-requires-2
+zero-numbers-requires-2 c κs = search needs
+
+same-length : tie.Need-same-length
+same-length c = search needs
+
+same-length-2 : tie.Need-same-length-2
+same-length-2 c = search needs
+
+returns : tie.Need-returns
+returns c =
+    let t = c .before .before .before .before .before .before .before .before .before .before .before .before .before .before .before .before .before .before .before .before .before in
+    let a = t .args in
+    let s = shapeOf (a .surface) in
+    let b = c .before .before .before .before .before .before .before .before .before .before .before .before .before .before .before .before .build-triangles in
+    let p = c .before .before .before .before .before .before .before .before .before .before .find-flipped in
+    let all : trianglesIn (b .result) (b .last .1 .0) ≡ triangles s = all-kept s (b .ensures .0) in
+    record {
+      triangle-list =
+          c .before .before .before .before .before .before .zero-numbers .ensures
+          ∙ triangles-filled s (b .result) (b .last .1 .0) (a .triangles .now) all (omega (arith, triangles-fit (c .before .before .before .before .before .before .before .before .before .before .before .before .before .before .before .before), b .kept .1 .0, t .pre .1 .0)) (b .kept .1 .0);
+      pair-list =
+          c .before .before .zero-numbers2 .ensures
+          ∙ pairs-filled s (p .result) (p .last .1 .1 .0) (a .flipped .now) (p .ensures) (omega (arith, pairs-fit (c .before .before .before .before .before .before .before .before .before .before), p .kept .1 .1 .0, t .pre .1 .1)) (p .kept .1 .1 .0);
+      triangle-count = triangles-counted (b .result) (b .last .1 .0) all;
+      pair-count = held-pairs (p .result) (p .last .1 .1 .0) (p .ensures);
+    }
+
+pub triangulate-spec : {M : Type 1} → statement M
+triangulate-spec =
+    tie.close
+    (tie.spec
+    slice-aggregate-build-triangles
+    build-triangles-requires
+    slice-aggregate-find-flipped
+    find-flipped-requires
+    mul-zero-numbers
+    zero-numbers-requires
+    mul-zero-numbers-2
+    zero-numbers-requires-2
+    same-length
+    same-length-2
+    returns)

@@ -1,0 +1,81 @@
+-- `mesh::triangulate_grid` meets its contract: the refusals in order, then the seams, then the lists; and demand 3 of the grid's lists. Assumes nothing.
+use mathlib.Core.Path.{_≡_, sym, _∙_}
+use borrow.Author.Needs.{needs}
+use Rattle.refusal.specs.declared.Check.the-variants.{Passed}
+use Rattle.surface.proofs.Joinings.{surface-meets}
+use Rattle.mesh.specs.Mesh.{meshCheck}
+use Rattle.mesh.proofs.Answers.{Admitted, admitted, found-bounded, refused-hands, passed-hands}
+use Rattle.mesh.proofs.triangulate_grid.Statement.{statement}
+use Rattle.mesh.proofs.triangulate_grid.Tie as tie
+
+-- no refusal applies
+let-in : (e : tie.After-enum-told) → Admitted (e .before .before .before .before .before .before .before .before .args .grid .now) (e .before .before .before .before .before .before .before .before .args .m) (e .before .before .before .before .before .before .before .before .args .n) (e .before .before .before .before .before .before .before .before .args .triangles .now) (e .before .before .before .before .before .before .before .before .args .flipped .now)
+let-in e =
+    let a = e .before .before .before .before .before .before .before .before .args in
+    admitted (a .grid .now) (a .m) (a .n) (a .triangles .now) (a .flipped .now) (sym (e .before .before .check-mesh .ensures) ∙ e .enum-told .given .1)
+
+check-mesh-requires : tie.Need-check-mesh-requires
+check-mesh-requires c κs = search needs
+
+enum-known-k : tie.Need-enum-known-k
+enum-known-k c = search needs
+
+enum-told : tie.Need-enum-told
+enum-told c = search needs
+
+find-seams-requires : tie.Need-find-seams-requires
+find-seams-requires c κs = let-in c .shape
+
+triangulate-requires : tie.Need-triangulate-requires
+triangulate-requires c κs =
+    let t = c .before .before .before .before .before .before .before .before .before .before .before .before .before in
+    let f = c .before .before .before .before .find-seams in
+    let i = let-in (c .before .before .before .before .before) in
+    (found-bounded (t .args .grid .now) (t .args .m) (t .args .n) (i .shape) (f .ensures .0) (f .ensures .1), (i .triangle-room, i .pair-room))
+
+same-length : tie.Need-same-length
+same-length c = search needs
+
+same-length-2 : tie.Need-same-length-2
+same-length-2 c = search needs
+
+returns : tie.Need-returns
+returns c =
+    let a = c .before .before .before .before .before .before .before .before .before .args in
+    (
+      refused-hands (a .grid .now) (a .m) (a .n) (a .triangles .now) (a .flipped .now) (c .before .before .before .check-mesh .ensures) (c .before .k .given .1),
+      surface-meets (a .grid .now) (a .m) (a .n),
+    )
+
+same-length-3 : tie.Need-same-length-3
+same-length-3 c = search needs
+
+same-length-4 : tie.Need-same-length-4
+same-length-4 c = search needs
+
+returns-2 : tie.Need-returns-2
+returns-2 c =
+    let a = c .before .before .before .before .before .before .before .before .before .before .before .before .before .before .before .before .before .before .args in
+    let f = c .before .before .before .before .before .before .before .before .before .find-seams in
+    let e = c .before .before .before .before .before .before .before .before .before .before in
+    let r = c .before .before .before .before .triangulate in
+    (
+      passed-hands (a .grid .now) (a .m) (a .n) (a .triangles .now) (a .flipped .now) (r .last .1 .0) (r .last .1 .1 .0) (e .before .before .check-mesh .ensures) (e .enum-told .given .1) (f .ensures .0) (f .ensures .1) (r .ensures),
+      surface-meets (a .grid .now) (a .m) (a .n),
+    )
+
+pub triangulate-grid-spec : {M : Type 1} → statement M
+triangulate-grid-spec =
+    tie.close
+    (tie.spec
+    check-mesh-requires
+    enum-known-k
+    enum-told
+    find-seams-requires
+    triangulate-requires
+    same-length
+    same-length-2
+    returns
+    same-length-3
+    same-length-4
+    returns-2)
