@@ -13,3 +13,4 @@ pub mod Turns
 pub mod Agree
 pub mod Drawn
 pub mod Demands
+pub mod Ended
