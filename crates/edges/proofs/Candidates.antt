@@ -4,9 +4,7 @@ use mathlib.Core.Bool.{true, false}
 use Prim.Native.Nat.{ℕ}
 use lib.Ieee.{Float}
 use Rattle.edges.specs.declared.point.ParamPoint.{ParamPoint}
-use Rattle.edges.specs.declared.point.WholeStep.{WholeStep}
 use Rattle.edges.specs.declared.point.WholeStep.the-variants.{Step, Between}
-use Rattle.edges.specs.declared.cell.DiagonalCell.{DiagonalCell}
 use Rattle.edges.specs.declared.cell.DiagonalCell.the-variants.{Cell, NoCell}
 use Rattle.edges.specs.declared.event.ParamEdge.the-variants.{U, «V», Diagonal}
 use Rattle.edges.specs.declared.event.EdgeAtPoint.the-variants.{Edge, NoEdge}

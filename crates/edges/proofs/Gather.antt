@@ -1,8 +1,8 @@
 -- Candidates are sorted in one by one: what remains to be sorted into the events that stand there gives the whole. Assumes nothing.
 use mathlib.Core.Path.{_≡_, refl, ap, sym, _∙_}
-use mathlib.Core.Bool.{Bool, true, false}
+use mathlib.Core.Bool.{true, false}
 use mathlib.Core.List.{List, [], _∷_, _++_}
-use Prim.Native.Nat.{ℕ, zero, suc, _+_, _-_, _<_, _≤_, min, max}
+use Prim.Native.Nat.{ℕ, suc, _+_, _-_, _<_, _≤_, min, max}
 use native.Mathlib.Omega.{arith}
 use lib.Ieee.{binary64, sub}
 use Rattle.float.specs.Consts.{zero64, one64}

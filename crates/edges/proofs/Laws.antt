@@ -1,11 +1,13 @@
 -- What holds of the events of every step: each is on a side of the grid, lambdas are from 0 to 1 and ascend in the total order, neighbours are at least EPS apart, and there are at most 1,023. Assumes nothing.
-use mathlib.Core.Path.{_≡_, refl, sym, ap, _∙_, subst}
+use mathlib.Core.Path.{_≡_, refl, sym, ap, _∙_, subst⁻¹}
 use mathlib.Core.Bool.{Bool, true, false, _&&_, true≢false}
 use mathlib.Core.List.{List, [], _∷_}
 use Prim.Native.Nat.{ℕ, _+_, _-_, _^_, _≤_, _<_}
+use native.Mathlib.Nat.{le-trans}
 use native.Mathlib.Omega.{arith}
-use lib.ListN.{length}
-use lib.Ieee.{Float, binary64, ofBits, lt, le, eq, neg, add, sub, isNan}
+use lib.Dec.{lit≤}
+use lib.ListN.{length, getD}
+use lib.Ieee.{Float, nan, binary64, ofBits, lt, le, eq, neg, add, sub, isNan}
 use Rattle.float.specs.Consts.{eps, zero64, one64}
 use Rattle.float.specs.Order.{clamped, totalOrder}
 use Rattle.float.specs.declared.order.Ordering.{Ordering}
@@ -16,19 +18,20 @@ use Rattle.float.proofs.Orders.{less-greater, not-less-transitive, order-self}
 use Rattle.edges.specs.declared.point.ParamPoint.{ParamPoint}
 use Rattle.edges.specs.declared.cell.DiagonalCell.{DiagonalCell}
 use Rattle.edges.specs.declared.cell.DiagonalCell.the-variants.{Cell, NoCell}
-use Rattle.edges.specs.declared.event.ParamEdge.the-variants.{U, «V», Diagonal}
+use Rattle.edges.specs.declared.event.ParamEdge.the-variants.{U, «V»}
 use Rattle.edges.specs.declared.event.EdgeEvent.{EdgeEvent}
 use Rattle.edges.specs.declared.event.EdgeAtPoint.{EdgeAtPoint}
 use Rattle.edges.specs.declared.event.EdgeAtPoint.the-variants.{Edge, NoEdge}
 use Rattle.edges.specs.declared.event.NormalizedLambda.{NormalizedLambda}
 use Rattle.edges.specs.declared.event.NormalizedLambda.the-variants.{Lambda, Outside}
-use Rattle.edges.specs.declared.event.Candidate.{Candidate}
-use Rattle.edges.specs.declared.event.Candidate.the-variants.{Event, NoEvent}
+use Rattle.edges.specs.declared.event.Candidate.the-variants.{NoEvent}
 use Rattle.edges.specs.Param.{pick, lerp, within, paramInBounds, normalizeLambda}
 use Rattle.edges.specs.Cell.{diagonalCellAt}
-use Rattle.edges.specs.Events.{event, edgeAtPoint, endCandidate, lambdaAt, uAt, vAt, diagonalEvent, diagonalCrossing, sumOf, changeOfSum, candidates, precedes, insert, sortInto, closeBy, uniqueAfter, unique, sortedEdgeEvents, IfEvent, Each, OnGrid, OnStep, AscendFrom, Ascend, ApartFrom, Apart}
+use Rattle.edges.specs.Events.{event, edgeAtPoint, endCandidate, lambdaAt, uAt, vAt, diagonalEvent, diagonalCrossing, sumOf, changeOfSum, candidates, precedes, insert, sortInto, closeBy, uniqueAfter, unique, sortedEdgeEvents, Inside, IfEvent, Each, OnGrid, OnStep, AscendFrom, Ascend, ApartFrom, Apart}
+use Rattle.edges.specs.Scratch.{edgeOf, eventOf, eventsIn}
+use Rattle.edges.proofs.Places.{event-in, events-length}
 use Rattle.edges.proofs.Grid.{on-line, end-on-grid, u-on-grid, v-on-grid, diagonal-on-grid}
-use Rattle.edges.proofs.Each.{each-event, each-candidate, each-sort, each-unique, each-implies, length-sort, length-unique, length-candidates}
+use Rattle.edges.proofs.Each.{each-event, each-candidate, each-sort, each-unique, each-at, each-implies, length-sort, length-unique, length-candidates}
 
 -- ---- each side is on the grid
 module _ (m n : ℕ) (a b : ParamPoint) where
@@ -204,3 +207,12 @@ module _ (m n : ℕ) (a b : ParamPoint) where
     where
       fits : (x y z : ℕ) → x ≤ 2 + (m + 1) + (n + 1) + (m + n - 1) → y ≡ x + 0 → z ≤ y → z ≤ 1023
       fits x y z p q r = omega arith
+
+-- ---- what two lists hold once `sorted_edge_events` is done: the event at i is on the grid
+module _ (m n : ℕ) (a b : ParamPoint) (hm : m ≤ 255) (hn : n ≤ 255) (ls : List Float) (cs : List ℕ) (count i : ℕ) (e : length ls ≡ length cs) (h : count ≤ length ls) (k : i < count)
+    (q : eventsIn ls cs count ≡ sortedEdgeEvents m n a b) where
+  pub event-on-grid : Inside m n (edgeOf (getD cs i 0))
+  event-on-grid =
+      let d : EdgeEvent = eventOf nan 0 in
+      let all : Each (OnGrid m n) (eventsIn ls cs count) = subst⁻¹ (λ (es : List EdgeEvent). Each (OnGrid m n) es) q (events-inside m n a b (le-trans hm (lit≤ tt)) (le-trans hn (lit≤ tt))) in
+      subst⁻¹ (λ (x : EdgeEvent). OnGrid m n x) (event-in ls cs count i d e h k) (each-at (OnGrid m n) (eventsIn ls cs count) i d all (omega (arith, events-length ls cs count e h)))

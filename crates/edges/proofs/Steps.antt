@@ -1,9 +1,9 @@
--- What lies on an axis of whole steps: a whole step that a value is close to is at most the last, and a normalized lambda is no NaN and from 0 to 1. Assumes nothing.
-use mathlib.Core.Path.{_≡_, refl, sym, ap, _∙_, subst}
-use mathlib.Core.Bool.{Bool, true, false, _&&_, true≢false}
+-- What lies on an axis of whole steps: a whole step that a value is close to is at most the last. Assumes nothing.
+use mathlib.Core.Path.{_≡_, refl}
+use mathlib.Core.Bool.{Bool, true, false, _&&_}
 use Prim.Native.Nat.{ℕ, _^_, _≤_}
 use lib.Ieee.{Float, binary64, lt, le, sub, toUnsigned}
-use Rattle.float.specs.Consts.{eps, zero64, one64}
+use Rattle.float.specs.Consts.{eps, zero64}
 use Rattle.float.specs.Sign.{absolute}
 use Rattle.float.specs.Whole.{rounded}
 use Rattle.float.specs.Cast.{natFloat}

@@ -1,9 +1,9 @@
 -- The cell on whose diagonal a point lies (reference: `diagonal_cell_at`). "Floors give signed whole numbers: −0.25 gives −1." Assumes nothing.
-use mathlib.Core.Bool.{Bool, true, false, _&&_}
+use mathlib.Core.Bool.{Bool, _&&_}
 use Prim.Native.Nat.{ℕ}
 use lib.IntN.{ℤ, pos, negsuc, _-ℤ_}
 use lib.Dec.{ltb}
-use lib.Ieee.{Float, binary64, lt, add, sub}
+use lib.Ieee.{binary64, lt, add, sub}
 use Rattle.float.specs.Consts.{eps, one64}
 use Rattle.float.specs.Sign.{absolute}
 use Rattle.float.specs.Whole.{floorZ}

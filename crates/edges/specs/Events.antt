@@ -1,11 +1,9 @@
 -- Events (01, "An event is a lambda and the side it falls on: U(u), V(v) or Diagonal(u,v)"). `sorted_edge_events` "fixes the candidates and their order: end
 -- events first, then U, V, diagonals; a stable sort by IEEE 754 totalOrder, so −0 precedes +0; an event closer than EPS to the last one kept is dropped". Assumes nothing.
 use mathlib.Core.Path.{_≡_}
-use mathlib.Core.Bool.{Bool, true, false, _&&_}
+use mathlib.Core.Bool.{Bool, true, false}
 use mathlib.Core.List.{List, [], _∷_, _++_}
 use Prim.Native.Nat.{ℕ, zero, suc, _+_, _-_, _≤_, _<_, min, max}
-use lib.IntN.{ℤ, pos, negsuc}
-use lib.Dec.{ltb}
 use lib.Ieee.{Float, binary64, lt, le, add, sub, div}
 use Rattle.float.specs.Consts.{eps, zero64, one64}
 use Rattle.float.specs.Sign.{absolute}

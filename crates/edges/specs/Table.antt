@@ -1,7 +1,7 @@
 -- 01's known results on events, by computation, each at M = N = 1. Assumes nothing.
 use mathlib.Core.Path.{_≡_, refl}
 use mathlib.Core.Bool.{Bool, true}
-use mathlib.Core.List.{List, [], _∷_}
+use mathlib.Core.List.{[], _∷_}
 use lib.Ieee.{Float, binary64, ofBits, ofInt, neg, lt, le, eq, add, sub, mul, div, round, toUnsigned}
 use Rattle.float.specs.Consts.{eps, zero64, one64}
 use Rattle.float.specs.Sign.{negative, absolute}
@@ -9,7 +9,6 @@ use Rattle.float.specs.Order.{clamped, totalOrder}
 use Rattle.float.specs.Whole.{floorZ, ceilZ, rounded}
 use Rattle.float.specs.Cast.{natFloat}
 use Rattle.edges.specs.declared.event.ParamEdge.the-variants.{U, «V», Diagonal}
-use Rattle.edges.specs.declared.event.EdgeEvent.{EdgeEvent}
 use Rattle.edges.specs.Param.{param, lerp, within, paramInBounds, integerStep, normalizeLambda}
 use Rattle.edges.specs.Cell.{indexOf, onDiagonal, tryCell, diagonalCellAt}
 use Rattle.edges.specs.Events.{event, edgeAtPoint, uAt, vAt, diagonalCrossing, listFrom, ends, us, vs, diagonals, candidates, insert, sortInto, uniqueAfter, unique, sortedEdgeEvents}

@@ -1,13 +1,13 @@
 -- `edges::cell::index_of` meets its contract: the number that the code reads back from z's bits is z, and the laws are in proofs/Index.antt. Assumes nothing.
 use mathlib.Core.Path.{_≡_, sym, ap, _∙_, subst}
-use mathlib.Core.Bool.{true, false}
-use Prim.Native.Nat.{ℕ, _≤_, _<_}
+use mathlib.Core.Bool.{true}
+use Prim.Native.Nat.{_≤_, _<_}
 use lib.IntN.{ℤ, pos, natAbs}
 use lib.Signed.{leZ}
 use mir.Syntax.{w64}
 use mir.Val.{toZ, ofZ}
 use mir.ValLaws.{toZ-ofZ}
-use Rattle.edges.specs.declared.cell.CellIndex.the-variants.{Index, Outside}
+use Rattle.edges.specs.declared.cell.CellIndex.the-variants.{Index}
 use Rattle.edges.proofs.Index.{nonneg-of, abs-fits, index-neg, index-in, index-out}
 use Rattle.edges.proofs.cell.index_of.Statement.{statement}
 use Rattle.edges.proofs.cell.index_of.Tie as tie

@@ -1,7 +1,7 @@
 -- `edges::point::integer_step` meets its contract: its tests are those of the definition, of what `round` gave. Assumes nothing.
 use mathlib.Core.Path.{_≡_, sym, ap, _∙_}
-use mathlib.Core.Bool.{Bool, _&&_}
-use lib.Ieee.{Float, binary64, lt, le, sub, toUnsigned}
+use mathlib.Core.Bool.{_&&_}
+use lib.Ieee.{binary64, lt, le, sub, toUnsigned}
 use Rattle.float.specs.Consts.{eps, zero64}
 use Rattle.float.specs.Sign.{absolute}
 use Rattle.float.specs.Whole.{rounded}

@@ -2,7 +2,6 @@
 use mathlib.Core.Path.{ap}
 use lib.ListN.{getD}
 use lib.Ieee.{nan}
-use Rattle.edges.specs.declared.event.ParamEdge.{ParamEdge}
 use Rattle.edges.specs.Events.{event}
 use borrow.Author.Needs.{needs}
 use Rattle.edges.proofs.scratch.event_at.Statement.{statement}

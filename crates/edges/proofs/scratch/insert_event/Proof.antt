@@ -1,5 +1,5 @@
 -- `edges::scratch::insert_event` meets its contract: from its place on the event is carried, and at each turn exchanged for the one that stands there. Assumes nothing.
-use mathlib.Core.Path.{_≡_, refl, ap, sym, _∙_}
+use mathlib.Core.Path.{_≡_, ap, _∙_}
 use Prim.Native.Nat.{_≤_, _-_, _+_}
 use native.Mathlib.Omega.{arith}
 use lib.ListN.{length}

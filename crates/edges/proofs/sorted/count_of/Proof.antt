@@ -1,12 +1,10 @@
 -- `edges::sorted::count_of` meets its contract: the number that the code reads back from z's bits is z. Assumes nothing.
-use mathlib.Core.Path.{_≡_, sym, ap, _∙_, subst}
-use Prim.Native.Nat.{ℕ, _<_}
-use lib.IntN.{ℤ, pos, natAbs}
+use mathlib.Core.Path.{_≡_, sym, ap, _∙_}
+use lib.IntN.{pos}
 use lib.Signed.{leZ}
 use mir.Syntax.{w64}
 use mir.Val.{toZ, ofZ}
 use mir.ValLaws.{toZ-ofZ}
-use Rattle.float.specs.Cast.{count}
 use Rattle.edges.proofs.Index.{nonneg-of, abs-fits, count-in, count-out}
 use borrow.Author.Needs.{needs}
 use Rattle.edges.proofs.sorted.count_of.Statement.{statement}

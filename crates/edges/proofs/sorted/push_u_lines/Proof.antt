@@ -1,7 +1,6 @@
 -- `edges::sorted::push_u_lines` meets its contract: the lines from u on, sorted into the events so far, give what is asked. Assumes nothing.
 use mathlib.Core.Path.{_≡_, sym, ap, _∙_}
 use Prim.Native.Nat.{_≤_, _+_, _-_}
-use native.Mathlib.Omega.{arith}
 use lib.ListN.{length}
 use lib.Ieee.{lt}
 use borrow.Author.Tests.{not-true, not-false}
