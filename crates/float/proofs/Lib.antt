@@ -11,3 +11,4 @@ pub mod Round
 pub mod Casts
 pub mod Bounds
 pub mod Range
+pub mod Between

@@ -26,9 +26,9 @@ pub fn is_finite(x: f64) -> bool
     abs(x) < 1.0 / 0.0
 }
 
-// Whether the magnitude is at most `top`: never so for a NaN.
+// Whether the magnitude is at most `top`: never so for a NaN. Two comparisons, and no branch on the sign.
 pub fn at_most(x: f64, top: f64) -> bool
     ensures { λ r. ⌜ r ≡ atMost x top ⌝ }
 {
-    abs(x) <= top
+    (-top <= x) & (x <= top)
 }

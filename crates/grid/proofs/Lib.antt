@@ -1,3 +1,2 @@
 -- What callers know of a grid without opening its definitions.
 pub mod Laws
-pub mod Between

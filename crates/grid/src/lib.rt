@@ -6,8 +6,7 @@ use vector::Vector;
 ghost use mathlib.Core.Path.{_≡_};
 ghost use Prim.Native.Nat.{_+_, _*_, _≤_};
 ghost use lib.ListN.{length};
-ghost use Rattle.float.specs.Sign.{atMost};
-ghost use Rattle.grid.specs.Grid.{pointNumber, pointAt, stepsFit, coordinatesFit, shapeCheck, gridCheck};
+ghost use Rattle.grid.specs.Grid.{pointNumber, pointAt, stepsFit, coordinatesFit, shapeCheck};
 
 // M and N are at most this.
 pub const MAX_STEPS: usize = 255;
@@ -35,13 +34,6 @@ pub fn point_at(points: &[f64], i: usize) -> Vector
     }
 }
 
-// Whether the magnitude is at most `top`: two comparisons and no branch on the sign, since a grid has many coordinates.
-fn within(x: f64, top: f64) -> bool
-    ensures { λ r. ⌜ r ≡ atMost x top ⌝ }
-{
-    (-top <= x) & (x <= top)
-}
-
 // Whether every coordinate is finite and at most 2^40 in magnitude. A grid rarely fails, so no test ends the loop early.
 pub fn coordinates_fit(points: &[f64]) -> bool
     ensures { λ r. ⌜ r ≡ coordinatesFit (now (points .entry)) ⌝ }
@@ -49,7 +41,7 @@ pub fn coordinates_fit(points: &[f64]) -> bool
     let mut fit = true;
     let mut i: usize = 0;
     while i < points.len() {
-        fit = fit & within(points[i], MAX_COORDINATE);
+        fit = fit & float::sign::at_most(points[i], MAX_COORDINATE);
         i += 1;
     }
     fit
@@ -73,19 +65,4 @@ pub fn check_shape(grid: &[f64], m: usize, n: usize) -> Check
         return Check::Failed(Refusal::Length);
     }
     Check::Passed
-}
-
-// Refusals 1, 2 and 4: whether a grid is accepted.
-pub fn check_grid(grid: &[f64], m: usize, n: usize) -> Check
-    ensures { λ r. ⌜ r ≡ gridCheck (now (grid .entry)) m n ⌝ }
-{
-    match check_shape(grid, m, n) {
-        Check::Failed(k) => Check::Failed(k),
-        Check::Passed => {
-            if coordinates_fit(grid) {
-                return Check::Passed;
-            }
-            Check::Failed(Refusal::Coordinate)
-        }
-    }
 }

@@ -51,6 +51,7 @@ module _ {A : Type 0} where
           let none = drop-of-length-le (firsts f (suc k)) {i = i} (omega arith) in
           let last : g (suc k) ≡ p = ap g (sym e) ∙ here in
           rw (all, none, same, last)
+
       inside : i < suc k → firsts g (suc k) ≡ take i (firsts f k) ++ (p ∷ drop i (firsts f k)) → firsts g (suc (suc k)) ≡ take i (firsts f (suc k)) ++ (p ∷ drop i (firsts f (suc k)))
       inside l init =
           let n = length-firsts f k in

@@ -52,7 +52,6 @@ cell-counted s n u v {count} {first} {last} {a} {b} e p q r t =
 pub steps-along : {axis x : Axis} {i : ℕ} (s : Shape) → axis ≡ x → i < stepsOf axis s → i < stepsOf x s
 steps-along {i = i} s e h = subst (λ (a : Axis). i < stepsOf a s) e h
 
-
 module _ (m n : ℕ) (su sv : Seam) (i : ℕ) where
   pub low-u : 2 * (0 * n + i) ≡ lowU (surfaceWith m n su sv) i
   unfolding lowU

@@ -19,14 +19,14 @@ abbrev μ-loop : tie.MeasureT-loop
 loop-holds : tie.Need-loop-holds Inv-loop μ-loop
 loop-holds c = search needs
 
-mul-within : tie.Need-mul-within Inv-loop μ-loop
-mul-within c = search needs
+mul-at-most : tie.Need-mul-at-most Inv-loop μ-loop
+mul-at-most c = search needs
 
-shared-slice-read-within : tie.Need-shared-slice-read-within Inv-loop μ-loop
-shared-slice-read-within c = search needs
+shared-slice-read-at-most : tie.Need-shared-slice-read-at-most Inv-loop μ-loop
+shared-slice-read-at-most c = search needs
 
-within-requires : tie.Need-within-requires Inv-loop μ-loop
-within-requires c κs = search needs
+at-most-requires : tie.Need-at-most-requires Inv-loop μ-loop
+at-most-requires c κs = search needs
 
 add-i : tie.Need-add-i Inv-loop μ-loop
 add-i c = search needs
@@ -38,7 +38,7 @@ loop-again : tie.Need-loop-again Inv-loop μ-loop
 loop-again c =
     let t = c .before .before in
     let l = t .before .loop in
-    (search needs, rw (l .inv .1, coordinates-step _ _ nan (t .loop-test .taken), c .within .ensures) (sym (and-assoc (l .fit) _ _)))
+    (search needs, rw (l .inv .1, coordinates-step _ _ nan (t .loop-test .taken), c .at-most .ensures) (sym (and-assoc (l .fit) _ _)))
 
 returns : tie.Need-returns Inv-loop μ-loop
 unfolding coordinatesFit
@@ -51,9 +51,9 @@ coordinates-fit-spec =
     Inv-loop
     μ-loop
     loop-holds
-    mul-within
-    shared-slice-read-within
-    within-requires
+    mul-at-most
+    shared-slice-read-at-most
+    at-most-requires
     add-i
     loop-less
     loop-again

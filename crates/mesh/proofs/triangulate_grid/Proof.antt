@@ -41,8 +41,7 @@ same-length-2 c = search needs
 
 returns : tie.Need-returns
 returns c =
-    let a = c .before .before .before .before .before .before .before .before .before .args in
-    (
+    let a = c .before .before .before .before .before .before .before .before .before .args in (
       refused-hands (a .grid .now) (a .m) (a .n) (a .triangles .now) (a .flipped .now) (c .before .before .before .check-mesh .ensures) (c .before .k .given .1),
       surface-meets (a .grid .now) (a .m) (a .n),
     )
@@ -58,8 +57,7 @@ returns-2 c =
     let a = c .before .before .before .before .before .before .before .before .before .before .before .before .before .before .before .before .before .before .args in
     let f = c .before .before .before .before .before .before .before .before .before .find-seams in
     let e = c .before .before .before .before .before .before .before .before .before .before in
-    let r = c .before .before .before .before .triangulate in
-    (
+    let r = c .before .before .before .before .triangulate in (
       passed-hands (a .grid .now) (a .m) (a .n) (a .triangles .now) (a .flipped .now) (r .last .1 .0) (r .last .1 .1 .0) (e .before .before .check-mesh .ensures) (e .enum-told .given .1) (f .ensures .0) (f .ensures .1) (r .ensures),
       surface-meets (a .grid .now) (a .m) (a .n),
     )

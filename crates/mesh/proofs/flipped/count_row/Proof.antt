@@ -58,8 +58,7 @@ loop-again : tie.Need-loop-again Inv-loop μ-loop
 loop-again c =
     let w = c .before .before .loop in
     let a = c .before .before .before .before .args in
-    let s = shapeOf (a .surface) in
-    (
+    let s = shapeOf (a .surface) in (
       omega arith,
       c .count-cell .ensures,
       length-set (w .counts) (w .v + 1) (c .count-cell .result) ∙ w .inv .2,

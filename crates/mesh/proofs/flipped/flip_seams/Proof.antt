@@ -29,8 +29,7 @@ flip-seam-requires-2 c κs =
     let t = c .before .before .before .before .before .before .before .before .before in
     let a = t .args in
     let f = c .before .before .before .flip-seam in
-    let k = held-pairs (f .result) (f .last .1 .1 .1 .1 .1 .0) (first (c .before .before .before)) in
-    (
+    let k = held-pairs (f .result) (f .last .1 .1 .1 .1 .1 .0) (first (c .before .before .before)) in (
       (t .pre .0 .0, t .pre .0 .0 .v-maps),
       (rims-v (a .surface) (t .pre .0 .0) (a .starts .now) (t .pre .0 .2), omega (arith, k, seam-most U (shapeOf (a .surface)) (seamOf (a .surface .u)) [], f .kept .1 .1 .1 .1 .1 .0, t .pre .1)),
     )

@@ -44,8 +44,7 @@ flip-step-requires c κs =
     let a = t .args in
     let s = shapeOf (a .surface) in
     let ps = pairsIn (a .start) (a .flipped .now) in
-    let k = held-pairs (w .count) (w .flipped) (w .inv .1) in
-    (
+    let k = held-pairs (w .count) (w .flipped) (w .inv .1) in (
       (t .pre .0 .0, t .pre .0 .1, omega (arith, c .before .loop-test .taken, r .ensures)),
       (
         t .pre .1 .0,
@@ -65,12 +64,11 @@ loop-again c =
     let w = c .before .before .before .before .before .loop in
     let a = c .before .before .before .before .before .before .before .before .before .before .args in
     let s = shapeOf (a .surface) in
-    let m = ofMapping (a .mapping) in
-    (
+    let m = ofMapping (a .mapping) in (
       omega arith,
       f .ensures
-      ∙ ap (λ (ps : List Pair). flipStep (a .axis) s m (w .i) ps) (w .inv .1)
-      ∙ flips-more (a .axis) s m (w .i) (pairsIn (a .start) (a .flipped .now)),
+          ∙ ap (λ (ps : List Pair). flipStep (a .axis) s m (w .i) ps) (w .inv .1)
+          ∙ flips-more (a .axis) s m (w .i) (pairsIn (a .start) (a .flipped .now)),
       omega (arith, f .kept .1 .1 .1 .1 .1 .1 .0),
     )
 

@@ -61,8 +61,7 @@ loop-again c =
     let b = c .before .before .build-row in
     let w = c .before .before .before .before .before .loop in
     let a = c .before .before .before .before .before .before .before .before .args in
-    let s = shapeOf (a .surface) in
-    (
+    let s = shapeOf (a .surface) in (
       omega arith,
       b .ensures,
       omega (arith, b .kept .1 .1 .0),
