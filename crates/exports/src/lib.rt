@@ -2,5 +2,6 @@
 // struct out. A slice is passed as two words, its pointer and its length.
 pub mod floats;
 pub mod lines;
+pub mod meshes;
 pub mod seams;
 pub mod vectors;

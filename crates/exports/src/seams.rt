@@ -53,7 +53,7 @@ fn index_to_c(answer: MappedIndex) -> IndexAnswer
     }
 }
 
-fn joined(mapping: CyclicMapping, comparisons: u64) -> FoundSeam
+pub fn joined(mapping: CyclicMapping, comparisons: u64) -> FoundSeam
     ensures { λ r. ⌜ r ≡ foundSeam (searched (Seam.Joined mapping) comparisons) ⌝ }
 {
     match mapping {
@@ -75,7 +75,7 @@ fn joined(mapping: CyclicMapping, comparisons: u64) -> FoundSeam
 }
 
 // A seam that was not found, after so many comparisons.
-fn unjoined(comparisons: u64) -> FoundSeam
+pub fn unjoined(comparisons: u64) -> FoundSeam
     ensures { λ r. ⌜ r ≡ foundSeam (searched Seam.Unjoined comparisons) ⌝ }
 {
     FoundSeam {

@@ -1,7 +1,7 @@
 //! The rows of the table.
 
 use crate::clock::{Side, Table};
-use merlontrispa::{Mapping, grid_paths};
+use merlontrispa::{Mapping, grid_paths, triangulate_grid};
 use original::{CyclicMapping, ParametricSurfaceTexture, Surface, Vector};
 use std::f64::consts::TAU;
 
@@ -10,6 +10,7 @@ const STEPS: usize = 255;
 
 pub fn run(table: &Table) {
     seams(table);
+    meshes(table);
     lines(table);
 }
 
@@ -50,6 +51,46 @@ fn seams(table: &Table) {
                 |()| Mapping::new_vector(a.as_flattened(), b.as_flattened()),
             ),
             Side(|| (), |()| CyclicMapping::new_vector(&p, &q)),
+        );
+    }
+}
+
+fn meshes(table: &Table) {
+    let turn = |x: f64| TAU * (x % STEPS as f64) / STEPS as f64;
+    let torus = grid(|u, v| {
+        let radius = 3.0 + turn(v).cos();
+        [
+            radius * turn(u).cos(),
+            radius * turn(u).sin(),
+            turn(v).sin(),
+        ]
+    });
+    // Column u = M runs against column u = 0, and each column is closed.
+    let klein = grid(|u, v| {
+        let v = if u as usize == STEPS {
+            STEPS as f64 - v
+        } else {
+            v
+        };
+        [turn(u).cos(), turn(v).cos(), turn(v).sin()]
+    });
+    for (name, grid) in [
+        ("triangles, 255 by 255, no seam", plane()),
+        ("triangles, 255 by 255, torus", torus),
+        ("triangles, 255 by 255, Klein bottle", klein),
+    ] {
+        let points = vectors(&grid);
+        let (mut triangles, mut flipped) = (vec![0; 6 * STEPS * STEPS], vec![0; 4 * STEPS]);
+        table.row(
+            name,
+            Side(
+                || (),
+                |()| triangulate_grid(&grid, STEPS, STEPS, &mut triangles, &mut flipped),
+            ),
+            Side(
+                || points.clone(),
+                |points| Surface::triangulate(points, STEPS, STEPS),
+            ),
         );
     }
 }

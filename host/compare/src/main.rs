@@ -21,6 +21,8 @@ mod lines;
 #[cfg(larnt)]
 mod lists;
 #[cfg(larnt)]
+mod meshes;
+#[cfg(larnt)]
 mod random;
 #[cfg(larnt)]
 mod run;

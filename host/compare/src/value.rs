@@ -1,6 +1,6 @@
 //! What is compared and how it is shown: floats by their bits, and any NaN with any NaN.
 
-use merlontrispa::{Drawn, Mapping, Refusal, Seam, Vector};
+use merlontrispa::{Drawn, Mapping, Refusal, Seam, Triangulation, Vector};
 use std::cmp::Ordering;
 
 pub trait Show {
@@ -39,7 +39,17 @@ macro_rules! plain {
     )*};
 }
 
-plain!(bool, i64, usize, Ordering, Drawn, Mapping, Refusal, Seam);
+plain!(
+    bool,
+    i64,
+    usize,
+    Ordering,
+    Drawn,
+    Mapping,
+    Refusal,
+    Seam,
+    Triangulation
+);
 
 impl<T: Show, const N: usize> Show for [T; N] {
     fn show(&self) -> String {

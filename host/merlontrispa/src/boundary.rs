@@ -29,6 +29,16 @@ pub struct SeamAnswer {
     pub seam: Seam,
 }
 
+/// Both seams and the counts of triangles and flipped pairs, or the number of a refusal.
+#[repr(C)]
+pub struct MeshAnswer {
+    pub refusal: u8,
+    pub u: Seam,
+    pub v: Seam,
+    pub triangles: usize,
+    pub pairs: usize,
+}
+
 /// The counts of points and lines, or the number of a refusal.
 #[repr(C)]
 pub struct PathsAnswer {
@@ -124,6 +134,17 @@ unsafe extern "C" {
         line_count: usize,
         index: usize,
     ) -> Part;
+
+    fn mt_triangulate_grid(
+        grid: *const f64,
+        grid_len: usize,
+        m: usize,
+        n: usize,
+        triangles: *mut usize,
+        triangles_len: usize,
+        flipped: *mut usize,
+        flipped_len: usize,
+    ) -> MeshAnswer;
 }
 
 pub fn new_vector(a: &[f64], b: &[f64]) -> SeamAnswer {
@@ -189,6 +210,28 @@ pub fn get(lines: Lines<'_>, index: usize) -> Part {
             drawn.points,
             drawn.lines,
             index,
+        )
+    }
+}
+
+pub fn triangulate_grid(
+    grid: &[f64],
+    m: usize,
+    n: usize,
+    triangles: &mut [usize],
+    flipped: &mut [usize],
+) -> MeshAnswer {
+    // SAFETY: each pointer and length are those of a slice that is lent for the call.
+    unsafe {
+        mt_triangulate_grid(
+            grid.as_ptr(),
+            grid.len(),
+            m,
+            n,
+            triangles.as_mut_ptr(),
+            triangles.len(),
+            flipped.as_mut_ptr(),
+            flipped.len(),
         )
     }
 }

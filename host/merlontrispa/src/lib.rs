@@ -16,10 +16,12 @@ mod boundary;
 pub mod float;
 mod lines;
 mod mapping;
+mod mesh;
 mod refusal;
 mod vector;
 
 pub use lines::{Drawn, Lines, grid_paths};
 pub use mapping::{Mapping, Seam};
+pub use mesh::{Mesh, Seams, Triangulation, triangulate_grid};
 pub use refusal::Refusal;
 pub use vector::Vector;

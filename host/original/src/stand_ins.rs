@@ -91,13 +91,15 @@ pub(crate) mod mesh {
 
     #[derive(Debug, Clone)]
     pub struct Mesh {
+        pub vertices: Vec<Vector>,
         pub triangles: Vec<usize>,
         pub flipped_triangles: HashSet<(usize, usize)>,
     }
 
     impl Mesh {
-        pub fn builder(_vertices: Vec<Vector>, triangles: Vec<usize>) -> MeshBuilder {
+        pub fn builder(vertices: Vec<Vector>, triangles: Vec<usize>) -> MeshBuilder {
             MeshBuilder(Self {
+                vertices,
                 triangles,
                 flipped_triangles: HashSet::new(),
             })

@@ -44,6 +44,12 @@ impl Surface {
         Self(ParametricSurface::from_grid(grid, u_steps, v_steps, number))
     }
 
+    /// What `triangulate_grid` hands to the mesh builder, and nothing else: for a measurement.
+    pub fn triangulate(grid: Vec<Vector>, u_steps: usize, v_steps: usize) -> impl Sized {
+        let number = |u, v| ParametricSurface::grid_index(u, v, v_steps);
+        ParametricSurface::triangulate_grid(grid, u_steps, v_steps, number)
+    }
+
     /// The triangles, three point numbers each.
     pub fn triangles(&self) -> &[usize] {
         &self.0.mesh.triangles

@@ -1,0 +1,253 @@
+//! Triangulation against what the original hands to its mesh builder.
+
+use crate::driver::{Compared, Driver};
+use crate::grids::{Grid, Joining, any_grid, any_steps};
+use crate::lists::{fill, grid_refusal, length, numbers, spoil};
+use crate::random::Random;
+use crate::seams::{found, mapping, vectors};
+use crate::value::Show;
+use merlontrispa::{Mapping, Refusal, Seams, Triangulation, triangulate_grid};
+use original::{Surface, Vector};
+
+/// A grid and how long the lists are that are lent.
+struct Input {
+    grid: Grid,
+    triangles: usize,
+    flipped: usize,
+}
+
+impl Show for Input {
+    fn show(&self) -> String {
+        let (grid, triangles, flipped) = (self.grid.show(), self.triangles, self.flipped);
+        format!("{grid}, lists of {triangles} and {flipped}")
+    }
+}
+
+/// An answer and the two lists after the call.
+type Output = (Result<Triangulation, Refusal>, [Vec<usize>; 2]);
+
+pub fn compare(driver: &mut Driver) -> Compared {
+    let name = "triangulate_grid, each joining of up to 4 by 4 cells";
+    driver.compare_each(name, joinings(), library, original)?;
+    let name = "triangulate_grid, borders of two or three letters";
+    driver.compare_each(name, borders(), library, original)?;
+    driver.compare(
+        "triangulate_grid, planted",
+        200_000,
+        planted,
+        library,
+        original,
+    )?;
+    driver.compare(
+        "triangulate_grid, 255 by 255",
+        60,
+        |random| exact(any_grid(random, 255, 255)),
+        library,
+        original,
+    )?;
+    driver.compare(
+        "triangulate_grid, refusals",
+        200_000,
+        faulty,
+        library,
+        original,
+    )
+}
+
+fn library(input: &Input) -> Output {
+    let mut lists = [input.triangles, input.flipped].map(numbers);
+    let grid = &input.grid;
+    let [triangles, flipped] = &mut lists;
+    let told = triangulate_grid(
+        &grid.numbers,
+        grid.u_steps,
+        grid.v_steps,
+        triangles,
+        flipped,
+    );
+    (told, lists)
+}
+
+fn original(input: &Input) -> Output {
+    let mut lists = [input.triangles, input.flipped].map(numbers);
+    if let Some(refusal) = refusal(input) {
+        return (Err(refusal), lists);
+    }
+    let Grid {
+        u_steps, v_steps, ..
+    } = input.grid;
+    let points = vectors(&input.grid.numbers);
+    let seams = seams(&points, u_steps, v_steps);
+    let surface = Surface::from_grid(points, u_steps, v_steps);
+    let (triangles, flipped) = (surface.triangles(), surface.flipped());
+    let told = Triangulation {
+        seams,
+        triangles: triangles.len() / 3,
+        flipped: flipped.len(),
+    };
+    fill(&mut lists[0], triangles.iter().copied());
+    fill(&mut lists[1], flipped.into_iter().flat_map(|(a, b)| [a, b]));
+    (Ok(told), lists)
+}
+
+/// The two seams that the original finds.
+fn seams(points: &[Vector], u_steps: usize, v_steps: usize) -> Seams {
+    let column = |u| -> Vec<_> {
+        (0..=v_steps)
+            .map(|v| points[u * (v_steps + 1) + v])
+            .collect()
+    };
+    let row = |v| -> Vec<_> {
+        (0..=u_steps)
+            .map(|u| points[u * (v_steps + 1) + v])
+            .collect()
+    };
+    Seams {
+        u: found(&column(0), &column(u_steps)),
+        v: found(&row(0), &row(v_steps)),
+    }
+}
+
+/// The refusal that applies.
+fn refusal(input: &Input) -> Option<Refusal> {
+    grid_refusal(&input.grid, |m, n| {
+        input.triangles >= 6 * m * n && input.flipped >= 2 * (m + n)
+    })
+}
+
+/// A grid with lists that are just long enough.
+fn exact(grid: Grid) -> Input {
+    let (m, n) = (grid.u_steps, grid.v_steps);
+    Input {
+        grid,
+        triangles: 6 * m * n,
+        flipped: 2 * (m + n),
+    }
+}
+
+/// The lists of an input made shorter or longer by turns.
+fn other_room(turn: u64, input: Input) -> Input {
+    let (short, long) = (|x: usize| x - 1, |x: usize| x + 7);
+    let Input {
+        grid,
+        triangles,
+        flipped,
+    } = input;
+    let (triangles, flipped) = match turn % 8 {
+        0 => (short(triangles), flipped),
+        1 => (triangles, short(flipped)),
+        2 => (long(triangles), short(flipped)),
+        3 => (long(triangles), long(flipped)),
+        4 => (triangles, long(flipped)),
+        _ => (triangles, flipped),
+    };
+    Input {
+        grid,
+        triangles,
+        flipped,
+    }
+}
+
+/// None, and each mapping of rows of so many steps.
+fn mappings(steps: usize) -> impl Iterator<Item = Option<Mapping>> {
+    let offsets = (0..steps).flat_map(|offset| [(false, offset), (true, offset)]);
+    let found = offsets.map(move |(reverse, offset)| Some(mapping(reverse, offset, steps)));
+    [None].into_iter().chain(found)
+}
+
+/// Every joining of a grid of so many steps.
+fn all_joinings(u_steps: usize, v_steps: usize) -> impl Iterator<Item = Joining> {
+    let closed = [(false, false), (true, false), (false, true), (true, true)];
+    mappings(v_steps).flat_map(move |u| {
+        mappings(u_steps).flat_map(move |v| {
+            closed.map(|(u_closed, v_closed)| Joining {
+                u,
+                v,
+                u_closed,
+                v_closed,
+            })
+        })
+    })
+}
+
+/// Every joining that a grid of up to 4 by 4 cells can have, each with short, exact and long lists.
+fn joinings() -> impl Iterator<Item = Input> {
+    let shapes = (1..=4).flat_map(|m| (1..=4).map(move |n| (m, n)));
+    shapes.flat_map(|(m, n)| {
+        all_joinings(m, n).flat_map(move |joining| {
+            let grid = joining.grid(m, n, |class| [class as f64, 0.0, -1.0]);
+            (0..6).map(move |turn| other_room(turn, exact(grid.clone())))
+        })
+    })
+}
+
+/// Every grid of up to 3 by 3 cells whose outer points are each one of three letters (two from 4 cells
+/// a side on).
+fn borders() -> impl Iterator<Item = Input> {
+    let shapes = (1..=4).flat_map(|m| (1..=4).map(move |n| (m, n)));
+    shapes.flat_map(|(m, n)| {
+        let outer = 2 * (m + n) as u32;
+        let letters: u64 = if outer > 12 { 2 } else { 3 };
+        (0..letters.pow(outer)).map(move |word| {
+            let mut rest = word;
+            let grid = Grid::new(m, n, |i| {
+                let (u, v) = (i / (n + 1), i % (n + 1));
+                if u > 0 && u < m && v > 0 && v < n {
+                    return [9.0, u as f64, v as f64];
+                }
+                let letter = rest % letters;
+                rest /= letters;
+                [0.0, letter as f64, 0.0]
+            });
+            other_room(word, exact(grid))
+        })
+    })
+}
+
+fn planted(random: &mut Random) -> Input {
+    let (m, n) = (any_steps(random), any_steps(random));
+    let grid = any_grid(random, m, n);
+    other_room(random.below(16), exact(grid))
+}
+
+fn faulty(random: &mut Random) -> Input {
+    let mut input = planted(random);
+    input.triangles = length(random, input.triangles);
+    input.flipped = length(random, input.flipped);
+    spoil(random, &mut input.grid);
+    input
+}
+
+#[cfg(test)]
+mod tests {
+    use super::*;
+    use std::collections::HashSet;
+
+    /// Direction and offset.
+    fn kind(mapping: Option<Mapping>) -> Option<(bool, usize)> {
+        mapping.map(|mapping| match mapping {
+            Mapping::Forward { offset, .. } => (false, offset),
+            Mapping::Reverse { offset, .. } => (true, offset),
+        })
+    }
+
+    #[test]
+    fn small_grids_have_many_joinings() {
+        let told = joinings().filter_map(|input| original(&input).0.ok());
+        let kinds: HashSet<_> = told
+            .map(|told| (kind(told.seams.u.mapping), kind(told.seams.v.mapping)))
+            .collect();
+        assert!(kinds.len() >= 40, "{}", kinds.len());
+    }
+
+    #[test]
+    fn refusals_and_answers_are_mixed() {
+        let mut random = Random::new(1);
+        let mut counts = [0; 5];
+        for _ in 0..20_000 {
+            let number = refusal(&faulty(&mut random)).map_or(0, Refusal::number);
+            counts[usize::from(number)] += 1;
+        }
+        assert!(counts.iter().all(|&count| count > 500), "{counts:?}");
+    }
+}
