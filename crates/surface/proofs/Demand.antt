@@ -11,7 +11,7 @@ use lib.Arith.{digits-div, digits-mod}
 use lib.ListN.{length}
 use borrow.Author.Tests.{ne-eqb}
 use Rattle.cyclic.specs.Mapping.{pick}
-use Rattle.surface.specs.Surface.{Seam, unjoined, forward, reverse, reversed, Shape, J, Triangle, slot, proper, slots, triangles, Pair, pair, ordered, numberOf, stepOn, process, flipped, Follows, nth, Owns, OwnedOnce, OwnedTwice, Rim, SameWay, GridEdge, along-u, along-v, EdgeNumbers, Jₙ, Meets, Demand3, falls, rises}
+use Rattle.surface.specs.Surface.{Seam, unjoined, forward, reverse, reversed, Shape, J, Triangle, slot, proper, slots, triangles, Pair, pair, ordered, numberOf, stepOn, process, flipped, Follows, nth, Owns, OwnedOnce, OwnedTwice, Rim, SameWay, GridEdge, along-u, along-v, EdgeNumbers, Jₙ, Meets, CoveredMeets, falls, rises}
 use Rattle.surface.proofs.Steps.{lt-or-le, Fits, laidOn, on-below}
 use Rattle.surface.proofs.Strip.{Strip, straight}
 use Rattle.surface.proofs.CellSides.{Cell}
@@ -333,8 +333,8 @@ module _ (s : Shape) (m : 3 ≤ s .M) (n : 3 ≤ s .N) (ax : Axis) (seen : SeenA
   pub meets : Meets s
   meets = record { sides = sides; flipped-if = way-flipped; flipped-only-if = flipped-way; edges = edges }
 
-pub demand3 : Demand3
-demand3 s m n c = let w = covered-along s c in meets s m n (w .0) (w .1)
+pub covered-meets : CoveredMeets
+covered-meets s m n c = let w = covered-along s c in meets s m n (w .0) (w .1)
 
 -- J of a point by its number
 pub J-number : (s : Shape) (u v : ℕ) → v ≤ s .N → Jₙ s (u * (s .N + 1) + v) ≡ J s u v

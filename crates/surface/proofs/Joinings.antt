@@ -19,7 +19,7 @@ use Rattle.cyclic.proofs.Laws.{found-steps, found-below}
 use Rattle.surface.specs.Surface.{forward, inverse, Covered, neither, only-u, only-v, both-u, both-v, Meets, triangles, Owns, EdgeNumbers, Jₙ}
 use Rattle.surface.specs.Found.{uSearch, vSearch, ofMapping, surfaceWith, surfaceOf, ForwardAtZero, CoveredJoining, CoveredGrid, SurfaceMeets}
 use Rattle.surface.proofs.Searches.{u-search, v-search}
-use Rattle.surface.proofs.Demand.{demand3, traced}
+use Rattle.surface.proofs.Demand.{covered-meets, traced}
 
 -- ---- what a search finds
 
@@ -65,7 +65,7 @@ covered m n (Joined (Reverse o k)) (Joined j) p q (inr c) = both-u (omega (arith
 
 -- demand 3 of the surface that two seam answers make, found or given
 pub joining-meets : (m n : ℕ) (su sv : Seam) → 3 ≤ m → 3 ≤ n → OfRow n su → OfRow m sv → CoveredJoining su sv → Meets (surfaceWith m n su sv)
-joining-meets m n su sv hm hn p q c = demand3 (surfaceWith m n su sv) hm hn (covered m n su sv p q c)
+joining-meets m n su sv hm hn p q c = covered-meets (surfaceWith m n su sv) hm hn (covered m n su sv p q c)
 
 pub surface-meets : (g : List Float) (m n : ℕ) → SurfaceMeets g m n
 surface-meets g m n a hm hn c =
