@@ -12,7 +12,7 @@ use lib.ListN.{length, getD, take, drop, set, length-set, take-append-drop, drop
 use lib.Seq.{take-suc, drop-cons, append-snoc, getD-set-same, getD-set-other}
 use borrow.Author.Tests.{ltb-false, eqb-true, eqb-false, lt-ltb, le-ltb, eq-eqb}
 use Rattle.surface.proofs.Steps.{lt-or-le}
-use Rattle.surface.specs.Surface.{pick, Triangle, tri, Pair, insert, pair}
+use Rattle.surface.specs.Surface.{Triangle, tri, Pair, insert, pair}
 use Rattle.mesh.specs.declared.pairs.Spot.{Spot}
 use Rattle.mesh.specs.declared.pairs.Spot.the-variants.{Before, There}
 use Rattle.mesh.specs.Mesh.{triangleNumbers, pairNumbers}
@@ -59,15 +59,14 @@ written-before l i a b c j h =
 
 written-at : (l : List ℕ) (i a b c : ℕ) → i + 3 ≤ length l →
     (getD (written l i a b c) i 0 ≡ a) × (getD (written l i a b c) (i + 1) 0 ≡ b) × (getD (written l i a b c) (i + 2) 0 ≡ c)
-written-at l i a b c h =
-    (
-      getD-set-other (set (set l i a) (i + 1) b) (i + 2) i c 0 (λ e. omega arith)
+written-at l i a b c h = (
+  getD-set-other (set (set l i a) (i + 1) b) (i + 2) i c 0 (λ e. omega arith)
       ∙ getD-set-other (set l i a) (i + 1) i b 0 (λ e. omega arith)
       ∙ getD-set-same l i a 0 (omega arith),
-      getD-set-other (set (set l i a) (i + 1) b) (i + 2) (i + 1) c 0 (λ e. omega arith)
+  getD-set-other (set (set l i a) (i + 1) b) (i + 2) (i + 1) c 0 (λ e. omega arith)
       ∙ getD-set-same (set l i a) (i + 1) b 0 (simp length-set (omega arith)),
-      getD-set-same (set (set l i a) (i + 1) b) (i + 2) c 0 (simp length-set (omega arith)),
-    )
+  getD-set-same (set (set l i a) (i + 1) b) (i + 2) c 0 (simp length-set (omega arith)),
+)
 
 -- a triangle written after the first k
 pub triangle-added : (k : ℕ) (l : List ℕ) (a b c : ℕ) → 3 * k + 3 ≤ length l →

@@ -1,8 +1,8 @@
 -- Numbers of triangles: how a slot adds to the count, which slots the rims have, and the step of one rim on another. Assumes nothing.
-use Prim.Native.Nat.{ℕ, zero, suc, _+_, _-_, _*_, _≤_, _<_}
+use Prim.Native.Nat.{ℕ, suc, _+_, _-_, _*_, _≤_, _<_}
 use mathlib.Core.Path.{_≡_, refl, sym, ap, subst, _∙_}
 use mathlib.Core.Bool.{Bool, true, false}
-use mathlib.Core.List.{List, [], _∷_, _++_}
+use mathlib.Core.List.{[], _∷_}
 use native.Mathlib.Nat.{zero-mul, mul-le-mul}
 use native.Mathlib.Omega.{arith}
 use lib.ListN.{length, length-append}
@@ -51,7 +51,6 @@ cell-counted s n u v {count} {first} {last} {a} {b} e p q r t =
 
 pub steps-along : {axis x : Axis} {i : ℕ} (s : Shape) → axis ≡ x → i < stepsOf axis s → i < stepsOf x s
 steps-along {i = i} s e h = subst (λ (a : Axis). i < stepsOf a s) e h
-
 
 module _ (m n : ℕ) (su sv : Seam) (i : ℕ) where
   pub low-u : 2 * (0 * n + i) ≡ lowU (surfaceWith m n su sv) i

@@ -227,7 +227,13 @@ fn count_rims(surface: Surface, starts: &[usize], low: &mut [usize], high: &mut 
 }
 
 // The flipped pairs of the u seam, then those of the v seam.
-fn flip_seams(surface: Surface, low: &[usize], high: &[usize], starts: &[usize], flipped: &mut [usize]) -> usize
+fn flip_seams(
+    surface: Surface,
+    low: &[usize],
+    high: &[usize],
+    starts: &[usize],
+    flipped: &mut [usize],
+) -> usize
     requires { ⌜ Bounded surface × Rims Axis.U (shapeOf surface) (now low) (now high) × Starts surface (now starts) ⌝ }
     requires { ⌜ 2 * (surface .m + surface .n) ≤ length (now flipped) ⌝ }
     ensures { λ r. ⌜ pairsIn r (now (flipped .exit)) ≡ allFlipped (shapeOf surface) ⌝ }

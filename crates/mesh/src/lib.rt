@@ -99,7 +99,16 @@ pub fn triangulate_grid(
             let v = seams.v;
             let u_seam = u.seam;
             let v_seam = v.seam;
-            let counts = triangulate(Surface { m, n, u: u_seam, v: v_seam }, triangles, flipped);
+            let counts = triangulate(
+                Surface {
+                    m,
+                    n,
+                    u: u_seam,
+                    v: v_seam,
+                },
+                triangles,
+                flipped,
+            );
             Triangulation::Triangulated(u, v, counts.triangles, counts.pairs)
         }
     }

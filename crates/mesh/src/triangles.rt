@@ -52,7 +52,13 @@ fn build_cell(surface: Surface, u: usize, v: usize, triangles: &mut [usize], cou
 }
 
 // The same of a cell that touches neither the last u nor the last v: no rule applies, and its numbers differ.
-fn build_inner_cell(surface: Surface, u: usize, v: usize, triangles: &mut [usize], count: usize) -> usize
+fn build_inner_cell(
+    surface: Surface,
+    u: usize,
+    v: usize,
+    triangles: &mut [usize],
+    count: usize,
+) -> usize
     requires { ⌜ Bounded surface × (u + 1 < surface .m) × (v + 1 < surface .n) ⌝ }
     requires { ⌜ 6 * (surface .m * surface .n) ≤ length (now triangles) ⌝ }
     requires { ⌜ trianglesIn count (now triangles) ≡ kept (shapeOf surface) (2 * (u * surface .n + v)) ⌝ }

@@ -1,9 +1,7 @@
 -- `mesh::triangulate_grid` meets its contract: the refusals in order, then the seams, then the lists; and demand 3 of the grid's lists. Assumes nothing.
-use mathlib.Core.Path.{_≡_, sym, _∙_}
+use mathlib.Core.Path.{sym, _∙_}
 use borrow.Author.Needs.{needs}
-use Rattle.refusal.specs.declared.Check.the-variants.{Passed}
 use Rattle.surface.proofs.Joinings.{surface-meets}
-use Rattle.mesh.specs.Mesh.{meshCheck}
 use Rattle.mesh.proofs.Answers.{Admitted, admitted, found-bounded, refused-hands, passed-hands}
 use Rattle.mesh.proofs.triangulate_grid.Statement.{statement}
 use Rattle.mesh.proofs.triangulate_grid.Tie as tie
@@ -41,8 +39,7 @@ same-length-2 c = search needs
 
 returns : tie.Need-returns
 returns c =
-    let a = c .before .before .before .before .before .before .before .before .before .args in
-    (
+    let a = c .before .before .before .before .before .before .before .before .before .args in (
       refused-hands (a .grid .now) (a .m) (a .n) (a .triangles .now) (a .flipped .now) (c .before .before .before .check-mesh .ensures) (c .before .k .given .1),
       surface-meets (a .grid .now) (a .m) (a .n),
     )
@@ -58,8 +55,7 @@ returns-2 c =
     let a = c .before .before .before .before .before .before .before .before .before .before .before .before .before .before .before .before .before .before .args in
     let f = c .before .before .before .before .before .before .before .before .before .find-seams in
     let e = c .before .before .before .before .before .before .before .before .before .before in
-    let r = c .before .before .before .before .triangulate in
-    (
+    let r = c .before .before .before .before .triangulate in (
       passed-hands (a .grid .now) (a .m) (a .n) (a .triangles .now) (a .flipped .now) (r .last .1 .0) (r .last .1 .1 .0) (e .before .before .check-mesh .ensures) (e .enum-told .given .1) (f .ensures .0) (f .ensures .1) (r .ensures),
       surface-meets (a .grid .now) (a .m) (a .n),
     )

@@ -1,6 +1,6 @@
 -- `mesh::flipped::count_row` meets its contract: after v cells the counts are known up to v. Assumes nothing.
 use Prim.Native.Nat.{ℕ, _+_, _-_, _*_, _≤_}
-use mathlib.Core.Path.{_≡_, refl, sym, ap, _∙_}
+use mathlib.Core.Path.{_≡_, refl, ap, _∙_}
 use native.Mathlib.Omega.{arith}
 use lib.ListN.{length, getD, length-set}
 use Rattle.surface.specs.Surface.{numberOf}
@@ -8,9 +8,6 @@ use Rattle.mesh.specs.Corners.{shapeOf}
 use Rattle.mesh.proofs.Cells.{value-first, values-more}
 use Rattle.mesh.proofs.flipped.count_row.Statement.{statement}
 use Rattle.mesh.proofs.flipped.count_row.Tie as tie
-use Rattle.mesh.proofs.flipped.count_row.Reads as reads
-use Rattle.mesh.proofs.flipped.count_row.Lts as lts
-use Rattle.mesh.proofs.flipped.count_cell.Reads as count-cell-reads
 
 abbrev Inv-loop : tie.InvT-loop
 Inv-loop surface u start counts₀ n count₀ v₀ counts count v =
@@ -58,8 +55,7 @@ loop-again : tie.Need-loop-again Inv-loop μ-loop
 loop-again c =
     let w = c .before .before .loop in
     let a = c .before .before .before .before .args in
-    let s = shapeOf (a .surface) in
-    (
+    let s = shapeOf (a .surface) in (
       omega arith,
       c .count-cell .ensures,
       length-set (w .counts) (w .v + 1) (c .count-cell .result) ∙ w .inv .2,

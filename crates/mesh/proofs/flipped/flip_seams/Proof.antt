@@ -1,9 +1,8 @@
 -- `mesh::flipped::flip_seams` meets its contract: the u seam's pairs, and the v seam's put into them. Assumes nothing.
-use mathlib.Core.Path.{_≡_, refl, ap, _∙_}
+use mathlib.Core.Path.{_≡_, ap, _∙_}
 use mathlib.Core.List.{List, []}
 use native.Mathlib.Omega.{arith}
 use borrow.Author.Needs.{needs}
-use lib.ListN.{length}
 use Rattle.surface.specs.Surface.{Pair}
 use Rattle.surface.specs.Found.{seamOf}
 use Rattle.mesh.specs.declared.flipped.Axis.the-variants.{U, «V»}
@@ -29,8 +28,7 @@ flip-seam-requires-2 c κs =
     let t = c .before .before .before .before .before .before .before .before .before in
     let a = t .args in
     let f = c .before .before .before .flip-seam in
-    let k = held-pairs (f .result) (f .last .1 .1 .1 .1 .1 .0) (first (c .before .before .before)) in
-    (
+    let k = held-pairs (f .result) (f .last .1 .1 .1 .1 .1 .0) (first (c .before .before .before)) in (
       (t .pre .0 .0, t .pre .0 .0 .v-maps),
       (rims-v (a .surface) (t .pre .0 .0) (a .starts .now) (t .pre .0 .2), omega (arith, k, seam-most U (shapeOf (a .surface)) (seamOf (a .surface .u)) [], f .kept .1 .1 .1 .1 .1 .0, t .pre .1)),
     )

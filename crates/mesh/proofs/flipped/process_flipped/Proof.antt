@@ -1,5 +1,5 @@
 -- `mesh::flipped::process_flipped` meets its contract: after i steps the list holds what `process` gives for them. Assumes nothing.
-use Prim.Native.Nat.{ℕ, _+_, _-_, _≤_}
+use Prim.Native.Nat.{ℕ, _-_, _≤_}
 use mathlib.Core.Path.{_≡_, refl, ap, _∙_}
 use mathlib.Core.List.{List}
 use native.Mathlib.Omega.{arith}
@@ -14,10 +14,6 @@ use Rattle.mesh.proofs.Firsts.{length-firsts}
 use Rattle.mesh.proofs.Flips.{flips-none, flips-more, flips-most, held-pairs}
 use Rattle.mesh.proofs.flipped.process_flipped.Statement.{statement}
 use Rattle.mesh.proofs.flipped.process_flipped.Tie as tie
-use Rattle.mesh.proofs.flipped.process_flipped.Reads as reads
-use Rattle.mesh.proofs.flipped.process_flipped.Lts as lts
-use Rattle.mesh.proofs.flipped.flip_step.Reads as flip-step-reads
-use Rattle.mesh.proofs.flipped.rim_steps.Reads as rim-steps-reads
 
 abbrev Inv-loop : tie.InvT-loop
 Inv-loop surface axis mapping low high flipped₀ start steps count₀ i₀ flipped count i =
@@ -44,8 +40,7 @@ flip-step-requires c κs =
     let a = t .args in
     let s = shapeOf (a .surface) in
     let ps = pairsIn (a .start) (a .flipped .now) in
-    let k = held-pairs (w .count) (w .flipped) (w .inv .1) in
-    (
+    let k = held-pairs (w .count) (w .flipped) (w .inv .1) in (
       (t .pre .0 .0, t .pre .0 .1, omega (arith, c .before .loop-test .taken, r .ensures)),
       (
         t .pre .1 .0,
@@ -65,12 +60,11 @@ loop-again c =
     let w = c .before .before .before .before .before .loop in
     let a = c .before .before .before .before .before .before .before .before .before .before .args in
     let s = shapeOf (a .surface) in
-    let m = ofMapping (a .mapping) in
-    (
+    let m = ofMapping (a .mapping) in (
       omega arith,
       f .ensures
-      ∙ ap (λ (ps : List Pair). flipStep (a .axis) s m (w .i) ps) (w .inv .1)
-      ∙ flips-more (a .axis) s m (w .i) (pairsIn (a .start) (a .flipped .now)),
+          ∙ ap (λ (ps : List Pair). flipStep (a .axis) s m (w .i) ps) (w .inv .1)
+          ∙ flips-more (a .axis) s m (w .i) (pairsIn (a .start) (a .flipped .now)),
       omega (arith, f .kept .1 .1 .1 .1 .1 .1 .0),
     )
 

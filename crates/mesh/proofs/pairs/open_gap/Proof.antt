@@ -46,8 +46,7 @@ loop-again c =
     let w = c .before .before .loop in
     let j : w .i - 1 + 1 ≡ w .i = omega arith in
     let below : (k : ℕ) → k < w .i - 1 + 1 → getD (w .list) k 0 ≡ getD (a .list .now) k 0 = λ k h. w .inv .3 k (omega arith) in
-    let moved : (k : ℕ) → w .i - 1 + 1 ≤ k → k < a .end → getD (w .list) (k + 2) 0 ≡ getD (a .list .now) k 0 = λ k h q. w .inv .4 k (omega arith) q in
-    (
+    let moved : (k : ℕ) → w .i - 1 + 1 ≤ k → k < a .end → getD (w .list) (k + 2) 0 ≡ getD (a .list .now) k 0 = λ k h q. w .inv .4 k (omega arith) q in (
       omega arith,
       omega arith,
       simp length-set (w .inv .2),
