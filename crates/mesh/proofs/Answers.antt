@@ -1,9 +1,9 @@
 -- The open call's answer and lists: its refusals in order, what is known where none applies, and the lists that are handed over. Assumes nothing.
-use Prim.Native.Nat.{ℕ, zero, suc, _+_, _*_, _≤_, _<_, min}
+use Prim.Native.Nat.{ℕ, _+_, _*_, _≤_}
 use mathlib.Core.Path.{_≡_, refl, sym, ap, subst, _∙_}
-use mathlib.Core.Logic.{_⊎_, inl, inr, ⊎-elim}
+use mathlib.Core.Logic.{_⊎_, ⊎-elim}
 use mathlib.Core.Bool.{Bool, true, false, _&&_, _||_}
-use mathlib.Core.List.{List, [], _∷_, _++_}
+use mathlib.Core.List.{List, []}
 use native.Mathlib.Omega.{arith}
 use lib.Dec.{leb, ltb}
 use lib.Ieee.{Float}
@@ -14,7 +14,7 @@ use Rattle.refusal.specs.declared.Check.{Check}
 use Rattle.refusal.specs.declared.Check.the-variants.{Passed, Failed}
 use Rattle.refusal.specs.declared.Refusal.{Refusal}
 use Rattle.refusal.specs.declared.Refusal.the-variants.{Room, Coordinate}
-use Rattle.refusal.specs.Refusals.{Answer, ok, numberOf, unless}
+use Rattle.refusal.specs.Refusals.{ok, unless}
 use Rattle.lent.specs.Lent.{filled, zeroedFrom}
 use Rattle.lent.proofs.Laws.{zeroed-filled}
 use Rattle.grid.specs.Grid.{coordinatesFit, shapeCheck}
@@ -22,14 +22,13 @@ use Rattle.grid.proofs.Laws.{andThen, and-both, unless-passed, shape-first, sha
 use Rattle.cyclic.specs.declared.seam.Seam.{Seam}
 use Rattle.cyclic.specs.declared.seam.Seam.the-variants.{Joined, Unjoined}
 use Rattle.cyclic.specs.declared.seam.SeamSearch.{SeamSearch}
-use Rattle.surface.specs.Surface.{Shape, Triangle, Pair, kept, slots, triangles, flipped}
+use Rattle.surface.specs.Surface.{Shape, Triangle, kept, slots, triangles, flipped}
 use Rattle.surface.specs.Found.{uSearch, vSearch, surfaceWith}
 use Rattle.surface.proofs.Joinings.{OfRow, u-of-row, v-of-row}
-use Rattle.mesh.specs.declared.corner.Surface.{Surface}
 use Rattle.mesh.specs.declared.flipped.Axis.the-variants.{U, «V»}
 use Rattle.mesh.specs.declared.MeshCounts.{MeshCounts}
 use Rattle.mesh.specs.declared.Triangulation.the-variants.{Triangulated, Refused}
-use Rattle.mesh.specs.Mesh.{triangleNumbers, pairNumbers, Counts, roomFits, meshCheck, Handed, handedOver, afterCheck, triangulateGrid, Filled, Hands}
+use Rattle.mesh.specs.Mesh.{triangleNumbers, pairNumbers, roomFits, meshCheck, handedOver, afterCheck, triangulateGrid, Filled, Hands}
 use Rattle.mesh.specs.Corners.{Maps, Bounded}
 use Rattle.mesh.specs.Held.{triangleAt, trianglesIn, pairsIn}
 use Rattle.mesh.proofs.Firsts.{length-firsts}

@@ -1,7 +1,6 @@
 -- What a step of a reversed seam puts down, from what the code finds there, and how many pairs there can be. Assumes nothing.
 use Prim.Native.Nat.{ℕ, zero, suc, _+_, _-_, _*_, _≤_, _<_, min, max}
-use mathlib.Core.Path.{_≡_, refl, sym, ap, subst, _∙_}
-use mathlib.Core.Logic.{_⊎_, inl, inr, ⊎-elim}
+use mathlib.Core.Path.{_≡_, refl, sym, ap, _∙_}
 use mathlib.Core.Bool.{Bool, true, false, _&&_}
 use mathlib.Core.List.{List, [], _∷_}
 use native.Mathlib.Nat.{add-mul}
@@ -15,12 +14,12 @@ use Rattle.cyclic.specs.declared.mapping.CyclicMapping.the-variants.{Forward, R
 use Rattle.cyclic.specs.declared.seam.Seam.{Seam as Found}
 use Rattle.cyclic.specs.declared.seam.Seam.the-variants.{Joined, Unjoined}
 use Rattle.cyclic.specs.Mapping as cyclic
-use Rattle.surface.specs.Surface.{pick, Seam, Shape, Pair, ordered, insert, proper, slot, numberOf, stepOn, reversed, process, flipped, lowU, highU, lowV, highV, pair}
+use Rattle.surface.specs.Surface.{pick, Seam, Shape, Pair, ordered, insert, proper, slot, numberOf, stepOn, reversed, process, flipped, highU, lowV, highV, pair}
 use Rattle.surface.specs.Found.{ofMapping, seamOf}
 use Rattle.mesh.specs.declared.corner.Surface.{Surface}
 use Rattle.mesh.specs.declared.flipped.Axis.{Axis}
 use Rattle.mesh.specs.declared.flipped.Axis.the-variants.{U, «V»}
-use Rattle.mesh.specs.Corners.{shapeOf, Bounded, Maps}
+use Rattle.mesh.specs.Corners.{shapeOf, Bounded}
 use Rattle.mesh.specs.Held.{pairAt, pairsIn}
 use Rattle.mesh.specs.Rims.{plus, stepsOf, lowOf, highOf, Starts, Rims, flipStep, flipSteps, flips}
 use Rattle.mesh.proofs.Firsts.{length-firsts}

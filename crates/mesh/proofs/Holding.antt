@@ -12,7 +12,7 @@ use lib.ListN.{length, getD, take, drop, set, length-set, take-append-drop, drop
 use lib.Seq.{take-suc, drop-cons, append-snoc, getD-set-same, getD-set-other}
 use borrow.Author.Tests.{ltb-false, eqb-true, eqb-false, lt-ltb, le-ltb, eq-eqb}
 use Rattle.surface.proofs.Steps.{lt-or-le}
-use Rattle.surface.specs.Surface.{pick, Triangle, tri, Pair, insert, pair}
+use Rattle.surface.specs.Surface.{Triangle, tri, Pair, insert, pair}
 use Rattle.mesh.specs.declared.pairs.Spot.{Spot}
 use Rattle.mesh.specs.declared.pairs.Spot.the-variants.{Before, There}
 use Rattle.mesh.specs.Mesh.{triangleNumbers, pairNumbers}

@@ -1,17 +1,16 @@
 -- A cell that touches neither the last u nor the last v: no rule applies to its corners, and its two triangles are proper. Assumes nothing.
-use Prim.Native.Nat.{ℕ, _+_, _*_, _≤_, _<_}
+use Prim.Native.Nat.{ℕ, _+_, _*_, _<_}
 use mathlib.Core.Path.{_≡_, refl, sym, ap, _∙_}
 use mathlib.Core.Bool.{Bool, true, false, _&&_}
 use mathlib.Core.List.{List, [], _∷_, _++_}
 use native.Mathlib.Nat.{add-mul}
 use native.Mathlib.Omega.{arith}
-use lib.Dec.{eqb}
 use borrow.Author.Tests.{ne-eqb}
 use Rattle.grid.specs.Grid.{pointNumber}
 use Rattle.cyclic.specs.declared.seam.Seam.{Seam}
 use Rattle.surface.specs.Surface.{joined, corner, cornerBy, Triangle, tri, proper, kept}
 use Rattle.surface.specs.Found.{seamOf, surfaceWith}
-use Rattle.mesh.specs.Corners.{cellOf, firstOf, secondOf}
+use Rattle.mesh.specs.Corners.{cellOf}
 use Rattle.mesh.proofs.Cells.{corners-same, added-one, cell-first, cell-second}
 
 and-false : (b : Bool) → b && false ≡ false

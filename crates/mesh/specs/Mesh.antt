@@ -50,8 +50,7 @@ unfoldable pub meshCheck : List Float → ℕ → ℕ → List ℕ → List ℕ 
 meshCheck g m n t f =
     unless (stepsFit m n) Steps
     (unless (lengthFits g m n) Length
-    (unless (roomFits m n t f) Room
-    (unless (coordinatesFit g) Coordinate Passed)))
+    (unless (roomFits m n t f) Room (unless (coordinatesFit g) Coordinate Passed)))
 
 -- an answer and the two lent lists after a call
 pub record Handed : Type 0 where

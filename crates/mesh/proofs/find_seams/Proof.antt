@@ -1,9 +1,9 @@
 -- `mesh::find_seams` meets its contract: both searches are of rows with a stride, inside the grid. Assumes nothing.
-use Prim.Native.Nat.{_+_, _*_}
+use Prim.Native.Nat.{_+_}
 use mathlib.Core.Path.{sym, _∙_}
-use native.Mathlib.Nat.{zero-mul, mul-le-mul}
+use native.Mathlib.Nat.{zero-mul}
 use native.Mathlib.Omega.{arith}
-use Rattle.grid.proofs.Laws.{Stepped, shape-known, point-inside, points-most}
+use Rattle.grid.proofs.Laws.{shape-known, point-inside, points-most}
 use Rattle.surface.proofs.Searches.{u-search, v-search}
 use Rattle.mesh.proofs.find_seams.Statement.{statement}
 use Rattle.mesh.proofs.find_seams.Tie as tie

@@ -2,11 +2,10 @@
 use Prim.Native.Nat.{_+_, _*_, _≤_}
 use mathlib.Core.Path.{_≡_, _∙_}
 use native.Mathlib.Omega.{arith}
-use lib.ListN.{length}
 use borrow.Author.Needs.{needs}
 use Rattle.surface.specs.Surface.{triangles, flipped}
 use Rattle.mesh.specs.Corners.{shapeOf}
-use Rattle.mesh.specs.Held.{trianglesIn, pairsIn}
+use Rattle.mesh.specs.Held.{trianglesIn}
 use Rattle.mesh.proofs.Numbers.{cells-most}
 use Rattle.mesh.proofs.Flips.{held-pairs}
 use Rattle.mesh.proofs.Answers.{all-kept, triangles-most, triangles-filled, triangles-counted, pairs-most, pairs-filled}

@@ -1,9 +1,7 @@
 -- `mesh::triangulate_grid` meets its contract: the refusals in order, then the seams, then the lists; and demand 3 of the grid's lists. Assumes nothing.
-use mathlib.Core.Path.{_≡_, sym, _∙_}
+use mathlib.Core.Path.{sym, _∙_}
 use borrow.Author.Needs.{needs}
-use Rattle.refusal.specs.declared.Check.the-variants.{Passed}
 use Rattle.surface.proofs.Joinings.{surface-meets}
-use Rattle.mesh.specs.Mesh.{meshCheck}
 use Rattle.mesh.proofs.Answers.{Admitted, admitted, found-bounded, refused-hands, passed-hands}
 use Rattle.mesh.proofs.triangulate_grid.Statement.{statement}
 use Rattle.mesh.proofs.triangulate_grid.Tie as tie

@@ -1,6 +1,5 @@
 -- `mesh::corner::cell_corners` meets its contract, corner by corner. Assumes nothing.
 use Prim.Native.Nat.{ℕ}
-use Rattle.mesh.specs.declared.corner.Cell.{Cell}
 use Rattle.mesh.proofs.Cells.{corners-same}
 use borrow.Author.Needs.{needs}
 use Rattle.mesh.proofs.corner.cell_corners.Statement.{statement}

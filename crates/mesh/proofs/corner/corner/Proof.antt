@@ -1,16 +1,10 @@
 -- `mesh::corner::corner` meets its contract: the u rule, then in the last row the v rule, each within the grid. Assumes nothing.
-use mathlib.Core.Path.{_≡_, ap, sym, _∙_}
+use mathlib.Core.Path.{_∙_}
 use native.Mathlib.Omega.{arith}
-use Rattle.grid.specs.Grid.{pointNumber}
-use Rattle.mesh.specs.declared.corner.Place.{Place}
 use Rattle.mesh.proofs.Joins.{maps-joins, join-within, corner-other, corner-last}
 use borrow.Author.Needs.{needs}
 use Rattle.mesh.proofs.corner.corner.Statement.{statement}
 use Rattle.mesh.proofs.corner.corner.Tie as tie
-use Rattle.mesh.proofs.corner.corner.Reads as reads
-use Rattle.mesh.proofs.corner.corner.Lts as lts
-use Rattle.grid.proofs.point_number.Reads as point-number-reads
-use Rattle.mesh.proofs.corner.join.Reads as join-reads
 
 join-requires : tie.Need-join-requires
 join-requires c κs = maps-joins (c .args .surface .u) (c .args .surface .n) (c .args .v) (c .pre .0 .u-maps) (omega arith) (omega arith)

@@ -5,9 +5,6 @@ use Rattle.mesh.proofs.Joins.{join-last, join-other, join-none, joins-a
 use borrow.Author.Needs.{needs}
 use Rattle.mesh.proofs.corner.join.Statement.{statement}
 use Rattle.mesh.proofs.corner.join.Tie as tie
-use Rattle.mesh.proofs.corner.join.Reads as reads
-use Rattle.mesh.proofs.corner.join.Lts as lts
-use Rattle.cyclic.proofs.mapping.CyclicMapping.inverse.Reads as inverse-reads
 
 enum-told : tie.Need-enum-told
 enum-told c = search needs

@@ -7,11 +7,6 @@ use Rattle.mesh.proofs.Numbers.{number-most, plus-most, cells-most, cel
 use borrow.Author.Needs.{needs}
 use Rattle.mesh.proofs.flipped.count_cell.Statement.{statement}
 use Rattle.mesh.proofs.flipped.count_cell.Tie as tie
-use Rattle.mesh.proofs.flipped.count_cell.Reads as reads
-use Rattle.mesh.proofs.flipped.count_cell.Lts as lts
-use Rattle.mesh.proofs.flipped.first_differs.Reads as first-differs-reads
-use Rattle.mesh.proofs.flipped.plus.Reads as plus-reads
-use Rattle.mesh.proofs.flipped.second_differs.Reads as second-differs-reads
 
 bound : (t : tie.Start) → t .args .count + 1 ≤ 130050
 bound t =

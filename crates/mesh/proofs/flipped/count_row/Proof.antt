@@ -1,6 +1,6 @@
 -- `mesh::flipped::count_row` meets its contract: after v cells the counts are known up to v. Assumes nothing.
 use Prim.Native.Nat.{ℕ, _+_, _-_, _*_, _≤_}
-use mathlib.Core.Path.{_≡_, refl, sym, ap, _∙_}
+use mathlib.Core.Path.{_≡_, refl, ap, _∙_}
 use native.Mathlib.Omega.{arith}
 use lib.ListN.{length, getD, length-set}
 use Rattle.surface.specs.Surface.{numberOf}
@@ -8,9 +8,6 @@ use Rattle.mesh.specs.Corners.{shapeOf}
 use Rattle.mesh.proofs.Cells.{value-first, values-more}
 use Rattle.mesh.proofs.flipped.count_row.Statement.{statement}
 use Rattle.mesh.proofs.flipped.count_row.Tie as tie
-use Rattle.mesh.proofs.flipped.count_row.Reads as reads
-use Rattle.mesh.proofs.flipped.count_row.Lts as lts
-use Rattle.mesh.proofs.flipped.count_cell.Reads as count-cell-reads
 
 abbrev Inv-loop : tie.InvT-loop
 Inv-loop surface u start counts₀ n count₀ v₀ counts count v =

@@ -7,10 +7,6 @@ use Rattle.mesh.proofs.Cells.{slot-first}
 use borrow.Author.Needs.{needs}
 use Rattle.mesh.proofs.flipped.first_differs.Statement.{statement}
 use Rattle.mesh.proofs.flipped.first_differs.Tie as tie
-use Rattle.mesh.proofs.flipped.first_differs.Reads as reads
-use Rattle.mesh.proofs.flipped.first_differs.Lts as lts
-use Rattle.mesh.proofs.corner.cell_corners.Reads as cell-corners-reads
-use Rattle.mesh.proofs.triangles.differ.Reads as differ-reads
 
 cell-corners-requires : tie.Need-cell-corners-requires
 cell-corners-requires c κs = search needs

@@ -1,9 +1,8 @@
 -- `mesh::flipped::flip_seams` meets its contract: the u seam's pairs, and the v seam's put into them. Assumes nothing.
-use mathlib.Core.Path.{_≡_, refl, ap, _∙_}
+use mathlib.Core.Path.{_≡_, ap, _∙_}
 use mathlib.Core.List.{List, []}
 use native.Mathlib.Omega.{arith}
 use borrow.Author.Needs.{needs}
-use lib.ListN.{length}
 use Rattle.surface.specs.Surface.{Pair}
 use Rattle.surface.specs.Found.{seamOf}
 use Rattle.mesh.specs.declared.flipped.Axis.the-variants.{U, «V»}

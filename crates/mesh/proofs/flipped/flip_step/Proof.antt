@@ -6,7 +6,7 @@ use lib.ListN.{getD}
 use borrow.Author.Needs.{needs}
 use borrow.Author.Tests.{not-true, not-false}
 use Rattle.cyclic.specs.declared.seam.Seam.the-variants.{Joined}
-use Rattle.surface.specs.Surface.{Shape, Pair, insert, ordered, numberOf, stepOn, pair}
+use Rattle.surface.specs.Surface.{Pair, insert, ordered, numberOf, stepOn}
 use Rattle.surface.specs.Found.{ofMapping}
 use Rattle.mesh.specs.Corners.{shapeOf, Maps}
 use Rattle.mesh.specs.Held.{pairsIn}

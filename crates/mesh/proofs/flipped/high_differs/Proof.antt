@@ -10,9 +10,6 @@ use Rattle.mesh.proofs.Numbers.{steps-along, high-u, high-v}
 use borrow.Author.Needs.{needs}
 use Rattle.mesh.proofs.flipped.high_differs.Statement.{statement}
 use Rattle.mesh.proofs.flipped.high_differs.Tie as tie
-use Rattle.mesh.proofs.flipped.high_differs.Reads as reads
-use Rattle.mesh.proofs.flipped.high_differs.Lts as lts
-use Rattle.mesh.proofs.flipped.second_differs.Reads as second-differs-reads
 
 enum-told : tie.Need-enum-told
 enum-told c = search needs

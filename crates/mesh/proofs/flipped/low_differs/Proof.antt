@@ -10,9 +10,6 @@ use Rattle.mesh.proofs.Numbers.{steps-along, low-u, low-v}
 use borrow.Author.Needs.{needs}
 use Rattle.mesh.proofs.flipped.low_differs.Statement.{statement}
 use Rattle.mesh.proofs.flipped.low_differs.Tie as tie
-use Rattle.mesh.proofs.flipped.low_differs.Reads as reads
-use Rattle.mesh.proofs.flipped.low_differs.Lts as lts
-use Rattle.mesh.proofs.flipped.first_differs.Reads as first-differs-reads
 
 enum-told : tie.Need-enum-told
 enum-told c = search needs

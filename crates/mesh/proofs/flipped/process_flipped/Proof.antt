@@ -1,5 +1,5 @@
 -- `mesh::flipped::process_flipped` meets its contract: after i steps the list holds what `process` gives for them. Assumes nothing.
-use Prim.Native.Nat.{ℕ, _+_, _-_, _≤_}
+use Prim.Native.Nat.{ℕ, _-_, _≤_}
 use mathlib.Core.Path.{_≡_, refl, ap, _∙_}
 use mathlib.Core.List.{List}
 use native.Mathlib.Omega.{arith}
@@ -14,10 +14,6 @@ use Rattle.mesh.proofs.Firsts.{length-firsts}
 use Rattle.mesh.proofs.Flips.{flips-none, flips-more, flips-most, held-pairs}
 use Rattle.mesh.proofs.flipped.process_flipped.Statement.{statement}
 use Rattle.mesh.proofs.flipped.process_flipped.Tie as tie
-use Rattle.mesh.proofs.flipped.process_flipped.Reads as reads
-use Rattle.mesh.proofs.flipped.process_flipped.Lts as lts
-use Rattle.mesh.proofs.flipped.flip_step.Reads as flip-step-reads
-use Rattle.mesh.proofs.flipped.rim_steps.Reads as rim-steps-reads
 
 abbrev Inv-loop : tie.InvT-loop
 Inv-loop surface axis mapping low high flipped₀ start steps count₀ i₀ flipped count i =

@@ -8,10 +8,6 @@ use Rattle.mesh.proofs.Numbers.{step-is}
 use borrow.Author.Needs.{needs}
 use Rattle.mesh.proofs.flipped.step_on.Statement.{statement}
 use Rattle.mesh.proofs.flipped.step_on.Tie as tie
-use Rattle.mesh.proofs.flipped.step_on.Reads as reads
-use Rattle.mesh.proofs.flipped.step_on.Lts as lts
-use Rattle.cyclic.proofs.mapping.CyclicMapping.inverse.Reads as inverse-reads
-use Rattle.mesh.proofs.flipped.wrap_ends.Reads as wrap-ends-reads
 
 inverse-requires : tie.Need-inverse-requires
 inverse-requires c κs = maps-joins (Joined (c .args .mapping)) (c .args .steps) (c .args .i) (c .pre .0) (omega arith) (omega arith)

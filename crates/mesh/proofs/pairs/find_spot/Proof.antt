@@ -2,7 +2,6 @@
 use Prim.Native.Nat.{_≤_, _-_}
 use mathlib.Core.Path.{refl}
 use native.Mathlib.Omega.{arith}
-use lib.ListN.{length}
 use Rattle.surface.specs.Surface.{pair}
 use Rattle.mesh.specs.Held.{pairAt, pairsIn}
 use Rattle.mesh.proofs.Firsts.{length-firsts}

@@ -1,5 +1,5 @@
 -- `mesh::triangles::add_triangle` meets its contract: one triangle more, or none. Assumes nothing.
-use mathlib.Core.Path.{_≡_, sym, _∙_}
+use mathlib.Core.Path.{sym, _∙_}
 use borrow.Author.Tests.{not-true, not-false}
 use Rattle.surface.specs.Surface.{tri}
 use Rattle.mesh.specs.Held.{trianglesIn}

@@ -1,18 +1,12 @@
 -- `mesh::triangles::build_cell` meets its contract: the cell's two slots are the next two, and each adds its triangle if it is proper. Assumes nothing.
-use mathlib.Core.Path.{_≡_}
 use Prim.Native.Nat.{_+_, _*_}
 use native.Mathlib.Omega.{arith}
 use Rattle.surface.specs.Surface.{kept}
 use Rattle.mesh.specs.Corners.{shapeOf}
-use Rattle.mesh.specs.Held.{trianglesIn}
 use Rattle.mesh.proofs.Cells.{held-most, cell-below, cell-first, cell-second}
 use borrow.Author.Needs.{needs}
 use Rattle.mesh.proofs.triangles.build_cell.Statement.{statement}
 use Rattle.mesh.proofs.triangles.build_cell.Tie as tie
-use Rattle.mesh.proofs.triangles.build_cell.Reads as reads
-use Rattle.mesh.proofs.triangles.build_cell.Lts as lts
-use Rattle.mesh.proofs.corner.cell_corners.Reads as cell-corners-reads
-use Rattle.mesh.proofs.triangles.add_triangle.Reads as add-triangle-reads
 
 cell-corners-requires : tie.Need-cell-corners-requires
 cell-corners-requires c κs = search needs

@@ -12,10 +12,6 @@ use Rattle.mesh.proofs.Inner.{inner-cell}
 use borrow.Author.Needs.{needs}
 use Rattle.mesh.proofs.triangles.build_inner_cell.Statement.{statement}
 use Rattle.mesh.proofs.triangles.build_inner_cell.Tie as tie
-use Rattle.mesh.proofs.triangles.build_inner_cell.Reads as reads
-use Rattle.mesh.proofs.triangles.build_inner_cell.Lts as lts
-use Rattle.grid.proofs.point_number.Reads as point-number-reads
-use Rattle.mesh.proofs.triangles.write_triangle.Reads as write-triangle-reads
 
 small : (t : tie.Start) {i : ℕ} → i ≡ pointNumber (t .args .surface .n) (t .args .u) (t .args .v) → i < 65536
 small t e =

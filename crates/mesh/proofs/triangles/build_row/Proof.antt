@@ -7,11 +7,6 @@ use Rattle.mesh.proofs.Cells.{row-next}
 use borrow.Author.Needs.{needs}
 use Rattle.mesh.proofs.triangles.build_row.Statement.{statement}
 use Rattle.mesh.proofs.triangles.build_row.Tie as tie
-use Rattle.mesh.proofs.triangles.build_row.Reads as reads
-use Rattle.mesh.proofs.triangles.build_row.Lts as lts
-use Rattle.mesh.proofs.triangles.build_cell.Reads as build-cell-reads
-use Rattle.mesh.proofs.triangles.build_inner_row.Reads as build-inner-row-reads
-use Rattle.mesh.proofs.triangles.build_rule_row.Reads as build-rule-row-reads
 
 add-if1 : tie.Need-add-if1
 add-if1 c = search needs

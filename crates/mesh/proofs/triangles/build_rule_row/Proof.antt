@@ -9,9 +9,6 @@ use Rattle.mesh.specs.Held.{trianglesIn}
 use Rattle.mesh.proofs.Cells.{row-first, row-next}
 use Rattle.mesh.proofs.triangles.build_rule_row.Statement.{statement}
 use Rattle.mesh.proofs.triangles.build_rule_row.Tie as tie
-use Rattle.mesh.proofs.triangles.build_rule_row.Reads as reads
-use Rattle.mesh.proofs.triangles.build_rule_row.Lts as lts
-use Rattle.mesh.proofs.triangles.build_cell.Reads as build-cell-reads
 
 abbrev Inv-loop : tie.InvT-loop
 Inv-loop surface u triangles₀ start n count₀ v₀ triangles count v =

@@ -1,8 +1,7 @@
 -- `mesh::triangles::build_triangles` meets its contract: after u rows the list holds the triangles of their slots, and the starts are known up to u. Assumes nothing.
-use Prim.Native.Nat.{ℕ, _+_, _-_, _*_, _≤_, _<_}
+use Prim.Native.Nat.{ℕ, _+_, _-_, _*_, _≤_}
 use mathlib.Core.Path.{_≡_, refl, ap, _∙_}
 use native.Mathlib.Omega.{arith}
-use mathlib.Core.List.{List}
 use lib.ListN.{length, getD, length-set}
 use Rattle.surface.specs.Surface.{kept, numberOf}
 use Rattle.mesh.specs.Corners.{shapeOf}
@@ -10,9 +9,6 @@ use Rattle.mesh.specs.Held.{trianglesIn}
 use Rattle.mesh.proofs.Cells.{none-held, value-first, held-count, values-more}
 use Rattle.mesh.proofs.triangles.build_triangles.Statement.{statement}
 use Rattle.mesh.proofs.triangles.build_triangles.Tie as tie
-use Rattle.mesh.proofs.triangles.build_triangles.Reads as reads
-use Rattle.mesh.proofs.triangles.build_triangles.Lts as lts
-use Rattle.mesh.proofs.triangles.build_row.Reads as build-row-reads
 
 abbrev Inv-loop : tie.InvT-loop
 Inv-loop surface triangles₀ starts₀ m count₀ u₀ triangles starts count u =

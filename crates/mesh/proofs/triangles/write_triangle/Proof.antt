@@ -5,8 +5,6 @@ use Rattle.mesh.proofs.Holding.{triangle-added}
 use borrow.Author.Needs.{needs}
 use Rattle.mesh.proofs.triangles.write_triangle.Statement.{statement}
 use Rattle.mesh.proofs.triangles.write_triangle.Tie as tie
-use Rattle.mesh.proofs.triangles.write_triangle.Reads as reads
-use Rattle.mesh.proofs.triangles.write_triangle.Lts as lts
 
 mul-triangles : tie.Need-mul-triangles
 mul-triangles c = search needs
