@@ -14,6 +14,7 @@ use Rattle.float.specs.Cast.{natFloat}
 use Rattle.vector.specs.declared.Vector.{Vector}
 use Rattle.vector.specs.Vectors.{plus, scaled}
 use Rattle.grid.specs.Grid.{pointNumber, pointAt}
+use Rattle.edges.specs.Events.{Inside}
 use Rattle.edges.specs.declared.point.ParamPoint.{ParamPoint}
 use Rattle.edges.specs.declared.event.ParamEdge.{ParamEdge}
 use Rattle.edges.specs.declared.event.ParamEdge.the-variants.{U, «V», Diagonal}
@@ -22,7 +23,7 @@ use Rattle.trace.specs.declared.crossing.StepIndex.the-variants.{At, Not
 use Rattle.trace.specs.declared.crossing.Crossing.{Crossing}
 use Rattle.trace.specs.declared.crossing.EdgePoint.{EdgePoint}
 use Rattle.trace.specs.declared.crossing.EdgePoint.the-variants.{On, NoStep}
-use Rattle.trace.specs.Crossing.{blend, crossing, stepIndex, edgePoint, EdgeInside}
+use Rattle.trace.specs.Crossing.{blend, crossing, stepIndex, edgePoint}
 use Rattle.trace.proofs.Steps.{step-index-below}
 
 pub blend-is : (p q : Vector) (t : Float) {a b r : Vector} → a ≡ scaled p (sub binary64 one64 t) → b ≡ scaled q t → r ≡ plus a b → r ≡ blend p q t
@@ -42,7 +43,7 @@ pub sides-stand : (g : List Float) (m n u0 v0 u1 v1 : ℕ) → m ≤ 255 → n �
 sides-stand g m n u0 v0 u1 v1 hm hn s a b c d =
     ((hn, omega arith, omega arith, omega arith, omega arith), (place g m n u0 v0 s a b, place g m n u1 v1 s c d))
 
-module _ (m n : ℕ) {e : ParamEdge} (h : EdgeInside m n e) where
+module _ (m n : ℕ) {e : ParamEdge} (h : Inside m n e) where
   pub inside-u : {u : ℕ} → e ≡ U u → u ≤ m
   inside-u ee = rw ee at h
 

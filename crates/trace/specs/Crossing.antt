@@ -3,7 +3,7 @@
 use mathlib.Core.Path.{_≡_}
 use mathlib.Core.Bool.{Bool, true, false, _||_, cond}
 use mathlib.Core.List.{List}
-use Prim.Native.Nat.{ℕ, _+_, _-_, _*_, _≤_, _<_}
+use Prim.Native.Nat.{ℕ, _+_, _-_, _*_, _≤_}
 use lib.Dec.{eqb}
 use lib.ListN.{length}
 use lib.Ieee.{Float, binary64, neg, lt, add, sub}
@@ -74,14 +74,6 @@ edgePoint g m n (U u) x = onU g n u (stepIndex (x .v) n)
 edgePoint g m n («V» v) x = onV g n v (stepIndex (x .u) m)
 edgePoint g m n (Diagonal u v) x = onDiagonal g n u v (x .v)
 
--- ---- what the inner functions ask for
-
--- a grid of M and N steps, by its length
+-- what the inner functions ask for: a grid of M and N steps, by its length
 abbrev pub GridFits : List Float → ℕ → ℕ → Type 0
 GridFits g m n = (m ≤ 255) × (n ≤ 255) × (length g ≡ 3 * ((m + 1) * (n + 1)))
-
--- a side that the grid has
-abbrev pub EdgeInside : ℕ → ℕ → ParamEdge → Type 0
-EdgeInside m n (U u) = u ≤ m
-EdgeInside m n («V» v) = v ≤ n
-EdgeInside m n (Diagonal u v) = (u < m) × (v < n)

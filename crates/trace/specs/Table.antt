@@ -1,1 +1,76 @@
--- Table
+-- 01's known results on `step_index` and on traces, by computation. Assumes nothing.
+use Prim.Native.Nat.{ℕ}
+use mathlib.Core.Path.{_≡_, refl}
+use mathlib.Core.Bool.{Bool, true}
+use mathlib.Core.List.{List, [], _∷_}
+use lib.Ieee.{Float, binary64, ofBits, neg, add}
+use Rattle.float.specs.Consts.{eps, zero64, one64}
+use Rattle.float.specs.Order.{larger}
+use Rattle.vector.specs.Vectors.{allClose}
+use Rattle.refusal.specs.Refusals.{ok, refused}
+use Rattle.grid.specs.Grid.{pointAt, coordinatesFit}
+use Rattle.edges.specs.Table as events
+use Rattle.trace.specs.declared.crossing.StepIndex.the-variants.{At, Nothing}
+use Rattle.trace.specs.Crossing.{closeTo, cellOf, offAxis, inCell, stepIndex, blend, edgePoint}
+use Rattle.trace.specs.Walk.{samplesOf, beforeInside, afterInside, crossed, crossings, appendEdgeCrossings, sampled, traced}
+use Rattle.trace.specs.Drawing.{pushSegmentPoint, flushSegment}
+use Rattle.trace.specs.Trace.{marksFit, pairsFit, traceCheck, Lists, lists, inTurn, Traced, traceFlat}
+
+-- `unfolding computed` opens every definition that a closed result needs
+unfoldable pub computed : Bool
+unfolding events.computed larger allClose pointAt coordinatesFit closeTo cellOf offAxis inCell stepIndex blend edgePoint samplesOf beforeInside afterInside crossed crossings appendEdgeCrossings sampled traced pushSegmentPoint flushSegment marksFit pairsFit traceCheck inTurn traceFlat
+computed = true
+
+abbrev quarter : Float
+quarter = ofBits binary64 0x3FD0000000000000
+
+abbrev three-quarters : Float
+three-quarters = ofBits binary64 0x3FE8000000000000
+
+-- "`step_index`(4, 4) = (3, 1)"
+last-border : stepIndex (ofBits binary64 0x4010000000000000) 4 ≡ At 3 one64
+unfolding computed
+last-border = refl
+
+-- "(−EPS, 4) = (0, 0)"
+before-first : stepIndex (neg eps) 4 ≡ At 0 zero64
+unfolding computed
+before-first = refl
+
+-- "(0, 0) none"
+no-steps : stepIndex zero64 0 ≡ Nothing
+unfolding computed
+no-steps = refl
+
+-- a unit square as a grid of M = N = 1, and the trace of two samples in lists with room for two points and one line
+abbrev square : List Float
+square = zero64 ∷ zero64 ∷ zero64 ∷ zero64 ∷ one64 ∷ zero64 ∷ one64 ∷ zero64 ∷ zero64 ∷ one64 ∷ one64 ∷ zero64 ∷ []
+
+abbrev room : Lists
+room = lists (one64 ∷ one64 ∷ one64 ∷ one64 ∷ one64 ∷ one64 ∷ []) (7 ∷ []) (7 ∷ 7 ∷ 7 ∷ 7 ∷ []) (one64 ∷ one64 ∷ [])
+
+abbrev step : Float → Float → Float → Float → Traced
+step u v u′ v′ = traceFlat square 1 1 (u ∷ v ∷ u′ ∷ v′ ∷ []) (1 ∷ 1 ∷ []) room
+
+-- "(0, 0.25) to (0.75, 0.25): .. sides (0,1), (2,1), t 0.25 both"
+along-u : step zero64 quarter three-quarters quarter
+    ≡ record {
+      answer = ok (record { points = 2; lines = 1 });
+      after = lists (zero64 ∷ quarter ∷ zero64 ∷ three-quarters ∷ quarter ∷ zero64 ∷ []) (0 ∷ []) (0 ∷ 1 ∷ 2 ∷ 1 ∷ []) (quarter ∷ quarter ∷ []);
+    }
+unfolding computed
+along-u = refl
+
+-- "(0.25, 0.25) to (0.75, 0.75): one event at 0.5, no line"
+no-line : step quarter quarter three-quarters three-quarters .answer ≡ ok (record { points = 0; lines = 0 })
+unfolding computed
+no-line = refl
+
+-- "(1, 1048576) to (1, 1+EPS): 11", and all zero
+no-step : step one64 (ofBits binary64 0x4130000000000000) one64 (add binary64 one64 eps)
+    ≡ record {
+      answer = refused 11;
+      after = lists (zero64 ∷ zero64 ∷ zero64 ∷ zero64 ∷ zero64 ∷ zero64 ∷ []) (0 ∷ []) (0 ∷ 0 ∷ 0 ∷ 0 ∷ []) (zero64 ∷ zero64 ∷ []);
+    }
+unfolding computed
+no-step = refl

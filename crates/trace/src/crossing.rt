@@ -11,7 +11,8 @@ ghost use mathlib.Core.Path.{_≡_};
 ghost use Prim.Native.Nat.{_+_, _*_, _≤_};
 ghost use lib.ListN.{length};
 ghost use Rattle.grid.specs.Grid.{pointNumber};
-ghost use Rattle.trace.specs.Crossing.{stepIndex, blend, crossing, edgePoint, GridFits, EdgeInside};
+ghost use Rattle.edges.specs.Events.{Inside};
+ghost use Rattle.trace.specs.Crossing.{stepIndex, blend, crossing, edgePoint, GridFits};
 
 // The cell that a value falls into on an axis of steps, and how far into it.
 pub enum StepIndex {
@@ -74,7 +75,7 @@ fn between(grid: &[f64], n: usize, u0: usize, v0: usize, u1: usize, v1: usize, t
 // The point of an event on its side.
 pub fn edge_point(grid: &[f64], m: usize, n: usize, edge: ParamEdge, point: ParamPoint) -> EdgePoint
     requires { ⌜ GridFits (now grid) m n ⌝ }
-    requires { ⌜ EdgeInside m n edge ⌝ }
+    requires { ⌜ Inside m n edge ⌝ }
     ensures { λ r. ⌜ r ≡ edgePoint (now (grid .entry)) m n edge point ⌝ }
 {
     match edge {

@@ -21,9 +21,9 @@ ghost use lib.ListN.{length, getD};
 ghost use lib.Ieee.{Float, nan};
 ghost use Rattle.float.specs.Consts.{zero64, one64};
 ghost use Rattle.edges.specs.Param.{pick};
-ghost use Rattle.edges.specs.Events.{Each, OnGrid};
+ghost use Rattle.edges.specs.Events.{Inside, Each, OnGrid};
 ghost use Rattle.edges.specs.Scratch.{eventsIn};
-ghost use Rattle.trace.specs.Crossing.{edgePoint, GridFits, EdgeInside};
+ghost use Rattle.trace.specs.Crossing.{edgePoint, GridFits};
 ghost use Rattle.trace.specs.Walk.{on, beforeInside, afterInside, pushed, crossed, crossings, appendEdgeCrossings};
 ghost use Rattle.trace.specs.Page.{pageOf, pushPage, flushPage, Pushed, PenFits};
 
@@ -80,7 +80,7 @@ fn push_edge_point(
     point: ParamPoint,
 ) -> Penned
     requires { ⌜ GridFits (now grid) m n ⌝ }
-    requires { ⌜ EdgeInside m n edge ⌝ }
+    requires { ⌜ Inside m n edge ⌝ }
     requires { ⌜ PenFits (now points) pen ⌝ }
     ensures { λ r. ⌜ ((starts : List ℕ) → Pushed (pushed pushPage flushPage (now (grid .entry)) m n (edgePoint (now (grid .entry)) m n edge point)
         (pageOf (now (points .entry)) starts (now (sides .entry)) (now (fractions .entry)) pen)) r
@@ -109,7 +109,7 @@ fn cross_event(
     next: f64,
 ) -> Penned
     requires { ⌜ GridFits (now grid) m n ⌝ }
-    requires { ⌜ EdgeInside m n (event .edge) ⌝ }
+    requires { ⌜ Inside m n (event .edge) ⌝ }
     requires { ⌜ PenFits (now points) pen ⌝ }
     ensures { λ r. ⌜ Pushed (crossed pushPage flushPage (now (grid .entry)) m n a b previous event next
         (pageOf (now (points .entry)) (now (starts .entry)) (now (sides .entry)) (now (fractions .entry)) pen)) r
