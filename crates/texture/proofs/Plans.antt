@@ -53,7 +53,7 @@ module _ (t : ParametricSurfaceTexture) (m n : ℕ) {b : Bool} (eb : b ≡ steps
 abbrev chain : Bool → Bool → Bool → Check → Check
 chain a b c after = unless a Steps (unless b Texture (unless c Count after))
 
-never : {A B : Type 0} {x : A} {k : ℕ} → ok x ≡ refused k → B
+pub never : {A B : Type 0} {x : A} {k : ℕ} → ok x ≡ refused k → B
 never e = let z : _≡_ {A = ℕ} 0 1 = cc in absurd (omega arith)
 
 chain-passed : {A : Type 0} (a b c : Bool) {x : A} (y : A) (after : Check) → ok x ≡ passing (chain a b c Passed) (ok y) → (chain a b c after ≡ after) × (x ≡ y)

@@ -1,0 +1,125 @@
+-- Laws of plans: a swirl and a spiral have from 1 to 65,536 rays of from 2 to 65,536 samples, a spiral as many rays as arms, Grid none. A count is the cut of a larger of two, so it is at
+-- least the second, and the tests bound it from above. Assumes nothing.
+use mathlib.Core.Path.{_≡_, refl, sym, ap, _∙_, subst}
+use mathlib.Core.Bool.{Bool, true, false, cond}
+use Prim.Native.Nat.{ℕ, zero, suc, _*_, _/_, _^_, _≤_, min, max}
+use native.Mathlib.Nat.{le-trans, le-refl, le-antisymm}
+use native.Mathlib.Omega.{arith}
+use lib.IntN.{pos, negℤ}
+use lib.Dec.{lit≤}
+use lib.Ieee.{Float, nan, inf, fin, up, down, lt, le, ofInt, ofBits, isNan, toUnsigned}
+use borrow.Author.Tests.{leb-true, le-leb}
+use Rattle.float.specs.Consts.{zero64, one64}
+use Rattle.float.specs.Order.{larger}
+use Rattle.float.specs.Whole.{over, floorZ}
+use Rattle.float.specs.Cast.{natFloat, count}
+use Rattle.float.proofs.Less.{le-of-not-lt, le-reflexive, le-transitive}
+use Rattle.float.proofs.Bounds.{nat-not-nan, nat-nonneg, nat-le, floor-at-least}
+use Rattle.float.proofs.Range.{counted}
+use Rattle.refusal.specs.declared.Check.{Check}
+use Rattle.refusal.specs.declared.Check.the-variants.{Passed}
+use Rattle.refusal.specs.declared.Refusal.the-variants.{Steps, Texture, Count}
+use Rattle.refusal.specs.Refusals.{ok, unless}
+use Rattle.grid.specs.Grid.{stepsFit}
+use Rattle.grid.proofs.Laws.{and-both, unless-passed}
+use Rattle.texture.specs.declared.plan.ParametricSurfaceTexture.{ParametricSurfaceTexture}
+use Rattle.texture.specs.declared.plan.ParametricSurfaceTexture.the-variants.{Grid, Swirl, Spiral}
+use Rattle.texture.specs.Plan.{two, swirlRays, swirlSamples, spiralSamples, stepsAlong, raysOf, samplesOf, textureFits, maxCount, countsFit, planCheck, Plan, planOf, plan}
+use Rattle.texture.proofs.Plans.{plan-passed}
+
+-- ---- the larger of two is at least the second
+at-least : (x y : Float) → isNan x ≡ false → isNan y ≡ false → (t : Bool) → lt x y ≡ t → le y (cond t y x) ≡ true
+at-least x y m n true h = le-reflexive y n
+at-least x y m n false h = le-of-not-lt y x n m h
+
+larger-least : (x y : Float) → isNan y ≡ false → le y (larger x y) ≡ true
+unfolding larger
+larger-least nan y n = le-reflexive y n
+larger-least (inf s) y n = at-least (inf s) y (unfold isNan in refl) n (lt (inf s) y) refl
+larger-least (fin s m e) y n = at-least (fin s m e) y (unfold isNan in refl) n (lt (fin s m e) y) refl
+
+-- ---- a value cut toward zero is no less than its floor
+floor-cut : (y : Float) → count (floorZ y) ≤ toUnsigned 64 y
+unfolding floorZ toUnsigned
+floor-cut nan = le-refl 0
+floor-cut (inf true) = le-refl 0
+floor-cut (inf false) = lit≤ tt
+floor-cut (fin true m e) = none (min (over (m * up e) (down e)) (2 ^ 63))
+  where
+    none : (k : ℕ) → count (negℤ (pos k)) ≤ 0
+    none zero = le-refl 0
+    none (suc k) = le-refl 0
+floor-cut (fin false m e) = wider (m * up e / down e)
+  where
+    wider : (q : ℕ) → min q 9223372036854775807 ≤ min q 18446744073709551615
+    wider q = omega arith
+
+-- a value from k to n, cut toward zero, is from k to n
+cut-between : (x : Float) (k n : ℕ) → k ≤ 2 ^ 53 → n ≤ 2 ^ 53 → le (natFloat k) x ≡ true → le x (natFloat n) ≡ true → (k ≤ toUnsigned 64 x) × (toUnsigned 64 x ≤ n)
+cut-between x k n hk hn lo hi =
+    let from-zero = le-of-not-lt zero64 (natFloat k) (unfold isNan ofBits in refl) (nat-not-nan k hk) (nat-nonneg k) in
+    (le-trans (floor-at-least x k lo hk) (floor-cut x), counted x n hn (le-transitive zero64 (natFloat k) x from-zero lo) hi .1)
+
+-- ---- what a plan passed
+pub checks : (t : ParametricSurfaceTexture) (m n : ℕ) (after : Check) → planCheck t m n after ≡ Passed
+    → (stepsFit m n ≡ true) × (textureFits t ≡ true) × (countsFit (raysOf m n t) (samplesOf m n t) ≡ true) × (after ≡ Passed)
+unfolding planCheck
+checks t m n after h =
+    let counts = countsFit (raysOf m n t) (samplesOf m n t) in
+    let a = unless-passed (stepsFit m n) Steps (unless (textureFits t) Texture (unless counts Count after)) h in
+    let b = unless-passed (textureFits t) Texture (unless counts Count after) (a .1) in
+    let c = unless-passed counts Count after (b .1) in
+    (a .0, b .0, c .0, c .1)
+
+passes : (t : ParametricSurfaceTexture) (m n : ℕ) {p : Plan} → plan t m n ≡ ok p → (textureFits t ≡ true) × (le (raysOf m n t) maxCount ≡ true) × (le (samplesOf m n t) maxCount ≡ true) × (p ≡ planOf t m n)
+passes t m n e =
+    let k = plan-passed t m n Passed (sym e) in
+    let a = checks t m n Passed (k .0) in
+    let c = and-both (le (raysOf m n t) maxCount) (le (samplesOf m n t) maxCount) (a .2) in
+    (a .1, c .0, c .1, k .1)
+
+-- ---- the counts
+pub record Counts (p : Plan) : Type 0 where
+  pub rays-least : 1 ≤ p .rays
+  pub rays-most : p .rays ≤ 65536
+  pub samples-least : 2 ≤ p .samples
+  pub samples-most : p .samples ≤ 65536
+
+-- of rays and samples that are floats
+counts-of : (t : ParametricSurfaceTexture) (m n : ℕ) {p : Plan} → plan t m n ≡ ok p → le one64 (raysOf m n t) ≡ true → le two (samplesOf m n t) ≡ true → Counts p
+counts-of t m n e r s =
+    let k = passes t m n e in
+    let rays = cut-between (raysOf m n t) 1 65536 (lit≤ tt) (lit≤ tt) (unfold natFloat ofInt ofBits in r) (unfold natFloat ofInt ofBits in (k .1)) in
+    let samples = cut-between (samplesOf m n t) 2 65536 (lit≤ tt) (lit≤ tt) (unfold natFloat ofInt ofBits in s) (unfold natFloat ofInt ofBits in (k .2)) in
+    subst Counts (sym (k .3)) (record { rays-least = rays .0; rays-most = rays .1; samples-least = samples .0; samples-most = samples .1 })
+
+pub swirl-counts : (s w : Float) (m n : ℕ) {p : Plan} → plan (Swirl s w) m n ≡ ok p → Counts p
+unfolding swirlRays swirlSamples stepsAlong
+swirl-counts s w m n e = counts-of (Swirl s w) m n e (larger-least _ one64 (unfold isNan ofBits in refl)) (larger-least _ two (unfold isNan ofBits in refl))
+
+-- arms are rays, and no arms are one
+arms-fit : (a : ℕ) → a ≤ 64 → (1 ≤ max a 1) × (max a 1 ≤ 9007199254740992)
+arms-fit a h = (omega arith, omega arith)
+
+pub spiral-rays : (s : Float) (a m n : ℕ) {p : Plan} → plan (Spiral s a) m n ≡ ok p → p .rays ≡ max a 1
+spiral-rays s a m n e =
+    let k = passes (Spiral s a) m n e in
+    let b = arms-fit a (leb-true a 64 (k .0)) in
+    let same = le-reflexive (natFloat (max a 1)) (nat-not-nan (max a 1) (b .1)) in
+    let c = cut-between (natFloat (max a 1)) (max a 1) (max a 1) (b .1) (b .1) same same in
+    ap (λ (q : Plan). q .rays) (k .3) ∙ le-antisymm (c .1) (c .0)
+
+one-is : natFloat 1 ≡ one64
+one-is = unfold natFloat ofInt ofBits in refl
+
+pub spiral-counts : (s : Float) (a m n : ℕ) {p : Plan} → plan (Spiral s a) m n ≡ ok p → Counts p
+unfolding spiralSamples stepsAlong
+spiral-counts s a m n e =
+    let b = arms-fit a (leb-true a 64 (passes (Spiral s a) m n e .0)) in
+    let one = ap (λ (x : Float). le x (natFloat (max a 1))) (sym one-is) ∙ nat-le 1 (max a 1) (lit≤ tt) (b .1) ∙ le-leb 1 (max a 1) (b .0) in
+    counts-of (Spiral s a) m n e one (larger-least _ two (unfold isNan ofBits in refl))
+
+pub grid-counts : (m n : ℕ) {p : Plan} → plan Grid m n ≡ ok p → (p .rays ≡ 0) × (p .samples ≡ 0)
+grid-counts m n e =
+    let k = passes Grid m n e in
+    (ap (λ (q : Plan). q .rays) (k .3) ∙ unfold toUnsigned ofBits in refl, ap (λ (q : Plan). q .samples) (k .3) ∙ unfold toUnsigned ofBits in refl)
