@@ -1,21 +1,19 @@
--- `allClose` from what the calls gave, and its laws. The largest of three is below EPS where each is, but `larger` leaves a NaN out: so a NaN difference
+-- `allClose` as `all_close` tests it, and its laws. The largest of three is below EPS where each is, but `larger` leaves a NaN out: so a NaN difference
 -- is passed over, and only three of them are never close. Assumes nothing.
+use Prim.Native.Nat.{_*_}
 use mathlib.Core.Path.{_≡_, refl, sym, ap, _∙_}
-use mathlib.Core.Bool.{Bool, true, false, not, _&&_, _||_, true≢false}
-use lib.Ieee.{Float, nan, inf, fin, lt, eq, isNan}
+use mathlib.Core.Bool.{Bool, true, false, not, _&&_, _||_, or-true, true≢false}
+use lib.Ieee.{Float, nan, inf, fin, up, down, lt, le, eq, neg, ofBits, isNan}
+use borrow.Author.Tests.{eq-eqb}
 use Rattle.float.specs.Consts.{eps, zero64, one64}
 use Rattle.float.specs.Sign.{absolute, isFinite}
 use Rattle.float.specs.Order.{larger}
 use Rattle.float.specs.Table.{computed}
-use Rattle.float.proofs.Differences.{sub-swap, sub-not-nan, sub-self-close}
+use Rattle.float.proofs.Less.{le-is, le-not-nan}
+use Rattle.float.proofs.Differences.{sub-swap, sub-not-nan, sub-self-close, within-eps}
 use Rattle.float.proofs.Larger.{abs-nan, larger-nan, larger-under, nan-not-below}
 use Rattle.vector.specs.declared.Vector.{Vector}
 use Rattle.vector.specs.Vectors.{vector, minus, absolutes, largest, allClose}
-
--- equations between variables: `cc` has only these to look at
-pub close-is : (a b : Vector) {d : Vector} {p q r s t : Float} → d ≡ minus a b → p ≡ absolute (d .x) → q ≡ absolute (d .y) → r ≡ larger p q → s ≡ absolute (d .z) → t ≡ larger r s → lt t eps ≡ allClose a b
-unfolding allClose
-close-is a b e1 e2 e3 e4 e5 e6 = cc
 
 -- ---- symmetric, for any points
 pub close-symmetric : (a b : Vector) → allClose a b ≡ allClose b a
@@ -47,7 +45,6 @@ pub close-by : (a b : Vector) → allClose a b ≡ (passes (minus a b .x) && pas
 unfolding allClose
 close-by a b = largest-below (minus a b)
 
--- ---- differences that are no NaNs: close where each is below EPS
 or-false : (t : Bool) → t || false ≡ t
 or-false true = refl
 or-false false = refl
@@ -60,50 +57,65 @@ and-false : (t : Bool) → t && false ≡ false
 and-false true = refl
 and-false false = refl
 
-ordered-below : (d : Vector) → isNan (d .x) ≡ false → isNan (d .y) ≡ false → isNan (d .z) ≡ false → lt (largest (absolutes d)) eps ≡ lt (absolute (d .x)) eps && lt (absolute (d .y)) eps && lt (absolute (d .z)) eps
-ordered-below d h k l = largest-below d ∙ simp (h, k, l, or-false, and-true)
-
-self-equal : (x : Float) → eq x x ≡ true → isNan x ≡ false
-unfolding eq isNan
-self-equal nan h = sym h
-self-equal (inf s) h = refl
-self-equal (fin s m e) h = refl
-
-below-not-nan : (x : Float) → lt (absolute x) eps ≡ true → isNan x ≡ false
-below-not-nan x h = go (isNan x) refl
+-- ---- as `all_close` tests it
+not-le-nan : (x y : Float) → isNan y ≡ true → (le x y ≡ false) × (le y x ≡ false)
+not-le-nan x y h = (left (le x y) refl, right (le y x) refl)
   where
-    go : (t : Bool) → isNan x ≡ t → t ≡ false
-    go true e = absurd (true≢false (sym h ∙ nan-not-below (absolute x) eps (abs-nan x ∙ e)))
-    go false e = refl
+    left : (t : Bool) → le x y ≡ t → t ≡ false
+    left true e = absurd (true≢false (sym h ∙ le-not-nan x y e .1))
+    left false e = refl
 
-and-first : (p q : Bool) → p && q ≡ true → p ≡ true
-and-first true q h = refl
-and-first false q h = h
+    right : (t : Bool) → le y x ≡ t → t ≡ false
+    right true e = absurd (true≢false (sym h ∙ le-not-nan y x e .0))
+    right false e = refl
 
-and-second : (p q : Bool) → p && q ≡ true → q ≡ true
-and-second true q h = h
-and-second false q h = absurd (true≢false (sym h))
+eps-not-nan : (isNan eps ≡ false) × (isNan (neg eps) ≡ false)
+unfolding eps ofBits neg isNan
+eps-not-nan = (refl, refl)
 
--- what the first two tests of `all_close` answer
-module _ (a b d : Vector) (p q r : Bool) (e : d ≡ minus a b) (ep : p ≡ lt (absolute (d .x)) eps) (eq' : q ≡ lt (absolute (d .y)) eps) (er : r ≡ lt (absolute (d .z)) eps) where
-  difference : lt (largest (absolutes d)) eps ≡ allClose a b
-  unfolding allClose
-  difference = ap (λ (v : Vector). lt (largest (absolutes v)) eps) e
+pub apart-is : (d : Float) → le eps d || le d (neg eps) ≡ not (passes d)
+apart-is d = go (isNan d) refl
+  where
+    both : (p q : Bool) → not p || not q ≡ not (q && p || false)
+    both true true = refl
+    both true false = refl
+    both false true = refl
+    both false false = refl
 
-  pub all-below : p && q && r ≡ true → true ≡ allClose a b
-  all-below h =
-      let x = sym ep ∙ and-first p q (and-first (p && q) r h) in
-      let y = sym eq' ∙ and-second p q (and-first (p && q) r h) in
-      let z = sym er ∙ and-second (p && q) r h in
-      sym (ordered-below d (below-not-nan (d .x) x) (below-not-nan (d .y) y) (below-not-nan (d .z) z) ∙ simp (x, y, z)) ∙ difference
+    go : (t : Bool) → isNan d ≡ t → le eps d || le d (neg eps) ≡ not (lt (absolute d) eps || t)
+    go true h = simp (not-le-nan eps d h .0, not-le-nan (neg eps) d h .1, or-true)
+    go false h = simp (le-is eps d (eps-not-nan .0) h, le-is d (neg eps) h (eps-not-nan .1), within-eps d) (both (lt d eps) (lt (neg eps) d))
 
-  pub one-apart : p && q && r ≡ false → eq (d .x) (d .x) && eq (d .y) (d .y) && eq (d .z) (d .z) ≡ true → false ≡ allClose a b
-  one-apart h k =
-      let u = and-first (eq (d .x) (d .x) && eq (d .y) (d .y)) (eq (d .z) (d .z)) k in
-      let x = self-equal (d .x) (and-first (eq (d .x) (d .x)) (eq (d .y) (d .y)) u) in
-      let y = self-equal (d .y) (and-second (eq (d .x) (d .x)) (eq (d .y) (d .y)) u) in
-      let z = self-equal (d .z) (and-second (eq (d .x) (d .x) && eq (d .y) (d .y)) (eq (d .z) (d .z)) k) in
-      sym (ordered-below d x y z ∙ rw (← ep, ← eq', ← er) h) ∙ difference
+self-equal : (x : Float) → eq x x ≡ not (isNan x)
+unfolding eq isNan
+self-equal nan = refl
+self-equal (inf true) = refl
+self-equal (inf false) = refl
+self-equal (fin true m e) = rw (eq-eqb (m * up e * down e) (m * up e * down e) refl)
+self-equal (fin false m e) = rw (eq-eqb (m * up e * down e) (m * up e * down e) refl)
+
+module _ (a b d : Vector) (e : d ≡ minus a b) where
+  close-differences : allClose a b ≡ (passes (d .x) && passes (d .y) && passes (d .z)) && not (isNan (d .x) && isNan (d .y) && isNan (d .z))
+  close-differences = rw e (close-by a b)
+
+  pub apart-first : passes (d .x) ≡ false → false ≡ allClose a b
+  apart-first h = sym (close-differences ∙ simp h)
+
+  pub apart-second : passes (d .y) ≡ false → false ≡ allClose a b
+  apart-second h = sym (close-differences ∙ simp (h, and-false))
+
+  pub apart-third : passes (d .z) ≡ false → false ≡ allClose a b
+  apart-third h = sym (close-differences ∙ simp (h, and-false))
+
+  pub none-apart : passes (d .x) ≡ true → passes (d .y) ≡ true → passes (d .z) ≡ true → eq (d .x) (d .x) || eq (d .y) (d .y) || eq (d .z) (d .z) ≡ allClose a b
+  none-apart h k l =
+      let ordered : eq (d .x) (d .x) || eq (d .y) (d .y) || eq (d .z) (d .z) ≡ not (isNan (d .x) && isNan (d .y) && isNan (d .z)) = simp (self-equal (d .x), self-equal (d .y), self-equal (d .z)) (either (isNan (d .x)) (isNan (d .y)) (isNan (d .z))) in
+      ordered ∙ sym (close-differences ∙ simp (h, k, l))
+    where
+      either : (p q r : Bool) → not p || not q || not r ≡ not (p && q && r)
+      either true true r = refl
+      either true false r = refl
+      either false q r = refl
 
 -- ---- finite points are close where the three differences are below EPS
 abbrev pub Finite : Vector → Type 0

@@ -1,9 +1,8 @@
 // A point or direction of three f64. The operations keep the source's names and hand back a new Vector.
 use float::consts::EPS;
-use float::order::max;
-use float::sign::abs;
 ghost use mathlib.Core.Path.{_≡_};
-ghost use lib.Ieee.{lt};
+ghost use mathlib.Core.Bool.{not, _||_};
+ghost use lib.Ieee.{lt, isNan};
 ghost use Rattle.float.specs.Consts.{eps};
 ghost use Rattle.float.specs.Sign.{absolute};
 ghost use Rattle.vector.specs.Vectors.{plus, minus, scaled, allClose};
@@ -45,24 +44,28 @@ impl Vector {
         }
     }
 
-    // Whether the largest of the three absolute differences is below EPS. The last line says so; the
-    // tests before it answer all but a NaN, which max passes over, without a branch on a sign.
+    // Whether the largest of the three absolute differences is below EPS: none is EPS or more, and
+    // not all are NaNs, which f64::max passes over.
     pub fn all_close(self, other: Vector) -> bool
         ensures { λ r. ⌜ r ≡ allClose self other ⌝ }
     {
         let d = self.sub(other);
-        if below_eps(d.x) & below_eps(d.y) & below_eps(d.z) {
-            return true;
-        }
-        if (d.x == d.x) & (d.y == d.y) & (d.z == d.z) {
+        if apart(d.x) {
             return false;
         }
-        max(max(abs(d.x), abs(d.y)), abs(d.z)) < EPS
+        if apart(d.y) {
+            return false;
+        }
+        if apart(d.z) {
+            return false;
+        }
+        (d.x == d.x) | (d.y == d.y) | (d.z == d.z)
     }
 }
 
-fn below_eps(d: f64) -> bool
-    ensures { λ r. ⌜ r ≡ lt (absolute d) eps ⌝ }
+// Whether a difference is EPS or more in magnitude.
+fn apart(d: f64) -> bool
+    ensures { λ r. ⌜ r ≡ not (lt (absolute d) eps || isNan d) ⌝ }
 {
-    (-EPS < d) & (d < EPS)
+    (EPS <= d) | (d <= -EPS)
 }
