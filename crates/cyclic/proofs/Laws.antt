@@ -1,10 +1,10 @@
 -- What a search's answer says, for any closeness and any two rows: a found mapping fits at every point, its offset was tried and no earlier one fits, forward
 -- was tried before reverse; without one no tried offset fits; and how many comparisons there can be. Each follows by induction on the offsets that are tried.
 -- Assumes nothing.
-use Prim.Native.Nat.{ℕ, zero, suc, _+_, _-_, _*_, _≤_, _<_}
+use Prim.Native.Nat.{ℕ, zero, suc, _+_, _*_, _≤_, _<_}
 use native.Mathlib.Nat.{suc-mul, mul-assoc, mul-left-comm, mul-le-mul-right}
 use native.Mathlib.Omega.{arith}
-use mathlib.Core.Path.{_≡_, refl, sym, ap, subst, _∙_}
+use mathlib.Core.Path.{_≡_, refl, sym, subst, _∙_}
 use mathlib.Core.Logic.{_⊎_, inl, inr}
 use mathlib.Core.Bool.{Bool, true, false, _&&_, true≢false}
 use lib.Dec.{ltb}

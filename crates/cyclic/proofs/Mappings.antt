@@ -1,16 +1,16 @@
 -- Where a mapping takes an index, said without `%`; that `image` and `inverse` undo each other; and the image of the next index.
 -- An index is at most steps and an offset below them, so each sum passes steps at most once. Assumes nothing.
 use Prim.Native.Nat.{ℕ, zero, suc, _+_, _-_, _%_, _≤_, _<_}
-use native.Mathlib.Nat.{mod-lt, mod-eq-of-lt, mod-eq-sub-mod, mod-self}
+use native.Mathlib.Nat.{mod-eq-of-lt, mod-eq-sub-mod}
 use native.Mathlib.Omega.{arith}
-use mathlib.Core.Path.{_≡_, refl, sym, ap, subst, _∙_}
+use mathlib.Core.Path.{_≡_, refl, sym, subst, _∙_}
 use mathlib.Core.Logic.{_⊎_, inl, inr}
 use mathlib.Core.Bool.{Bool, true, false, _&&_, true≢false}
-use lib.Dec.{eqb, ltb, leb}
+use lib.Dec.{ltb, leb}
 use borrow.Author.Tests.{ltb-true, ltb-false, leb-true, eq-eqb, ne-eqb}
 use Rattle.cyclic.specs.declared.mapping.CyclicMapping.{CyclicMapping}
 use Rattle.cyclic.specs.declared.mapping.CyclicMapping.the-variants.{Forward, Reverse}
-use Rattle.cyclic.specs.Mapping.{image, inverse, offsetOf, stepsOf, inRows, usable, Usable}
+use Rattle.cyclic.specs.Mapping.{image, inverse, offsetOf, stepsOf, usable, Usable}
 
 -- one of three
 abbrev OneOf : Type 0 → Type 0 → Type 0 → Type 0

@@ -3,11 +3,11 @@
 use Prim.Native.Nat.{ℕ, _+_, _-_, _*_, _/_, _%_, _≤_, _<_}
 use native.Mathlib.Nat.{mul-le-mul-right}
 use native.Mathlib.Omega.{arith}
-use mathlib.Core.Path.{_≡_, refl, sym, ap, fun-ext, _∙_}
+use mathlib.Core.Path.{_≡_, refl, ap, fun-ext}
 use mathlib.Core.Bool.{Bool, true, false, _&&_, or-true}
 use mathlib.Core.Logic.{_⊎_, inl, inr}
 use mathlib.Core.List.{List}
-use lib.Dec.{eqb, ltb, leb}
+use lib.Dec.{eqb, leb}
 use lib.Ieee.{Float}
 use lib.ListN.{length}
 use borrow.Author.Tests.{lt-ltb, le-ltb, leb-true, eq-eqb, ne-eqb}
@@ -17,9 +17,8 @@ use Rattle.refusal.specs.declared.Check.{Check}
 use Rattle.refusal.specs.declared.Check.the-variants.{Passed, Failed}
 use Rattle.refusal.specs.declared.Refusal.{Refusal}
 use Rattle.refusal.specs.declared.Refusal.the-variants.{Length, Coordinate}
-use Rattle.refusal.specs.Refusals.{Answer, ok, refused, numberOf, unless}
-use Rattle.cyclic.specs.declared.mapping.CyclicMapping.{CyclicMapping}
-use Rattle.cyclic.specs.declared.seam.Seam.the-variants.{Joined, Unjoined}
+use Rattle.refusal.specs.Refusals.{ok, refused, numberOf, unless}
+use Rattle.cyclic.specs.declared.seam.Seam.the-variants.{Unjoined}
 use Rattle.cyclic.specs.declared.seam.SeamSearch.{SeamSearch}
 use Rattle.cyclic.proofs.Mappings.{and-both}
 use Rattle.cyclic.specs.Search.{Row, Closeness, rowOf, searched, searchRows, search, rowFits, rowsCheck, newVector}

@@ -49,7 +49,7 @@ impl CyclicMapping {
         }
     }
 
-    // Whether the mapping is one of rows, and the index is of such a row.
+    // Whether the mapping can be a search's answer, and the index is one of its rows'.
     fn usable(self, index: usize) -> bool
         ensures { λ r. ⌜ r ≡ usable self index ⌝ }
     {
@@ -103,6 +103,7 @@ fn reversed(offset: usize, steps: usize, j: usize) -> usize
     (offset + steps - j % steps) % steps
 }
 
+// Whether rows of that many steps can be searched, and have the offset and the index.
 fn in_rows(offset: usize, steps: usize, index: usize) -> bool
     ensures { λ r. ⌜ r ≡ inRows offset steps index ⌝ }
 {

@@ -2,7 +2,6 @@
 use crate::mapping::CyclicMapping;
 use refusal::Check;
 use refusal::Refusal;
-use vector::Vector;
 ghost use mathlib.Core.Path.{_≡_};
 ghost use Prim.Native.Nat.{ℕ, _+_, _*_, _/_, _≤_, _<_};
 ghost use lib.ListN.{length};
@@ -173,6 +172,7 @@ fn search(a: &[f64], b: &[f64]) -> SeamSearch
     search_rows(a, 0, b, 0, 1, n - 1)
 }
 
+// Whether a row is of whole points, and not too many.
 fn row_fits(row: &[f64]) -> bool
     ensures { λ r. ⌜ r ≡ rowFits (now (row .entry)) ⌝ }
 {

@@ -1,7 +1,5 @@
 -- `cyclic::seam::back` meets its contract: the image of the next index is one less, and after 0 the last below steps. Assumes nothing.
-use Prim.Native.Nat.{ℕ, _+_, _-_, _<_}
 use native.Mathlib.Omega.{arith}
-use mathlib.Core.Path.{_≡_}
 use mathlib.Core.Logic.{⊎-elim}
 use borrow.Author.Needs.{needs}
 use Rattle.cyclic.proofs.Mappings.{reverse-next}

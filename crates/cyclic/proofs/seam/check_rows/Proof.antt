@@ -1,5 +1,5 @@
 -- `cyclic::seam::check_rows` meets its contract: both lengths are tested before any coordinate. Assumes nothing.
-use mathlib.Core.Path.{sym, ap₂, _∙_}
+use mathlib.Core.Path.{sym, ap₂}
 use mathlib.Core.Bool.{_&&_}
 use denote.Ref.{now}
 use borrow.Author.Needs.{needs}

@@ -1,7 +1,7 @@
 -- `cyclic::mapping::CyclicMapping::inverse` meets its contract: the cases are those of `inverse`, at the variant that the match found. Assumes nothing.
 use native.Mathlib.Omega.{arith}
 use native.Mathlib.Nat.{mod-lt}
-use mathlib.Core.Path.{sym, _∙_}
+use mathlib.Core.Path.{sym}
 use borrow.Author.Needs.{needs}
 use Rattle.cyclic.proofs.Mappings.{inverse-zero, inverse-other, usable-as, reverse-same}
 use Rattle.cyclic.proofs.mapping.CyclicMapping.inverse.Statement.{statement}
