@@ -1,8 +1,8 @@
 //! The rows of the table.
 
 use crate::clock::{Side, Table};
-use merlontrispa::{Mapping, grid_paths, triangulate_grid};
-use original::{CyclicMapping, ParametricSurfaceTexture, Surface, Vector};
+use merlontrispa::{Mapping, TraceLists, grid_paths, trace_flat, triangulate_grid};
+use original::{CyclicMapping, ParametricSurfaceTexture, Sample, Surface, Vector};
 use std::f64::consts::TAU;
 
 /// Cells along u and along v.
@@ -12,6 +12,7 @@ pub fn run(table: &Table) {
     seams(table);
     meshes(table);
     lines(table);
+    traces(table);
 }
 
 fn seams(table: &Table) {
@@ -108,6 +109,49 @@ fn lines(table: &Table) {
         ),
         Side(|| (), |()| surface.paths(ParametricSurfaceTexture::Grid)),
     );
+}
+
+fn traces(table: &Table) {
+    let grid = plane();
+    let surface = Surface::from_grid(vectors(&grid), STEPS, STEPS);
+    let middle = STEPS as f64 / 2.0;
+    // A spiral whose samples are half a step apart.
+    let spiral = (0..=10_000).map(|i| {
+        let angle = f64::from(i).sqrt();
+        let radius = angle / 4.0;
+        [middle + radius * angle.cos(), middle + radius * angle.sin()]
+    });
+    // From one side of the grid to the opposite one and back.
+    let across = (0..=100).map(|i| {
+        let (u, v) = (f64::from(i % 2) * STEPS as f64, f64::from(i) * 2.5 + 0.1);
+        [u, v]
+    });
+    let rows: [(&str, Vec<_>); 2] = [
+        ("trace, 255 by 255, 10,000 half steps", spiral.collect()),
+        ("trace, 255 by 255, 100 steps across", across.collect()),
+    ];
+    for (name, pairs) in rows {
+        let marks = vec![1; pairs.len()];
+        let samples: Vec<Sample> = pairs.iter().map(|&[u, v]| Some((u, v))).collect();
+        let most = 1_024 * pairs.len();
+        let (mut points, mut starts) = (vec![0.0; 3 * most], vec![0; most]);
+        let (mut sides, mut fractions) = (vec![0; 2 * most], vec![0.0; most]);
+        let mut call = |room: usize| {
+            let lists = TraceLists {
+                points: &mut points[..3 * room],
+                starts: &mut starts[..room],
+                sides: &mut sides[..2 * room],
+                fractions: &mut fractions[..room],
+            };
+            trace_flat(&grid, STEPS, STEPS, pairs.as_flattened(), &marks, lists)
+        };
+        let drawn = call(most).expect("the samples are taken and fit");
+        table.row(
+            name,
+            Side(|| (), |()| call(drawn.points)),
+            Side(|| (), |()| surface.trace(&samples)),
+        );
+    }
 }
 
 /// A grid that nothing joins.

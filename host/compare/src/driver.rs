@@ -14,7 +14,7 @@ pub struct Driver {
 }
 
 impl Driver {
-    /// `cases`, where it is there, is how many random inputs each comparison takes.
+    /// `cases`, where it is there, is how many random inputs a comparison takes.
     pub fn new(seed: u64, cases: Option<u64>) -> Self {
         Self {
             seed,
@@ -23,11 +23,15 @@ impl Driver {
         }
     }
 
+    pub fn seed(&self) -> u64 {
+        self.seed
+    }
+
     pub fn passed(&self) -> u64 {
         self.passed
     }
 
-    /// Holds `library` to `original` on random inputs: `count`, or as many as the command line says.
+    /// Holds `library` to `original` on random inputs: `count`, or what the command line asks for.
     pub fn compare<I: Show, O: Value>(
         &mut self,
         name: &str,
@@ -37,7 +41,7 @@ impl Driver {
         original: impl FnMut(&I) -> O,
     ) -> Compared {
         let mut random = Random::new(self.seed + self.passed);
-        let count = self.cases.unwrap_or(count);
+        let count = self.cases.map_or(count, |cases| asked(cases, count));
         let inputs = (0..count).map(|_| input(&mut random));
         self.compare_each(name, inputs, library, original)
     }
@@ -66,6 +70,16 @@ impl Driver {
         let rate = count as f64 / start.elapsed().as_secs_f64() / 1e6;
         println!("  {name}: {count} inputs, no difference ({rate:.3} million a second)");
         Ok(())
+    }
+}
+
+/// How many inputs a comparison takes that has `count` of its own where `cases` are asked for: one whose
+/// inputs are large, and so few, takes its share of them.
+fn asked(cases: u64, count: u64) -> u64 {
+    if count < 20_000 {
+        (cases * count / 1_000_000).max(count)
+    } else {
+        cases
     }
 }
 

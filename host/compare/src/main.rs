@@ -2,7 +2,8 @@
 //!
 //!     compare [--seed NUMBER] [--cases NUMBER] [LAYER..]
 //!
-//! `--cases` says how many random inputs each comparison takes, in the place of a number of its own.
+//! `--cases` says how many random inputs each comparison takes, in the place of a number of its own; one
+//! on large grids takes its share of them.
 //! The first difference ends the run: the inputs are printed by their bits, and the exit status is 1.
 //! Where the sources of the original are absent nothing is compared, and the exit status is 2.
 
@@ -29,9 +30,13 @@ mod run;
 #[cfg(larnt)]
 mod seams;
 #[cfg(larnt)]
+mod traces;
+#[cfg(larnt)]
 mod value;
 #[cfg(larnt)]
 mod vectors;
+#[cfg(larnt)]
+mod walks;
 
 #[cfg(larnt)]
 fn main() -> ExitCode {

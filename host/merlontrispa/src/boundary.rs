@@ -3,7 +3,7 @@
 //! A `safe fn` takes and hands back numbers only, so that no argument can break it. A function that
 //! takes a slice takes its pointer and its length, and has its safe form below the declarations.
 
-use crate::{Drawn, Lines, Refusal, Vector};
+use crate::{Drawn, Lines, Refusal, TraceLists, Vector};
 
 /// An index, or the number of a refusal.
 #[repr(C)]
@@ -145,6 +145,25 @@ unsafe extern "C" {
         flipped: *mut usize,
         flipped_len: usize,
     ) -> MeshAnswer;
+
+    fn mt_trace_flat(
+        grid: *const f64,
+        grid_len: usize,
+        m: usize,
+        n: usize,
+        pairs: *const f64,
+        pairs_len: usize,
+        marks: *const u8,
+        marks_len: usize,
+        points: *mut f64,
+        points_len: usize,
+        starts: *mut usize,
+        starts_len: usize,
+        sides: *mut usize,
+        sides_len: usize,
+        fractions: *mut f64,
+        fractions_len: usize,
+    ) -> PathsAnswer;
 }
 
 pub fn new_vector(a: &[f64], b: &[f64]) -> SeamAnswer {
@@ -232,6 +251,43 @@ pub fn triangulate_grid(
             triangles.len(),
             flipped.as_mut_ptr(),
             flipped.len(),
+        )
+    }
+}
+
+pub fn trace_flat(
+    grid: &[f64],
+    m: usize,
+    n: usize,
+    pairs: &[f64],
+    marks: &[u8],
+    lists: TraceLists<'_>,
+) -> PathsAnswer {
+    let TraceLists {
+        points,
+        starts,
+        sides,
+        fractions,
+    } = lists;
+    // SAFETY: each pointer and length are those of a slice that is lent for the call.
+    unsafe {
+        mt_trace_flat(
+            grid.as_ptr(),
+            grid.len(),
+            m,
+            n,
+            pairs.as_ptr(),
+            pairs.len(),
+            marks.as_ptr(),
+            marks.len(),
+            points.as_mut_ptr(),
+            points.len(),
+            starts.as_mut_ptr(),
+            starts.len(),
+            sides.as_mut_ptr(),
+            sides.len(),
+            fractions.as_mut_ptr(),
+            fractions.len(),
         )
     }
 }

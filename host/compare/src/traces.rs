@@ -1,0 +1,532 @@
+//! The trace of flat samples against the original's, bit by bit, with the sides and fractions of its points.
+
+use crate::driver::{Compared, Driver};
+use crate::grids::{Grid, any_grid, any_steps};
+use crate::inputs::{EPS, near};
+use crate::lines::{coordinates, firsts};
+use crate::lists::{fill, floats, grid_refusal, numbers, spoil};
+use crate::random::Random;
+use crate::seams::vectors;
+use crate::value::{Show, Value};
+use crate::walks::{Need, replay};
+use merlontrispa::{Drawn, Refusal, TraceLists, trace_flat};
+use original::{Made, Sample, Surface, Vector};
+use std::rc::Rc;
+
+/// The largest magnitude of a sample's coordinate.
+const FAR: f64 = 1_048_576.0;
+
+pub fn compare(driver: &mut Driver) -> Compared {
+    for (m, n) in [(1, 1), (2, 1)] {
+        let scene = Rc::new(Scene::new(bent(m, n)));
+        driver.compare_each(
+            &format!("trace_flat, each step between edges of {m} by {n} cells"),
+            steps_between_edges(&scene),
+            library,
+            original,
+        )?;
+    }
+    let mut random = Random::new(driver.seed());
+    let few = scenes(&mut random, 200, |random| 1 + random.below(4) as usize);
+    driver.compare(
+        "trace_flat, few cells",
+        2_000_000,
+        |random| traced(random, &few),
+        library,
+        original,
+    )?;
+    let many = scenes(&mut random, 60, any_steps);
+    driver.compare(
+        "trace_flat, up to 255 by 255 cells",
+        100_000,
+        |random| traced(random, &many),
+        library,
+        original,
+    )?;
+    let most = scenes(&mut random, 2, |_| 255);
+    driver.compare(
+        "trace_flat, 255 by 255 cells",
+        3_000,
+        |random| traced(random, &most),
+        library,
+        original,
+    )?;
+    driver.compare("trace_flat, refusals", 200_000, faulty, library, original)
+}
+
+/// A grid in the library's form and, where it is taken, in the original's.
+struct Scene {
+    grid: Grid,
+    points: Vec<Vector>,
+    surface: Option<Surface>,
+}
+
+impl Scene {
+    fn new(grid: Grid) -> Self {
+        let points = vectors(&grid.numbers);
+        let taken = grid_refusal(&grid, |_, _| true).is_none();
+        let surface = taken.then(|| Surface::from_grid(points.clone(), grid.u_steps, grid.v_steps));
+        Self {
+            grid,
+            points,
+            surface,
+        }
+    }
+}
+
+/// How long the lists are that are lent.
+#[derive(Debug, Clone, Copy)]
+struct Room {
+    points: usize,
+    starts: usize,
+    sides: usize,
+    fractions: usize,
+}
+
+struct Input {
+    scene: Rc<Scene>,
+    pairs: Vec<f64>,
+    marks: Vec<u8>,
+    room: Room,
+    /// What the original's walk makes, unless the call is refused before it.
+    walk: Result<Vec<Made>, Refusal>,
+}
+
+impl Input {
+    fn new(
+        scene: &Rc<Scene>,
+        pairs: Vec<f64>,
+        marks: Vec<u8>,
+        room: impl FnOnce(Need) -> Room,
+    ) -> Self {
+        let walk = match refusal(scene, &pairs, &marks) {
+            Some(refusal) => Err(refusal),
+            None => {
+                let surface = scene.surface.as_ref().expect("the grid is taken");
+                Ok(surface.walk(&samples(&pairs, &marks)))
+            }
+        };
+        let need = walk.as_deref().map_or_else(|_| Need::default(), Need::of);
+        Self {
+            scene: Rc::clone(scene),
+            pairs,
+            marks,
+            room: room(need),
+            walk,
+        }
+    }
+}
+
+impl Show for Input {
+    fn show(&self) -> String {
+        let (grid, pairs) = (self.scene.grid.show(), self.pairs.show());
+        format!(
+            "{grid}, pairs {pairs}, marks {:?}, {:?}",
+            self.marks, self.room
+        )
+    }
+}
+
+/// The samples in the original's form.
+fn samples(pairs: &[f64], marks: &[u8]) -> Vec<Sample> {
+    let pairs = pairs.as_chunks().0.iter();
+    pairs
+        .zip(marks)
+        .map(|(&[u, v], &mark)| (mark == 1).then_some((u, v)))
+        .collect()
+}
+
+/// The first of 1, 2, 4, 9 and 10 that applies.
+fn refusal(scene: &Scene, pairs: &[f64], marks: &[u8]) -> Option<Refusal> {
+    let of_grid = grid_refusal(&scene.grid, |_, _| true);
+    let lengths = pairs.len() != 2 * marks.len() || marks.len() > 65_537;
+    match of_grid {
+        Some(Refusal::Steps) => return Some(Refusal::Steps),
+        _ if lengths => return Some(Refusal::Length),
+        Some(refusal) => return Some(refusal),
+        None => {}
+    }
+    if marks.iter().any(|&mark| mark > 1) {
+        return Some(Refusal::Mark);
+    }
+    let near_enough = |x: f64| x.is_finite() && x.abs() <= FAR;
+    let placed = samples(pairs, marks).into_iter().flatten();
+    let far = placed
+        .into_iter()
+        .any(|(u, v)| !near_enough(u) || !near_enough(v));
+    far.then_some(Refusal::Sample)
+}
+
+/// An answer, the four lists after the call, and the points made again from p, q and t.
+struct Output {
+    told: Result<Drawn, Refusal>,
+    points: Vec<f64>,
+    starts: Vec<usize>,
+    sides: Vec<usize>,
+    fractions: Vec<f64>,
+    remade: Vec<f64>,
+}
+
+impl Output {
+    /// The lists before a call.
+    fn before(room: Room) -> Self {
+        Self {
+            told: Err(Refusal::Full),
+            points: floats(room.points),
+            starts: numbers(room.starts),
+            sides: numbers(room.sides),
+            fractions: floats(room.fractions),
+            remade: Vec::new(),
+        }
+    }
+
+    fn clear(&mut self) {
+        self.points.fill(0.0);
+        self.starts.fill(0);
+        self.sides.fill(0);
+        self.fractions.fill(0.0);
+    }
+}
+
+impl Show for Output {
+    fn show(&self) -> String {
+        let lists = [self.points.show(), self.starts.show()];
+        let sides = [self.sides.show(), self.fractions.show()];
+        let (lists, sides, remade) = (lists.join("; "), sides.join("; "), self.remade.show());
+        format!(
+            "{}; {lists}; {sides}; made again {remade}",
+            self.told.show()
+        )
+    }
+}
+
+impl Value for Output {
+    fn same(&self, other: &Self) -> bool {
+        self.told.same(&other.told)
+            && self.points.same(&other.points)
+            && self.starts == other.starts
+            && self.sides == other.sides
+            && self.fractions.same(&other.fractions)
+            && self.remade.same(&other.remade)
+    }
+}
+
+fn library(input: &Input) -> Output {
+    let Scene { grid, points, .. } = &*input.scene;
+    let mut output = Output::before(input.room);
+    output.told = trace_flat(
+        &grid.numbers,
+        grid.u_steps,
+        grid.v_steps,
+        &input.pairs,
+        &input.marks,
+        TraceLists {
+            points: &mut output.points,
+            starts: &mut output.starts,
+            sides: &mut output.sides,
+            fractions: &mut output.fractions,
+        },
+    );
+    if let Ok(drawn) = output.told {
+        let made = output.sides.as_chunks().0.iter().zip(&output.fractions);
+        let made = made.take(drawn.points).map(|(&[p, q], &t)| {
+            let (p, q) = (points[p], points[q]);
+            p.mul_scalar(1.0 - t).add(q.mul_scalar(t))
+        });
+        let made: Vec<_> = made.collect();
+        output.remade = coordinates(&made).collect();
+    }
+    output
+}
+
+fn original(input: &Input) -> Output {
+    let mut output = Output::before(input.room);
+    let walk = match &input.walk {
+        Ok(walk) => walk,
+        Err(refusal) => {
+            output.told = Err(*refusal);
+            return output;
+        }
+    };
+    let surface = input.scene.surface.as_ref().expect("the grid is taken");
+    let paths = surface.trace(&samples(&input.pairs, &input.marks));
+    let stops = walk.iter().any(|made| made.point.is_none());
+    assert_eq!(
+        paths.is_none(),
+        stops,
+        "the original panics where its walk has no step"
+    );
+    let Room {
+        points,
+        starts,
+        sides,
+        fractions,
+    } = input.room;
+    match replay(walk, (points / 3).min(sides / 2).min(fractions), starts) {
+        Err(refusal) => {
+            output.told = Err(refusal);
+            output.clear();
+        }
+        Ok(sides) => {
+            let paths = paths.expect("the walk has come to its end");
+            output.told = Ok(Drawn {
+                points: paths.total_len(),
+                lines: paths.len(),
+            });
+            output.remade = paths.iter_paths().flat_map(coordinates).collect();
+            fill(&mut output.points, output.remade.iter().copied());
+            fill(&mut output.starts, firsts(&paths));
+            fill(
+                &mut output.sides,
+                sides.iter().flat_map(|side| [side.p, side.q]),
+            );
+            fill(&mut output.fractions, sides.iter().map(|side| side.t));
+        }
+    }
+    output
+}
+
+/// A grid that nothing joins.
+fn bent(u_steps: usize, v_steps: usize) -> Grid {
+    Grid::new(u_steps, v_steps, |i| {
+        let (u, v) = (i / (v_steps + 1), i % (v_steps + 1));
+        [u as f64 + 0.1, v as f64 * 1.7, (3 * u + v * v) as f64]
+    })
+}
+
+/// Grids of all kinds, now and then with coordinates at their limits.
+fn scenes(
+    random: &mut Random,
+    count: usize,
+    steps: impl Fn(&mut Random) -> usize,
+) -> Vec<Rc<Scene>> {
+    let mut scene = |_| {
+        let (m, n) = (steps(random), steps(random));
+        let mut grid = any_grid(random, m, n);
+        if random.below(8) == 0 {
+            let scale = random.of(&[EPS, 1e-12, 4_294_967_296.0, 1e-300]);
+            grid.numbers.iter_mut().for_each(|x| *x *= scale);
+        }
+        Rc::new(Scene::new(grid))
+    };
+    (0..count).map(&mut scene).collect()
+}
+
+/// The edges of an axis of so many steps.
+fn edges(steps: usize) -> Vec<f64> {
+    let top = steps as f64;
+    let around = |x: f64| {
+        [
+            (x - EPS).next_down(),
+            x - EPS,
+            x,
+            x + EPS,
+            (x + EPS).next_up(),
+        ]
+    };
+    let inside = [-0.0, 0.25, 0.5, top - 0.25, 1.0];
+    let outside = [-100.0, -0.5, top + 0.5, 300.0];
+    [
+        around(0.0).to_vec(),
+        around(top).to_vec(),
+        inside.into(),
+        outside.into(),
+    ]
+    .concat()
+}
+
+/// Each step from one point at edges of both axes to another, with room to spare.
+fn steps_between_edges(scene: &Rc<Scene>) -> impl Iterator<Item = Input> {
+    let (us, vs) = (edges(scene.grid.u_steps), edges(scene.grid.v_steps));
+    let ends: Vec<_> = us
+        .iter()
+        .flat_map(|&u| vs.iter().map(move |&v| [u, v]))
+        .collect();
+    let count = ends.len();
+    (0..count * count).map(move |i| {
+        let pairs = [ends[i / count], ends[i % count]].concat();
+        Input::new(scene, pairs, vec![1, 1], |need| spare(need, i % 3))
+    })
+}
+
+/// Lists that hold what is needed and a little more.
+fn spare(need: Need, more: usize) -> Room {
+    Room {
+        points: 3 * need.points + more,
+        starts: need.lines + more,
+        sides: 2 * need.points + more,
+        fractions: need.points + more,
+    }
+}
+
+/// Samples on one of the scenes, and lists that just hold what is needed, just do not, or have more room.
+fn traced(random: &mut Random, scenes: &[Rc<Scene>]) -> Input {
+    let scene = &scenes[random.below(scenes.len() as u64) as usize];
+    let (pairs, marks) = any_samples(random, scene.grid.u_steps, scene.grid.v_steps);
+    Input::new(scene, pairs, marks, |need| any_room(random, need))
+}
+
+/// Room that is mostly enough; where it is not, one list is the shortest.
+fn any_room(random: &mut Random, need: Need) -> Room {
+    let mut more = [0; 4].map(|_| random.below(4) as usize);
+    let mut least = [need.points, need.lines, need.points, need.points];
+    if random.below(3) == 0 {
+        let list = random.below(4) as usize;
+        more[list] = 0;
+        least[list] = match random.below(4) {
+            0 => random.below(least[list] as u64 + 1) as usize,
+            _ => least[list].saturating_sub(random.below(3) as usize),
+        };
+    }
+    let [points, starts, sides, fractions] = least;
+    Room {
+        points: 3 * points + more[0],
+        starts: starts + more[1],
+        sides: 2 * sides + more[2],
+        fractions: fractions + more[3],
+    }
+}
+
+/// 1 to 300 samples, mostly few, with breaks. The original takes a millisecond for a step that goes as
+/// far away as it may, so that such steps are few.
+fn any_samples(random: &mut Random, m: usize, n: usize) -> (Vec<f64>, Vec<u8>) {
+    let count = 1 + match random.below(256) {
+        0 => random.below(300),
+        1..16 => random.below(24),
+        _ => random.below(5),
+    };
+    let far = match random.below(512) {
+        0 if count < 8 => FAR,
+        1..100 => 2_000.0,
+        _ => 300.0,
+    };
+    let (mut pairs, mut marks) = (Vec::new(), Vec::new());
+    let mut last = [0.5, 0.5];
+    for _ in 0..count {
+        last = any_sample(random, last, [m, n], far);
+        let marked = random.below(12) != 0;
+        if marked {
+            pairs.extend(last);
+        } else {
+            pairs.extend(random.of(&[last, [f64::NAN; 2], [f64::INFINITY, 3.0 * FAR]]));
+        }
+        marks.push(u8::from(marked));
+    }
+    (pairs, marks)
+}
+
+/// A sample that stands in some relation to the one before it, to the grid lines or to the diagonals.
+fn any_sample(random: &mut Random, last: [f64; 2], steps: [usize; 2], far: f64) -> [f64; 2] {
+    let ([u, v], [m, n]) = (last, steps);
+    let pair = match random.below(16) {
+        0 => last,
+        1 => [u, any_coordinate(random, n, far)],
+        2 => [any_coordinate(random, m, far), v],
+        3 => [near(random, u), near(random, v)],
+        4 | 5 => [u + random.unit() - 0.5, v + random.unit() - 0.5],
+        6 => {
+            let sum = random.whole(0, (m + n) as i64) as f64;
+            let u = any_coordinate(random, m, far);
+            [u, near(random, sum - u)]
+        }
+        7 => {
+            let corner = [random.below(m as u64 + 1), random.below(n as u64 + 1)];
+            [2.0 * corner[0] as f64 - u, 2.0 * corner[1] as f64 - v]
+        }
+        _ => [
+            any_coordinate(random, m, far),
+            any_coordinate(random, n, far),
+        ],
+    };
+    pair.map(|x| x.clamp(-far, far))
+}
+
+/// A coordinate on, near or between the grid lines, at or past a border, or far away.
+fn any_coordinate(random: &mut Random, steps: usize, far: f64) -> f64 {
+    let top = steps as f64;
+    let line = random.below(steps as u64 + 1) as f64;
+    match random.below(16) {
+        0 => line,
+        1 => random.of(&[-0.0, line]),
+        2 | 3 => near(random, line),
+        4 => line + random.of(&[0.25, 0.5, 0.75]),
+        5 | 6 => {
+            let border = random.of(&[-EPS, top + EPS]);
+            random.of(&[border.next_down(), border, border.next_up()])
+        }
+        7 => random.of(&[-far, far, far.next_down(), -far / 2.0]),
+        8 => random.of(&[-1.0, 1.0]) * far * random.unit(),
+        9 => random.of(&[-1.0, -0.5, top + 0.5, top + 1.0]),
+        10 => (top + 2.0) * random.unit() - 1.0,
+        _ => top * random.unit(),
+    }
+}
+
+/// Any set of the faults that are refused before the walk, or none.
+fn faulty(random: &mut Random) -> Input {
+    let (m, n) = (1 + random.below(3) as usize, 1 + random.below(3) as usize);
+    let mut grid = any_grid(random, m, n);
+    if random.below(2) == 0 {
+        spoil(random, &mut grid);
+    }
+    let (mut pairs, mut marks) = any_samples(random, m, n);
+    if random.below(4) == 0 {
+        let place = random.below(marks.len() as u64) as usize;
+        marks[place] = random.of(&[2, 3, 128, 255]);
+    }
+    if random.below(3) == 0 {
+        let place = random.below(pairs.len() as u64) as usize;
+        let past = FAR.next_up();
+        pairs[place] = match random.below(256) {
+            0 => random.of(&[FAR, -FAR]),
+            _ => random.of(&[past, -past, f64::INFINITY, f64::NAN, f64::MAX]),
+        };
+    }
+    match random.below(16) {
+        0 => pairs.truncate(pairs.len() - 1),
+        1 => pairs.push(0.0),
+        2 => pairs.extend([0.0, 0.0]),
+        3 => marks.push(1),
+        _ => {}
+    }
+    if random.below(512) == 0 {
+        let count = random.of(&[65_536, 65_537, 65_538]);
+        marks.resize(count, 0);
+        pairs.resize(2 * count, 0.0);
+    }
+    Input::new(&Rc::new(Scene::new(grid)), pairs, marks, |need| {
+        any_room(random, need)
+    })
+}
+
+#[cfg(test)]
+mod tests {
+    use super::*;
+
+    /// How often each refusal is told, and at 0 how often there is none.
+    fn refusals(inputs: impl Iterator<Item = Input>) -> [u32; 13] {
+        let mut counts = [0; 13];
+        for input in inputs {
+            let number = original(&input).told.map_or_else(Refusal::number, |_| 0);
+            counts[usize::from(number)] += 1;
+        }
+        counts
+    }
+
+    #[test]
+    fn walks_end_in_each_way() {
+        let mut random = Random::new(1);
+        let few = scenes(&mut random, 50, |random| 1 + random.below(4) as usize);
+        let counts = refusals((0..20_000).map(|_| traced(&mut random, &few)));
+        let [drawn, no_step, full] = [0, 11, 12].map(|number| counts[number]);
+        assert!(drawn > 5_000 && no_step > 50 && full > 1_000, "{counts:?}");
+    }
+
+    #[test]
+    fn each_refusal_comes_before_the_walk() {
+        let mut random = Random::new(1);
+        let counts = refusals((0..20_000).map(|_| faulty(&mut random)));
+        let least = [0, 1, 2, 4, 9, 10].map(|number| counts[number]);
+        assert!(least.iter().all(|&count| count > 500), "{counts:?}");
+    }
+}

@@ -1,0 +1,53 @@
+use crate::boundary;
+use crate::lines::Drawn;
+use crate::refusal::Refusal;
+
+/// The lists that a trace is written to. A point takes three numbers of `points`, two of `sides` and one
+/// of `fractions`; a remainder too small for one holds none.
+#[derive(Debug)]
+pub struct TraceLists<'a> {
+    /// x, y and z of each point.
+    pub points: &'a mut [f64],
+    /// The number of the first point of each line.
+    pub starts: &'a mut [usize],
+    /// The numbers of the two grid points p and q that each point was made from.
+    pub sides: &'a mut [usize],
+    /// How far each point lies from p to q: t in `(1 - t) * p + t * q`.
+    pub fractions: &'a mut [f64],
+}
+
+/// The lines that a curve draws where it crosses the sides of a grid's triangles.
+///
+/// The curve is a list of samples: `pairs` has u and v of each, and `marks` is 1 for a point and 0 for
+/// a break, whose pair is not looked at. All places of the lists past what is drawn become zero.
+///
+/// # Errors
+/// 1, 2, 4, 9 and 10, which leave the lists as they were; 11 and 12, which leave them all zero.
+///
+/// ```
+/// use merlontrispa::{TraceLists, trace_flat};
+///
+/// let grid = [0.0, 0.0, 0.0, 0.0, 1.0, 0.0, 1.0, 0.0, 0.0, 1.0, 1.0, 5.0];
+/// let (mut points, mut starts) = ([0.0; 6], [0; 1]);
+/// let (mut sides, mut fractions) = ([0; 4], [0.0; 2]);
+/// let lists = TraceLists {
+///     points: &mut points,
+///     starts: &mut starts,
+///     sides: &mut sides,
+///     fractions: &mut fractions,
+/// };
+/// let drawn = trace_flat(&grid, 1, 1, &[0.0, 0.25, 0.75, 0.25], &[1, 1], lists)?;
+/// assert_eq!((drawn.points, drawn.lines), (2, 1));
+/// assert_eq!((sides, fractions), ([0, 1, 2, 1], [0.25, 0.25]));
+/// # Ok::<(), merlontrispa::Refusal>(())
+/// ```
+pub fn trace_flat(
+    grid: &[f64],
+    u_steps: usize,
+    v_steps: usize,
+    pairs: &[f64],
+    marks: &[u8],
+    lists: TraceLists<'_>,
+) -> Result<Drawn, Refusal> {
+    boundary::trace_flat(grid, u_steps, v_steps, pairs, marks, lists).into()
+}
