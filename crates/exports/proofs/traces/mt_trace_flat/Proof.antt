@@ -26,14 +26,16 @@ same-length-4 c = search needs
 returns : tie.Need-returns
 returns c =
     let e = c .before .before .before .before .before .before .before .before .before .trace-flat .ensures in
-    let t = e .0 in
-    (record {
-      answer = c .trace-to-c .ensures ∙ ap traceAnswer (t .answer);
-      points = t .points;
-      starts = t .starts;
-      sides = t .sides;
-      fractions = t .fractions;
-    }, e .1)
+    let t = e .0 in (
+      record {
+        answer = c .trace-to-c .ensures ∙ ap traceAnswer (t .answer);
+        points = t .points;
+        starts = t .starts;
+        sides = t .sides;
+        fractions = t .fractions;
+      },
+      e .1,
+    )
 
 pub mt-trace-flat-spec : {M : Type 1} → statement M
 mt-trace-flat-spec =
