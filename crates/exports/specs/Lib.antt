@@ -3,4 +3,5 @@ pub mod Floats
 pub mod Lines
 pub mod Meshes
 pub mod Seams
+pub mod Textures
 pub mod Vectors

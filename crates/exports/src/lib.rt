@@ -4,4 +4,5 @@ pub mod floats;
 pub mod lines;
 pub mod meshes;
 pub mod seams;
+pub mod textures;
 pub mod vectors;
