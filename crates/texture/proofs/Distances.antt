@@ -240,8 +240,7 @@ sampled t m n ray i cosine sine e =
     let there = unless (isThere (planOf t m n) ray i) NotThere Passed in
     let after = unless (directionFits cosine sine) Direction there in
     let a = answered (planCheck t m n after) e in
-    let b = checks t m n after (a .0) in
-    (
+    let b = checks t m n after (a .0) in (
       steps-known m n (b .0),
       sym (plan-ok t m n (sym (b .0)) refl (sym (b .1)) refl refl refl (b .2) refl refl),
       unless-passed (directionFits cosine sine) Direction there (b .3) .0,

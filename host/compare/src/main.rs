@@ -29,6 +29,8 @@ mod run;
 #[cfg(larnt)]
 mod seams;
 #[cfg(larnt)]
+mod textures;
+#[cfg(larnt)]
 mod value;
 #[cfg(larnt)]
 mod vectors;

@@ -1,7 +1,7 @@
 //! The command line, and the layers in order.
 
 use crate::driver::{Compared, Driver};
-use crate::{floats, lines, meshes, seams, vectors};
+use crate::{floats, lines, meshes, seams, textures, vectors};
 use std::process::ExitCode;
 
 const SEED: u64 = 20_260_526;
@@ -9,12 +9,13 @@ const SEED: u64 = 20_260_526;
 /// A layer's name and its comparisons.
 type Layer = (&'static str, fn(&mut Driver) -> Compared);
 
-const LAYERS: [Layer; 5] = [
+const LAYERS: [Layer; 6] = [
     ("float", floats::compare),
     ("vector", vectors::compare),
     ("path", lines::compare),
     ("cyclic", seams::compare),
     ("mesh", meshes::compare),
+    ("texture", textures::compare),
 ];
 
 /// What the command line asks for.

@@ -18,10 +18,12 @@ mod lines;
 mod mapping;
 mod mesh;
 mod refusal;
+mod texture;
 mod vector;
 
 pub use lines::{Drawn, Lines, grid_paths};
 pub use mapping::{Mapping, Seam};
 pub use mesh::{Mesh, Seams, Triangulation, triangulate_grid};
 pub use refusal::Refusal;
+pub use texture::{Plan, Texture};
 pub use vector::Vector;
