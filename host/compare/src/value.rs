@@ -1,6 +1,6 @@
 //! What is compared and how it is shown: floats by their bits, and any NaN with any NaN.
 
-use merlontrispa::{Drawn, Mapping, Refusal, Seam, Triangulation, Vector};
+use merlontrispa::{Drawn, Mapping, Plan, Refusal, Seam, Triangulation, Vector};
 use std::cmp::Ordering;
 
 pub trait Show {
@@ -46,6 +46,7 @@ plain!(
     Ordering,
     Drawn,
     Mapping,
+    Plan,
     Refusal,
     Seam,
     Triangulation

@@ -72,7 +72,61 @@ pub struct Part {
     pub length: usize,
 }
 
+/// Rays and samples per ray, or the number of a refusal.
+#[repr(C)]
+pub struct RayCounts {
+    pub refusal: u8,
+    pub rays: usize,
+    pub samples: usize,
+}
+
+/// The angle of a sample, or the number of a refusal.
+#[repr(C)]
+pub struct RayAngle {
+    pub refusal: u8,
+    pub angle: f64,
+}
+
+/// The point of a sample, or the number of a refusal.
+#[repr(C)]
+pub struct RayPoint {
+    pub refusal: u8,
+    pub u: f64,
+    pub v: f64,
+}
+
 unsafe extern "C" {
+    pub safe fn mt_plan(
+        kind: u8,
+        spacing: f64,
+        twist: f64,
+        arms: usize,
+        m: usize,
+        n: usize,
+    ) -> RayCounts;
+    pub safe fn mt_angle(
+        kind: u8,
+        spacing: f64,
+        twist: f64,
+        arms: usize,
+        m: usize,
+        n: usize,
+        ray: usize,
+        sample: usize,
+    ) -> RayAngle;
+    pub safe fn mt_sample_point(
+        kind: u8,
+        spacing: f64,
+        twist: f64,
+        arms: usize,
+        m: usize,
+        n: usize,
+        ray: usize,
+        sample: usize,
+        cosine: f64,
+        sine: f64,
+    ) -> RayPoint;
+
     pub safe fn mt_abs(x: f64) -> f64;
     pub safe fn mt_is_finite(x: f64) -> bool;
     pub safe fn mt_at_most(x: f64, top: f64) -> bool;

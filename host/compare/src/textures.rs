@@ -1,0 +1,286 @@
+//! Plans, angles and sample points of textures against the original's: its counts, and the lines that it
+//! draws, which are traced here by itself from the library's samples.
+
+use crate::driver::{Compared, Driver};
+use crate::grids::{Grid, any_grid};
+use crate::inputs::{EPS, any, whole};
+use crate::lines::coordinates;
+use crate::random::Random;
+use crate::seams::vectors;
+use crate::value::Show;
+use merlontrispa::{Plan, Refusal, Texture};
+use original::{
+    ParametricSurfaceTexture, Paths, Surface, Vector, radial_sample_count, spiral_sample_count,
+    texture_spacing,
+};
+use std::f64::consts::TAU;
+
+const SPACINGS: [f64; 19] = [
+    0.0,
+    -0.0,
+    -1.0,
+    f64::NAN,
+    f64::INFINITY,
+    f64::NEG_INFINITY,
+    5e-324,
+    EPS.next_down(),
+    EPS,
+    EPS.next_up(),
+    0.01,
+    0.05f64.next_down(),
+    0.05,
+    0.05f64.next_up(),
+    0.5f64.next_down(),
+    0.5,
+    0.5f64.next_up(),
+    1e9,
+    f64::MAX,
+];
+
+const TWISTS: [f64; 14] = [
+    0.0,
+    -0.0,
+    1.0,
+    -1.0,
+    5e-324,
+    64.0,
+    -64.0,
+    64f64.next_up(),
+    -64f64.next_up(),
+    64f64.next_down(),
+    1e300,
+    f64::INFINITY,
+    f64::NEG_INFINITY,
+    f64::NAN,
+];
+
+const ARMS: [usize; 6] = [0, 1, 2, 64, 65, usize::MAX];
+
+const STEPS: [usize; 7] = [0, 1, 2, 3, 254, 255, 256];
+
+/// A texture on a surface of so many cells.
+struct Input {
+    texture: Texture,
+    m: usize,
+    n: usize,
+}
+
+impl Show for Input {
+    fn show(&self) -> String {
+        let numbers = match self.texture {
+            Texture::Grid => "grid".into(),
+            Texture::Swirl { spacing, twist } => {
+                format!("swirl {}, {}", spacing.show(), twist.show())
+            }
+            Texture::Spiral { spacing, arms } => format!("spiral {}, {arms}", spacing.show()),
+        };
+        format!("{numbers}, M {}, N {}", self.m, self.n)
+    }
+}
+
+/// A texture on a grid.
+struct Scene {
+    texture: Texture,
+    grid: Grid,
+}
+
+impl Show for Scene {
+    fn show(&self) -> String {
+        let texture = self.texture;
+        let (m, n) = (self.grid.u_steps, self.grid.v_steps);
+        format!("{}, {}", Input { texture, m, n }.show(), self.grid.show())
+    }
+}
+
+pub fn compare(driver: &mut Driver) -> Compared {
+    let radii = radii();
+    let library = |input: &Input| input.texture.plan(input.m, input.n);
+    let original = |input: &Input| original_plan(&radii, input);
+    driver.compare_each("plan, edges", edges(), library, original)?;
+    driver.compare("plan", 1_000_000, any_input, library, original)?;
+    driver.compare(
+        "swirls and spirals, drawn",
+        4_000,
+        any_scene,
+        library_lines,
+        original_lines,
+    )
+}
+
+/// The radius of each number of steps, by the original.
+fn radii() -> Vec<f64> {
+    let radius = |steps: usize| {
+        let grid = vec![Vector::new(0.0, 0.0, 0.0); 2 * (steps + 1)];
+        Surface::from_grid(grid, steps, 1).texture_center_radius().1
+    };
+    std::iter::once(0.0).chain((1..=255).map(radius)).collect()
+}
+
+/// The counts of the original, and 01's refusals.
+fn original_plan(radii: &[f64], input: &Input) -> Result<Plan, Refusal> {
+    let fits = |steps: usize| (1..=255).contains(&steps);
+    if !fits(input.m) || !fits(input.n) {
+        return Err(Refusal::Steps);
+    }
+    let radius = radii[input.m.max(input.n)];
+    let (rays, samples) = match input.texture {
+        Texture::Grid => (0, 0),
+        Texture::Swirl { spacing, twist } => {
+            if !twist.is_finite() || twist.abs() > 64.0 {
+                return Err(Refusal::Texture);
+            }
+            let spacing = texture_spacing(spacing);
+            let rays = (TAU * radius / spacing).ceil().max(1.0) as usize;
+            (rays, radial_sample_count(radius, spacing, twist))
+        }
+        Texture::Spiral { spacing, arms } => {
+            if arms > 64 {
+                return Err(Refusal::Texture);
+            }
+            let spacing = texture_spacing(spacing);
+            let turns = (radius / spacing).ceil().max(1.0);
+            (arms.max(1), spiral_sample_count(radius, spacing, turns))
+        }
+    };
+    if rays > 65_536 || samples > 65_536 {
+        return Err(Refusal::Count);
+    }
+    Ok(Plan { rays, samples })
+}
+
+fn surface(grid: &Grid) -> Surface {
+    Surface::from_grid(vectors(&grid.numbers), grid.u_steps, grid.v_steps)
+}
+
+/// The numbers of each line, or nothing where the original panics.
+fn numbers(paths: Option<Paths<Vector>>) -> Vec<Vec<f64>> {
+    paths.map_or_else(
+        || vec![vec![f64::NAN]],
+        |paths| {
+            paths
+                .iter_paths()
+                .map(|line| coordinates(line).collect())
+                .collect()
+        },
+    )
+}
+
+/// What the original draws.
+fn original_lines(scene: &Scene) -> Vec<Vec<f64>> {
+    let texture = match scene.texture {
+        Texture::Grid => ParametricSurfaceTexture::Grid,
+        Texture::Swirl { spacing, twist } => ParametricSurfaceTexture::Swirl { spacing, twist },
+        Texture::Spiral { spacing, arms } => ParametricSurfaceTexture::Spiral { spacing, arms },
+    };
+    numbers(surface(&scene.grid).paths(texture))
+}
+
+/// What the original traces from the library's samples, ray by ray.
+fn library_lines(scene: &Scene) -> Vec<Vec<f64>> {
+    let Scene { texture, ref grid } = *scene;
+    let (m, n) = (grid.u_steps, grid.v_steps);
+    let plan = texture.plan(m, n).expect("the scenes are planned");
+    let surface = surface(grid);
+    let sample = |ray, i| {
+        let angle = texture.angle(m, n, ray, i).ok()?;
+        let [u, v] = texture
+            .sample_point(m, n, ray, i, [angle.cos(), angle.sin()])
+            .ok()?;
+        Some((u, v))
+    };
+    let mut all = Paths::new();
+    for ray in 0..plan.rays {
+        let samples: Vec<_> = (0..=plan.samples).map(|i| sample(ray, i)).collect();
+        match surface.trace(&samples) {
+            Some(lines) => all.extend(lines),
+            None => return numbers(None),
+        }
+    }
+    numbers(Some(all))
+}
+
+/// Each edge of a spacing with each of a twist and of arms, on surfaces at the limits.
+fn edges() -> impl Iterator<Item = Input> {
+    let steps = STEPS.into_iter().flat_map(|m| STEPS.map(|n| (m, n)));
+    steps.flat_map(|(m, n)| {
+        let swirls = SPACINGS
+            .into_iter()
+            .flat_map(|spacing| TWISTS.map(|twist| Texture::Swirl { spacing, twist }));
+        let spirals = SPACINGS
+            .into_iter()
+            .flat_map(|spacing| ARMS.map(|arms| Texture::Spiral { spacing, arms }));
+        let textures = std::iter::once(Texture::Grid).chain(swirls).chain(spirals);
+        textures
+            .map(move |texture| Input { texture, m, n })
+            .collect::<Vec<_>>()
+    })
+}
+
+/// A spacing that is often at an edge.
+fn any_spacing(random: &mut Random) -> f64 {
+    match random.below(4) {
+        0 => random.of(&SPACINGS),
+        1 => any(random),
+        2 => 0.6 * random.unit(),
+        _ => 8.0 * random.unit(),
+    }
+}
+
+fn any_input(random: &mut Random) -> Input {
+    let spacing = any_spacing(random);
+    let texture = match random.below(16) {
+        0 => Texture::Grid,
+        k if k < 8 => {
+            let twist = match random.below(8) {
+                0 => any(random),
+                1 => random.of(&TWISTS),
+                _ => 130.0 * random.unit() - 65.0,
+            };
+            Texture::Swirl { spacing, twist }
+        }
+        _ => {
+            let arms = match random.below(8) {
+                0 => whole(random),
+                _ => random.below(67) as usize,
+            };
+            Texture::Spiral { spacing, arms }
+        }
+    };
+    let mut steps = || match random.below(16) {
+        0 => whole(random),
+        1 => random.of(&STEPS),
+        _ => 1 + random.below(255) as usize,
+    };
+    let (m, n) = (steps(), steps());
+    Input { texture, m, n }
+}
+
+/// A swirl or a spiral that is soon drawn.
+fn any_scene(random: &mut Random) -> Scene {
+    let spacing = match random.below(4) {
+        0 => random.of(&[
+            0.0,
+            -0.0,
+            f64::NAN,
+            f64::INFINITY,
+            0.5,
+            0.5f64.next_up(),
+            1e9,
+        ]),
+        _ => 0.4 + 3.0 * random.unit(),
+    };
+    let texture = match random.below(2) {
+        0 => {
+            let twist = 6.0 * random.unit() - 3.0;
+            let twist = random.of(&[0.0, 1.0, -1.0, twist, twist]);
+            Texture::Swirl { spacing, twist }
+        }
+        _ => {
+            let arms = random.below(6) as usize;
+            Texture::Spiral { spacing, arms }
+        }
+    };
+    let [m, n] = [0; 2].map(|_| 1 + random.below(12) as usize);
+    let grid = any_grid(random, m, n);
+    Scene { texture, grid }
+}

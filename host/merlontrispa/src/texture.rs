@@ -1,0 +1,85 @@
+use crate::boundary;
+use crate::refusal::Refusal;
+
+/// What is drawn on a surface of M by N cells.
+#[derive(Debug, Clone, Copy, PartialEq)]
+pub enum Texture {
+    /// The lines of the grid, which have no plan.
+    Grid,
+    /// Rays from the centre outward, turned as they go.
+    Swirl {
+        /// About how far apart the rays end; 1 where it is not finite, or at most 10^-9.
+        spacing: f64,
+        /// How often a ray turns round the centre.
+        twist: f64,
+    },
+    /// Arms from the edge inward.
+    Spiral {
+        /// About how far apart the turns are; 1 where it is not finite, or at most 10^-9.
+        spacing: f64,
+        /// How many arms; 0 is one.
+        arms: usize,
+    },
+}
+
+/// How many rays a texture has, and samples on each. Samples are numbered from 0 to the count, both
+/// included.
+#[derive(Debug, Clone, Copy, PartialEq, Eq, Hash)]
+pub struct Plan {
+    /// The rays, or arms: 0 for a grid.
+    pub rays: usize,
+    /// The samples on a ray: 0 for a grid.
+    pub samples: usize,
+}
+
+impl Texture {
+    /// Rays and samples per ray on M by N cells.
+    ///
+    /// # Errors
+    /// 1 for M or N outside 1 to 255, 5 for a twist or arms that are not allowed, 6 for more than 65,536
+    /// rays or samples per ray.
+    pub fn plan(self, m: usize, n: usize) -> Result<Plan, Refusal> {
+        let (kind, spacing, twist, arms) = self.parts();
+        let answer = boundary::mt_plan(kind, spacing, twist, arms, m, n);
+        Refusal::check(answer.refusal)?;
+        let (rays, samples) = (answer.rays, answer.samples);
+        Ok(Plan { rays, samples })
+    }
+
+    /// The angle of a sample of a ray.
+    ///
+    /// # Errors
+    /// As for `plan`, and 8 for a ray or a sample that is not there.
+    pub fn angle(self, m: usize, n: usize, ray: usize, sample: usize) -> Result<f64, Refusal> {
+        let (kind, spacing, twist, arms) = self.parts();
+        let answer = boundary::mt_angle(kind, spacing, twist, arms, m, n, ray, sample);
+        Refusal::check(answer.refusal).map(|()| answer.angle)
+    }
+
+    /// The u and v of a sample of a ray, from the cosine and the sine of its angle.
+    ///
+    /// # Errors
+    /// As for `angle`, and 7 for a cosine or a sine that is not finite or outside -1 to 1.
+    pub fn sample_point(
+        self,
+        m: usize,
+        n: usize,
+        ray: usize,
+        sample: usize,
+        [cosine, sine]: [f64; 2],
+    ) -> Result<[f64; 2], Refusal> {
+        let (kind, spacing, twist, arms) = self.parts();
+        let answer =
+            boundary::mt_sample_point(kind, spacing, twist, arms, m, n, ray, sample, cosine, sine);
+        Refusal::check(answer.refusal).map(|()| [answer.u, answer.v])
+    }
+
+    /// The kind and its numbers, 0 for those that it has not.
+    fn parts(self) -> (u8, f64, f64, usize) {
+        match self {
+            Self::Grid => (0, 0.0, 0.0, 0),
+            Self::Swirl { spacing, twist } => (1, spacing, twist, 0),
+            Self::Spiral { spacing, arms } => (2, spacing, 0.0, arms),
+        }
+    }
+}
