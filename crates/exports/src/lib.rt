@@ -4,9 +4,6 @@ pub mod floats;
 pub mod lines;
 pub mod meshes;
 pub mod seams;
-<<<<<<< HEAD
-pub mod traces;
-=======
 pub mod textures;
->>>>>>> 557e6d26dd9ee87e8c3de17ee7efc54d4ab8721b
+pub mod traces;
 pub mod vectors;

@@ -30,11 +30,9 @@ mod run;
 #[cfg(larnt)]
 mod seams;
 #[cfg(larnt)]
-<<<<<<< HEAD
-mod traces;
-=======
 mod textures;
->>>>>>> 557e6d26dd9ee87e8c3de17ee7efc54d4ab8721b
+#[cfg(larnt)]
+mod traces;
 #[cfg(larnt)]
 mod value;
 #[cfg(larnt)]

@@ -1,11 +1,7 @@
 //! The command line, and the layers in order.
 
 use crate::driver::{Compared, Driver};
-<<<<<<< HEAD
-use crate::{floats, lines, meshes, seams, traces, vectors};
-=======
-use crate::{floats, lines, meshes, seams, textures, vectors};
->>>>>>> 557e6d26dd9ee87e8c3de17ee7efc54d4ab8721b
+use crate::{floats, lines, meshes, seams, textures, traces, vectors};
 use std::process::ExitCode;
 
 const SEED: u64 = 20_260_526;
@@ -13,17 +9,14 @@ const SEED: u64 = 20_260_526;
 /// A layer's name and its comparisons.
 type Layer = (&'static str, fn(&mut Driver) -> Compared);
 
-const LAYERS: [Layer; 6] = [
+const LAYERS: [Layer; 7] = [
     ("float", floats::compare),
     ("vector", vectors::compare),
     ("path", lines::compare),
     ("cyclic", seams::compare),
     ("mesh", meshes::compare),
-<<<<<<< HEAD
     ("trace", traces::compare),
-=======
     ("texture", textures::compare),
->>>>>>> 557e6d26dd9ee87e8c3de17ee7efc54d4ab8721b
 ];
 
 /// What the command line asks for.

@@ -18,20 +18,14 @@ mod lines;
 mod mapping;
 mod mesh;
 mod refusal;
-<<<<<<< HEAD
-mod trace;
-=======
 mod texture;
->>>>>>> 557e6d26dd9ee87e8c3de17ee7efc54d4ab8721b
+mod trace;
 mod vector;
 
 pub use lines::{Drawn, Lines, grid_paths};
 pub use mapping::{Mapping, Seam};
 pub use mesh::{Mesh, Seams, Triangulation, triangulate_grid};
 pub use refusal::Refusal;
-<<<<<<< HEAD
-pub use trace::{TraceLists, trace_flat};
-=======
 pub use texture::{Plan, Texture};
->>>>>>> 557e6d26dd9ee87e8c3de17ee7efc54d4ab8721b
+pub use trace::{TraceLists, trace_flat};
 pub use vector::Vector;
