@@ -265,10 +265,10 @@ first-shows l =
       starts = refl;
     }
 
-AnyCrossing : Crossing → Type 0
+pub AnyCrossing : Crossing → Type 0
 AnyCrossing c = Unit {0}
 
-any-events : (g : List Float) (m n : ℕ) (es : List EdgeEvent) → GoodEvents g m n AnyCrossing es
+pub any-events : (g : List Float) (m n : ℕ) (es : List EdgeEvent) → GoodEvents g m n AnyCrossing es
 unfolding AnyCrossing
 any-events g m n [] = tt
 any-events g m n (e ∷ es) = ((λ x c q. tt), any-events g m n es)

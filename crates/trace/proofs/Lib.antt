@@ -12,5 +12,6 @@ pub mod Related
 pub mod Turns
 pub mod Agree
 pub mod Drawn
+pub mod Kept
 pub mod Demands
 pub mod Ended

@@ -1,5 +1,5 @@
-//! Plans, angles and sample points of textures against the original's: its counts, and the lines that it
-//! draws, which are traced here by itself from the library's samples.
+//! Plans, angles and sample points of textures against the original's: its counts, and the lines of whole
+//! swirls and spirals, which the library draws alone but for the cosine and the sine.
 
 use crate::driver::{Compared, Driver};
 use crate::grids::{Grid, any_grid};
@@ -8,7 +8,7 @@ use crate::lines::coordinates;
 use crate::random::Random;
 use crate::seams::vectors;
 use crate::value::Show;
-use merlontrispa::{Plan, Refusal, Texture};
+use merlontrispa::{Lines, Plan, Refusal, Texture, TraceLists, trace_flat};
 use original::{
     ParametricSurfaceTexture, Paths, Surface, Vector, radial_sample_count, spiral_sample_count,
     texture_spacing,
@@ -175,28 +175,61 @@ fn original_lines(scene: &Scene) -> Vec<Vec<f64>> {
     numbers(surface(&scene.grid).paths(texture))
 }
 
-/// What the original traces from the library's samples, ray by ray.
+/// What the library draws, ray by ray: its plan, angles, points and trace, with the host's cosine and sine.
 fn library_lines(scene: &Scene) -> Vec<Vec<f64>> {
     let Scene { texture, ref grid } = *scene;
     let (m, n) = (grid.u_steps, grid.v_steps);
     let plan = texture.plan(m, n).expect("the scenes are planned");
-    let surface = surface(grid);
     let sample = |ray, i| {
-        let angle = texture.angle(m, n, ray, i).ok()?;
-        let [u, v] = texture
+        let angle = texture.angle(m, n, ray, i).expect("the sample is there");
+        texture
             .sample_point(m, n, ray, i, [angle.cos(), angle.sin()])
-            .ok()?;
-        Some((u, v))
+            .expect("the sample is there")
     };
-    let mut all = Paths::new();
+    let mut all = Vec::new();
     for ray in 0..plan.rays {
-        let samples: Vec<_> = (0..=plan.samples).map(|i| sample(ray, i)).collect();
-        match surface.trace(&samples) {
-            Some(lines) => all.extend(lines),
-            None => return numbers(None),
+        let pairs: Vec<_> = (0..=plan.samples).flat_map(|i| sample(ray, i)).collect();
+        match traced(grid, &pairs) {
+            Ok(lines) => all.extend(lines),
+            Err(_) => return numbers(None),
         }
     }
-    numbers(Some(all))
+    all
+}
+
+/// The lines of a curve without breaks, in lists that grow until they hold it.
+fn traced(grid: &Grid, pairs: &[f64]) -> Result<Vec<Vec<f64>>, Refusal> {
+    let marks = vec![1; pairs.len() / 2];
+    let mut room = 1 << 12;
+    loop {
+        let (mut points, mut starts) = (vec![0.0; 3 * room], vec![0; room]);
+        let (mut sides, mut fractions) = (vec![0; 2 * room], vec![0.0; room]);
+        let lists = TraceLists {
+            points: &mut points,
+            starts: &mut starts,
+            sides: &mut sides,
+            fractions: &mut fractions,
+        };
+        match trace_flat(
+            &grid.numbers,
+            grid.u_steps,
+            grid.v_steps,
+            pairs,
+            &marks,
+            lists,
+        ) {
+            Err(Refusal::Full) => room *= 4,
+            Err(refusal) => return Err(refusal),
+            Ok(drawn) => {
+                let lines = Lines {
+                    points: &points,
+                    starts: &starts,
+                    drawn,
+                };
+                return Ok((0..drawn.lines).map(|i| lines.get(i).to_vec()).collect());
+            }
+        }
+    }
 }
 
 /// Each edge of a spacing with each of a twist and of arms, on surfaces at the limits.
