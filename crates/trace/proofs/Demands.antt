@@ -37,7 +37,8 @@ use Rattle.trace.specs.Demand.{pointsIn, EndsOfSide, PointsOnSides, Dema
 use Rattle.trace.proofs.Steps.{step-index-below}
 use Rattle.trace.proofs.Related.{GoodEdge, GoodEvents}
 use Rattle.trace.proofs.Turns.{length-turn, turn-at}
-use Rattle.trace.proofs.Drawn.{All, all-at, DrawnGood, traced-good}
+use Rattle.trace.proofs.Keeps.{Holding}
+use Rattle.trace.proofs.Drawn.{GoodDrawing, all-at, traced-good}
 
 noCrossing : Crossing
 noCrossing = record { p = 0; q = 0; t = nan; point = vector nan nan nan }
@@ -102,13 +103,13 @@ module _ (g : List Float) (m n : ℕ) (hm : m ≤ 255) (hn : n ≤ 255) where
       List·getD-append (inTurn sideOf (d .drawn)) _ 0 (2 * i + j) (rw (length-turn 2 sideOf (λ c. refl) (d .drawn)) (omega arith))
       ∙ turn-at 2 sideOf (λ c. refl) (d .drawn) i j 0 c₀ h k
 
-  finished-on-sides : Meets s → (l : Lists) (y : Step Drawing) → DrawnGood FromEdge y → PointsOnSides s (finished y l)
+  finished-on-sides : Meets s → (l : Lists) (y : Step Drawing) → Holding (GoodDrawing FromEdge) y → PointsOnSides s (finished y l)
   finished-on-sides meets l (off k d) good i h = absurd (omega arith)
   finished-on-sides meets l (on d) good i h =
       let c = getD (d .drawn) i noCrossing in
       let p : getD (finished (on d) l .after .sides) (2 * i) 0 ≡ c .p = ap (λ (k : ℕ). getD (finished (on d) l .after .sides) k 0) (omega arith) ∙ side-at l d i 0 noCrossing h (omega arith) in
       let q : getD (finished (on d) l .after .sides) (2 * i + 1) 0 ≡ c .q = side-at l d i 1 noCrossing h (omega arith) in
-      rw (p, q) (surface.traced s meets (c .p) (c .q) (all-at FromEdge (d .drawn) i noCrossing good h))
+      rw (p, q) (surface.traced s meets (c .p) (c .q) (all-at FromEdge (d .drawn) i noCrossing (good .drawn) h))
 
   pub points-on-sides : Meets s → (pairs : List Float) (marks : List ℕ) (l : Lists) → PointsOnSides s (traceFlat g m n pairs marks l)
   unfolding traceFlat

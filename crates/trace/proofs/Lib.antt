@@ -11,6 +11,7 @@ pub mod Checks
 pub mod Related
 pub mod Turns
 pub mod Agree
+pub mod Keeps
 pub mod Drawn
 pub mod Kept
 pub mod Demands
