@@ -52,11 +52,11 @@ same-point e = cc
 -- ---- each event's side is a grid edge
 
 module _ (g : List Float) (m n : ℕ) (hm : m ≤ 255) (hn : n ≤ 255) where
-  abbrev s : Shape
+  abbrev pub s : Shape
   s = surfaceOf g m n
 
   -- made from the ends of a grid edge
-  abbrev FromEdge : Crossing → Type 0
+  abbrev pub FromEdge : Crossing → Type 0
   FromEdge c = EdgeNumbers s (c .p) (c .q)
 
   below : (x : Float) (k : ℕ) {i : ℕ} {t : Float} → k ≤ 255 → stepIndex x k ≡ At i t → i < k
@@ -96,6 +96,13 @@ module _ (g : List Float) (m n : ℕ) (hm : m ≤ 255) (hn : n ≤ 255) where
   good-events [] h = tt
   good-events (e ∷ es) h = (good-edge (e .edge) (h .0), good-events es (h .1))
 
+  -- every point that a trace draws was made from the ends of a grid edge
+  pub drawn-from-edges : (pairs : List Float) (marks : List ℕ) (room : Room) → Holding (GoodDrawing FromEdge) (drawingOf g m n pairs marks room)
+  drawn-from-edges pairs marks room =
+      traced-good FromEdge room g m n
+      (λ a b. good-events (sortedEdgeEvents m n a b) (events-inside m n a b (le-trans hm (lit≤ tt)) (le-trans hn (lit≤ tt))))
+      (samplesOf marks pairs)
+
   -- p and q of point i, as the sides hand them over
   side-at : (l : Lists) (d : Drawing) (i j : ℕ) (c₀ : Crossing) → i < length (d .drawn) → j < 2
       → getD (finished (on d) l .after .sides) (2 * i + j) 0 ≡ getD (sideOf (getD (d .drawn) i c₀)) j 0
@@ -120,7 +127,7 @@ module _ (g : List Float) (m n : ℕ) (hm : m ≤ 255) (hn : n ≤ 255) where
 
       go : (k : Check) → PointsOnSides s (afterCheck k l (finished (drawingOf g m n pairs marks room) l))
       go (Failed k) = λ i h. absurd (omega arith)
-      go Passed = finished-on-sides meets l (drawingOf g m n pairs marks room) (traced-good FromEdge room g m n (λ a b. good-events (sortedEdgeEvents m n a b) (events-inside m n a b (le-trans hm (lit≤ tt)) (le-trans hn (lit≤ tt)))) (samplesOf marks pairs))
+      go Passed = finished-on-sides meets l (drawingOf g m n pairs marks room) (drawn-from-edges pairs marks room)
 
 -- DEMAND 3
 pub demand3 : (g : List Float) (m n : ℕ) → Demand3 g m n
