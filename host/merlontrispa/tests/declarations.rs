@@ -196,3 +196,12 @@ fn the_header_has_the_numbers_and_sentences_of_the_refusals() {
     let all = Refusal::ALL.map(|refusal| (format!("{refusal:?}"), plain(&refusal.to_string())));
     assert!(entries.skip(1).eq(all), "{refusals}");
 }
+
+#[test]
+fn the_readme_has_the_numbers_and_sentences_of_the_refusals() {
+    let readme = read("README.md");
+    for refusal in Refusal::ALL {
+        let row = format!("\n| {} |\n", refusal.to_string().replacen(": ", " | ", 1));
+        assert!(readme.contains(&row), "{row}");
+    }
+}
