@@ -1,5 +1,6 @@
 //! The program as a user meets it: what it writes, what it says, and how it ends.
 
+use std::path::Path;
 use std::process::{Command, Output};
 
 fn draw(words: &[&str]) -> Output {
@@ -169,4 +170,35 @@ fn every_example_of_the_help_draws() {
             .collect();
         assert!(stdout(&card).starts_with("<svg "), "{example:?}");
     }
+}
+
+/// Whether two cards are equal but for a hundredth of a mm, which another machine's cosine may make.
+fn same(a: &str, b: &str) -> bool {
+    let parts =
+        |text: &str| -> Vec<String> { text.split([' ', ',', '"']).map(String::from).collect() };
+    let (a, b) = (parts(a), parts(b));
+    let near = |a: &str, b: &str| match (a.parse::<f64>(), b.parse::<f64>()) {
+        (Ok(a), Ok(b)) => (a - b).abs() < 0.011,
+        _ => a == b,
+    };
+    a.len() == b.len() && a.iter().zip(&b).all(|(a, b)| near(a, b))
+}
+
+#[test]
+fn each_picture_of_the_readme_is_what_its_command_draws() {
+    let root = Path::new(env!("CARGO_MANIFEST_DIR")).join("../..");
+    let read = |path: &str| std::fs::read_to_string(root.join(path)).expect(path);
+    let mut pictures = 0;
+    for mut example in examples(&read("README.md")) {
+        let picture = example.last().cloned().unwrap_or_default();
+        if !picture.starts_with("docs/pictures/") {
+            continue;
+        }
+        pictures += 1;
+        *example.last_mut().expect("a picture") = "-".into();
+        let card: Vec<_> = example.iter().map(String::as_str).collect();
+        assert!(same(&stdout(&card), &read(&picture)), "{picture}");
+    }
+    let files = std::fs::read_dir(root.join("docs/pictures")).expect("pictures");
+    assert_eq!(pictures, files.count());
 }
