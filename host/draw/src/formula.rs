@@ -362,20 +362,15 @@ impl Parser {
         let name: String = self.characters[start..self.at].iter().collect();
         let step = match name.as_str() {
             "pi" | "π" => Step::Number(PI),
-            "u" | "v" if !self.variables => {
-                return Err(fault(
-                    start,
-                    "u and v cannot stand here, only numbers and pi",
-                ));
-            }
-            "u" => Step::U,
-            "v" => Step::V,
+            "u" if self.variables => Step::U,
+            "v" if self.variables => Step::V,
             "sin" => return self.function(Unary::Sin, &name),
             "cos" => return self.function(Unary::Cos, &name),
             "sqrt" => return self.function(Unary::Sqrt, &name),
             _ => {
-                let sentence = "this name is unknown: there are u, v, pi, sin, cos and sqrt";
-                return Err(fault(start, sentence));
+                let variables = if self.variables { "u, v, " } else { "" };
+                let known = format!("{variables}pi, sin, cos and sqrt");
+                return Err(fault(start, format!("this is none of {known}")));
             }
         };
         self.steps.push(step);
@@ -468,8 +463,8 @@ mod tests {
             ("x = u *", 7, "a number, a name or '('"),
             ("x = * u", 4, "a number, a name or '('"),
             ("x = sin u", 8, "after sin"),
-            ("x = tan(u)", 4, "unknown"),
-            ("x = uv", 4, "unknown"),
+            ("x = tan(u)", 4, "none of u, v, pi"),
+            ("x = uv", 4, "none of u, v, pi"),
             ("x = 1e; y = v", 4, "no number"),
             ("x = .; y = v", 4, "no number"),
             ("x = 1e999", 4, "too large"),

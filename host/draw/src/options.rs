@@ -342,7 +342,7 @@ mod tests {
             ("--u 0..", "'(' belongs here\n    0..\n       ^"),
             (
                 "--u 0..v",
-                "in --u, u and v cannot stand here, only numbers and pi\n    0..v\n       ^",
+                "in --u, this is none of pi, sin, cos and sqrt\n    0..v\n       ^",
             ),
             ("--formula x=u", "in the formula, y is missing"),
         ];

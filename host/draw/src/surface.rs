@@ -107,7 +107,7 @@ const MOEBIUS_BAND: &str = "
 
 const SPHERE: &str = "x = sin(v)*cos(u); y = sin(v)*sin(u); z = cos(v)";
 
-/// A tube that winds down round the z axis and doubles its width in two turns.
+/// A tube that winds down round the z axis and widens from a point.
 const SHELL: &str = "
     x = (2^(u/(4*pi)) - 1)*cos(u)*(1 + cos(v));
     y = (2^(u/(4*pi)) - 1)*sin(u)*(1 + cos(v));
@@ -124,7 +124,7 @@ const TWISTED_TORUS: &str = "
     y = (3 + (1 + cos(3*v)/4)*cos(v + u/3))*sin(u);
     z = (1 + cos(3*v)/4)*sin(v + u/3)";
 
-/// A tube of radius 3 + 5 cos u sin u along a closed curve, that meets its own start from the inside.
+/// A tube, as wide as 3 + 5 cos u sin u, that passes through its side and meets its start from the inside.
 const KLEIN_BOTTLE: &str = "
     x = 2/15*cos(u)*(3 + 5*cos(u)*sin(u))*sin(v) - 4*cos(u)*sin(u)^5*(1 + 2*cos(u)^2);
     y = 2/15*(3 + 5*cos(u)*sin(u))*cos(v);
