@@ -8,9 +8,9 @@ use crate::lines::coordinates;
 use crate::random::Random;
 use crate::seams::vectors;
 use crate::value::Show;
-use merlontrispa::{Lines, Plan, Refusal, Texture, TraceLists, trace_flat};
+use merlontrispa::{Plan, Refusal, Texture};
 use original::{
-    ParametricSurfaceTexture, Paths, Surface, Vector, radial_sample_count, spiral_sample_count,
+    ParametricSurfaceTexture, Surface, Vector, radial_sample_count, spiral_sample_count,
     texture_spacing,
 };
 use std::f64::consts::TAU;
@@ -148,88 +148,30 @@ fn original_plan(radii: &[f64], input: &Input) -> Result<Plan, Refusal> {
     Ok(Plan { rays, samples })
 }
 
-fn surface(grid: &Grid) -> Surface {
-    Surface::from_grid(vectors(&grid.numbers), grid.u_steps, grid.v_steps)
-}
+/// The numbers of each line, or a refusal.
+type DrawnLines = Result<Vec<Vec<f64>>, Refusal>;
 
-/// The numbers of each line, or nothing where the original panics.
-fn numbers(paths: Option<Paths<Vector>>) -> Vec<Vec<f64>> {
-    paths.map_or_else(
-        || vec![vec![f64::NAN]],
-        |paths| {
-            paths
-                .iter_paths()
-                .map(|line| coordinates(line).collect())
-                .collect()
-        },
-    )
-}
-
-/// What the original draws.
-fn original_lines(scene: &Scene) -> Vec<Vec<f64>> {
+/// What the original draws; where it panics, 11 is due.
+fn original_lines(scene: &Scene) -> DrawnLines {
     let texture = match scene.texture {
         Texture::Grid => ParametricSurfaceTexture::Grid,
         Texture::Swirl { spacing, twist } => ParametricSurfaceTexture::Swirl { spacing, twist },
         Texture::Spiral { spacing, arms } => ParametricSurfaceTexture::Spiral { spacing, arms },
     };
-    numbers(surface(&scene.grid).paths(texture))
+    let grid = &scene.grid;
+    let mut surface = Surface::from_grid(vectors(&grid.numbers), grid.u_steps, grid.v_steps);
+    let paths = surface.paths(texture).ok_or(Refusal::NoStep)?;
+    let lines = paths.iter_paths().map(|line| coordinates(line).collect());
+    Ok(lines.collect())
 }
 
-/// What the library draws, ray by ray: its plan, angles, points and trace, with the host's cosine and sine.
-fn library_lines(scene: &Scene) -> Vec<Vec<f64>> {
-    let Scene { texture, ref grid } = *scene;
-    let (m, n) = (grid.u_steps, grid.v_steps);
-    let plan = texture.plan(m, n).expect("the scenes are planned");
-    let sample = |ray, i| {
-        let angle = texture.angle(m, n, ray, i).expect("the sample is there");
-        texture
-            .sample_point(m, n, ray, i, [angle.cos(), angle.sin()])
-            .expect("the sample is there")
-    };
-    let mut all = Vec::new();
-    for ray in 0..plan.rays {
-        let pairs: Vec<_> = (0..=plan.samples).flat_map(|i| sample(ray, i)).collect();
-        match traced(grid, &pairs) {
-            Ok(lines) => all.extend(lines),
-            Err(_) => return numbers(None),
-        }
-    }
-    all
-}
-
-/// The lines of a curve without breaks, in lists that grow until they hold it.
-fn traced(grid: &Grid, pairs: &[f64]) -> Result<Vec<Vec<f64>>, Refusal> {
-    let marks = vec![1; pairs.len() / 2];
-    let mut room = 1 << 12;
-    loop {
-        let (mut points, mut starts) = (vec![0.0; 3 * room], vec![0; room]);
-        let (mut sides, mut fractions) = (vec![0; 2 * room], vec![0.0; room]);
-        let lists = TraceLists {
-            points: &mut points,
-            starts: &mut starts,
-            sides: &mut sides,
-            fractions: &mut fractions,
-        };
-        match trace_flat(
-            &grid.numbers,
-            grid.u_steps,
-            grid.v_steps,
-            pairs,
-            &marks,
-            lists,
-        ) {
-            Err(Refusal::Full) => room *= 4,
-            Err(refusal) => return Err(refusal),
-            Ok(drawn) => {
-                let lines = Lines {
-                    points: &points,
-                    starts: &starts,
-                    drawn,
-                };
-                return Ok((0..drawn.lines).map(|i| lines.get(i).to_vec()).collect());
-            }
-        }
-    }
+/// What the library draws: its plan, angles, points and traces, with the host's cosine and sine.
+fn library_lines(scene: &Scene) -> DrawnLines {
+    let grid = &scene.grid;
+    let surface = merlontrispa::Surface::new(&grid.numbers, grid.u_steps, grid.v_steps)?;
+    let lines = surface.texture_lines(scene.texture)?;
+    let lines = lines.iter().map(|line| line.as_flattened().to_vec());
+    Ok(lines.collect())
 }
 
 /// Each edge of a spacing with each of a twist and of arms, on surfaces at the limits.
