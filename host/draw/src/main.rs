@@ -7,12 +7,12 @@ mod camera;
 mod drawing;
 mod formula;
 mod options;
-mod surface;
+mod parametric;
 mod svg;
 
 use camera::Camera;
 use drawing::Drawing;
-use merlontrispa::{Mapping, Refusal, Seam, Texture};
+use merlontrispa::{Mapping, Refusal, Seam, Surface, Texture};
 use options::{Options, Request};
 use std::io::Write;
 use std::process::ExitCode;
@@ -64,8 +64,9 @@ fn draw(options: &Options) -> Result<(), String> {
         ));
     }
     let grid = options.surface.grid(options.steps);
-    let drawing = Drawing::new(&grid, options.texture).map_err(refused)?;
-    let camera = Camera::fitting(grid.points())
+    let surface = Surface::new(&grid, m, n).map_err(refused)?;
+    let drawing = Drawing::new(surface, options.texture).map_err(refused)?;
+    let camera = Camera::fitting(surface.points())
         .ok_or("all points of this surface are seen at one place, and there is nothing to draw")?;
     let title = title(options);
     let text = svg::card(&drawing, &camera, options.style, &title);
@@ -106,8 +107,8 @@ fn summary(drawing: &Drawing) -> String {
         "seams: u {}; v {}\n{} lines, {} points; {} triangles, {} flipped pairs",
         seam(drawing.seams.u),
         seam(drawing.seams.v),
-        drawing.lines.len(),
-        drawing.lines.iter().map(Vec::len).sum::<usize>(),
+        drawing.lines.iter().len(),
+        drawing.lines.points.len(),
         drawing.triangles,
         drawing.flipped.len() / 2,
     )

@@ -1,7 +1,7 @@
 //! The options of the command line. Each fault is one sentence.
 
 use crate::formula::{Formula, constant};
-use crate::surface::{NAMES, Surface};
+use crate::parametric::{NAMES, ParametricSurface};
 use crate::svg::Style;
 use merlontrispa::Texture;
 use std::collections::BTreeMap;
@@ -34,7 +34,7 @@ pub enum Request {
 /// What is to be drawn, and where to.
 #[derive(Debug, Clone, PartialEq)]
 pub struct Options {
-    pub surface: Surface,
+    pub surface: ParametricSurface,
     pub steps: [usize; 2],
     pub texture: Texture,
     pub style: Style,
@@ -131,7 +131,7 @@ impl Given {
         self.options.contains_key(name)
     }
 
-    fn surface(&self) -> Result<Surface, String> {
+    fn surface(&self) -> Result<ParametricSurface, String> {
         let mut surface = match (&self.surface, self.value("--formula")) {
             (Some(name), Some(_)) => {
                 return Err(format!(
@@ -139,7 +139,7 @@ impl Given {
                 ));
             }
             (None, Some(text)) => Formula::parse(text)
-                .map(Surface::own)
+                .map(ParametricSurface::own)
                 .map_err(|fault| format!("in the formula, {}", fault.show(text)))?,
             (name, None) => named(name.as_deref().unwrap_or("torus"))?,
         };
@@ -239,8 +239,8 @@ impl Given {
     }
 }
 
-fn named(name: &str) -> Result<Surface, String> {
-    Surface::named(name).ok_or_else(|| {
+fn named(name: &str) -> Result<ParametricSurface, String> {
+    ParametricSurface::named(name).ok_or_else(|| {
         let names = NAMES.join(", ");
         format!("there is no surface '{name}': the names are {names}")
     })
@@ -266,7 +266,7 @@ mod tests {
     #[test]
     fn nothing_given_is_a_torus() {
         let options = card("");
-        assert_eq!(Some(options.surface), Surface::named("torus"));
+        assert_eq!(Some(options.surface), ParametricSurface::named("torus"));
         assert_eq!(options.texture, Texture::Grid);
         assert_eq!(options.style, Style::default());
         assert_eq!(options.output, "card.svg");
