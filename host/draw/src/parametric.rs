@@ -1,7 +1,11 @@
 //! Surfaces: a formula, the ranges that u and v run through, and the grid of points that is taken of them.
 
 use crate::formula::Formula;
+use merlontrispa::float;
 use std::f64::consts::{PI, TAU};
+
+/// The largest magnitude of a coordinate that the library takes: beyond it is refusal 4.
+const LARGEST: f64 = (1_u64 << 40) as f64;
 
 /// A surface and how many steps show it well.
 #[derive(Debug, Clone, PartialEq)]
@@ -81,6 +85,15 @@ impl ParametricSurface {
             .flat_map(|[u, v]| self.formula.at(u, v));
         points.collect()
     }
+
+    /// Which coordinate of a grid is the first that is not finite or too large for the library, and where.
+    pub fn first_refused(&self, steps: [usize; 2]) -> Option<String> {
+        self.parameters(steps).find_map(|[u, v]| {
+            let mut coordinates = std::iter::zip(["x", "y", "z"], self.formula.at(u, v));
+            let (name, value) = coordinates.find(|(_, value)| !float::at_most(*value, LARGEST))?;
+            Some(format!("{name} = {value:?} at u = {u:?}, v = {v:?}"))
+        })
+    }
 }
 
 const PLANE: &str = "x = u; y = v; z = 0";
@@ -126,7 +139,7 @@ const KLEIN_EIGHT: &str = "
 #[cfg(test)]
 mod tests {
     use super::*;
-    use merlontrispa::{Mapping, Surface};
+    use merlontrispa::{Mapping, Refusal, Surface};
 
     /// The seams of a named surface, and the count of its flipped pairs.
     fn seams(name: &str, [m, n]: [usize; 2]) -> (Option<Mapping>, Option<Mapping>, usize) {
@@ -190,5 +203,39 @@ mod tests {
         ];
         let expected = expected.map(|[x, y]| [x, y, 0.0]);
         assert_eq!(plane.grid([2, 1]), expected.as_flattened());
+    }
+
+    #[test]
+    fn the_first_coordinate_that_the_library_refuses_is_found() {
+        let steps @ [m, n] = [4, 2];
+        let cases = [
+            ("x = u; y = v; z = 2^40*u", None),
+            (
+                "x = u; y = v; z = -2^40*(1 + 2^-52)*u",
+                Some("z = -1099511627776.0002 at u = 1.0, v = 0.0"),
+            ),
+            (
+                "x = 1/(v - 1); y = sqrt(-1); z = 0",
+                Some("y = NaN at u = 0.0, v = 0.0"),
+            ),
+            (
+                "x = 1/(v - 1); y = sqrt(u); z = 1/u",
+                Some("z = inf at u = 0.0, v = 0.0"),
+            ),
+            (
+                "x = 1/(v - 1) + u; y = sqrt(-u); z = 0",
+                Some("x = inf at u = 0.0, v = 1.0"),
+            ),
+        ];
+        for (formula, expected) in cases {
+            let surface = ParametricSurface {
+                u: [0.0, 1.0],
+                v: [0.0, 2.0],
+                ..ParametricSurface::own(Formula::parse(formula).expect("a formula"))
+            };
+            let refused = Surface::new(&surface.grid(steps), m, n).err();
+            assert_eq!(refused, expected.map(|_| Refusal::Coordinate), "{formula}");
+            assert_eq!(surface.first_refused(steps).as_deref(), expected);
+        }
     }
 }
