@@ -20,6 +20,9 @@ const WITH_VALUE: [&str; 9] = [
 
 const WITHOUT_VALUE: [&str; 4] = ["--seams", "--flipped", "--plain", "--help"];
 
+/// The library takes 1 for a spacing that is not above this, or not finite.
+const LEAST_SPACING: f64 = 1e-9;
+
 const SPACING: f64 = 3.0;
 const TWIST: f64 = 0.5;
 const ARMS: usize = 2;
@@ -215,8 +218,10 @@ impl Given {
 
     fn spacing(&self) -> Result<f64, String> {
         match self.number("--spacing")?.unwrap_or(SPACING) {
-            spacing if spacing > 0.0 => Ok(spacing),
-            _ => Err("--spacing wants a number above 0".into()),
+            spacing if spacing.is_finite() && spacing > LEAST_SPACING => Ok(spacing),
+            _ => Err(format!(
+                "--spacing wants a finite number above {LEAST_SPACING:?}"
+            )),
         }
     }
 
@@ -333,8 +338,10 @@ mod tests {
                 "--spacing 1",
                 "--spacing goes with --texture swirl or spiral",
             ),
-            ("--texture swirl --spacing 0", "above 0"),
-            ("--texture swirl --spacing nan", "above 0"),
+            ("--texture swirl --spacing 0", "above 1e-9"),
+            ("--texture swirl --spacing 1e-9", "above 1e-9"),
+            ("--texture swirl --spacing nan", "a finite number"),
+            ("--texture swirl --spacing inf", "a finite number"),
             ("--texture swirl --twist much", "--twist wants a number"),
             ("--texture spiral --arms 0", "--arms wants a count"),
             ("--texture spiral --arms 1.5", "--arms wants a count"),
