@@ -1,22 +1,67 @@
 //! Mappings and the seam search against the original's, comparisons counted.
 
+use crate::case::{Smaller, case, plainer_everywhere, stretches, without};
 use crate::driver::{Compared, Driver};
 use crate::inputs::{COORDINATE_EDGES, COORDINATE_FAULTS, EPS, coordinates_fit, near, whole};
 use crate::random::Random;
-use crate::value::Show;
 use merlontrispa::{Mapping, Refusal, Seam};
 use original::{CyclicMapping, Vector};
+use std::collections::HashSet;
 
 /// Two rows of points, three numbers each.
+#[derive(Clone)]
 struct Rows {
     a: Vec<f64>,
     b: Vec<f64>,
 }
 
-impl Show for Rows {
-    fn show(&self) -> String {
-        format!("a {}, b {}", self.a.show(), self.b.show())
+case!(Rows { a, b }, first Rows::simpler);
+
+impl Rows {
+    /// Rows without the same places of both, without the same points, or of points that still coincide.
+    fn simpler(&self) -> Smaller<Self> {
+        let (first, second) = (self.clone(), self.clone());
+        let places = stretches(self.a.len().min(self.b.len()) / 3);
+        let fewer_places = places.map(move |places| {
+            let numbers = 3 * places.start..3 * places.end;
+            Self {
+                a: without(&first.a, &numbers),
+                b: without(&first.b, &numbers),
+            }
+        });
+        let points = distinct(&self.a);
+        let fewer_points = stretches(points.len()).map(move |stretch| {
+            let gone: HashSet<_> = points[stretch].iter().copied().collect();
+            Self {
+                a: without_points(&second.a, &gone),
+                b: without_points(&second.b, &gone),
+            }
+        });
+        let length = self.a.len();
+        let numbers = [&self.a[..], &self.b].concat();
+        let plainer = plainer_everywhere(&numbers).map(move |mut a| Self {
+            b: a.split_off(length),
+            a,
+        });
+        Box::new(fewer_places.chain(fewer_points).chain(plainer))
     }
+}
+
+/// The points of a row by their bits, each once.
+fn distinct(row: &[f64]) -> Vec<[u64; 3]> {
+    let mut seen = HashSet::new();
+    let points = row.as_chunks().0.iter().map(bits);
+    points.filter(|&point| seen.insert(point)).collect()
+}
+
+fn without_points(row: &[f64], gone: &HashSet<[u64; 3]>) -> Vec<f64> {
+    let (points, rest) = row.as_chunks();
+    let left = points.iter().filter(|point| !gone.contains(&bits(point)));
+    left.flatten().chain(rest).copied().collect()
+}
+
+fn bits(point: &[f64; 3]) -> [u64; 3] {
+    point.map(f64::to_bits)
 }
 
 pub fn compare(driver: &mut Driver) -> Compared {
@@ -342,6 +387,7 @@ fn faulty(random: &mut Random) -> Rows {
 #[cfg(test)]
 mod tests {
     use super::*;
+    use crate::planted::found;
 
     #[test]
     fn planted_rows_fit_or_just_do_not() {
@@ -364,6 +410,29 @@ mod tests {
         assert!(
             [forward, reverse, late, none].iter().all(|&n| n > 1_000),
             "{forward} {reverse} {late} {none}"
+        );
+    }
+
+    /// A search that gives up where the rows are closed and offset 0 does not fit.
+    #[test]
+    fn a_search_of_offset_0_alone_is_found() {
+        let lazy = |rows: &Rows| {
+            let mut seam = original_search(rows)?;
+            if let Some(Mapping::Forward { offset, .. } | Mapping::Reverse { offset, .. }) =
+                seam.mapping
+                && offset > 0
+            {
+                seam.mapping = None;
+            }
+            Ok(seam)
+        };
+        let case = found(
+            |driver| driver.compare("planted", 1_000, planted, lazy, original_search),
+            |driver| driver.compare("planted", 1_000, planted, library_search, original_search),
+        );
+        assert_eq!(
+            case,
+            "a [ o 0.0 0.0 1.0 o ] b [ 0.0 0.0 1.0 o 0.0 0.0 1.0 ]"
         );
     }
 }
