@@ -29,16 +29,20 @@ pub enum Task {
     Survey,
     /// One comparison on the case that is written.
     Replay(Saved),
-    /// The one comparison of random inputs that has this number, on the input that the bytes make.
+    /// One comparison, on the input that the bytes make: it has this number among those of random
+    /// inputs that are not large.
     Chosen { turn: usize, bytes: Vec<u8> },
 }
+
+/// A comparison that has fewer random inputs of its own has few because they are large.
+pub const FEW: u64 = 20_000;
 
 /// How many random inputs a comparison takes.
 #[derive(Clone, Copy)]
 pub enum Amount {
     /// As many as it has of its own.
     Own,
-    /// So many; one whose inputs are large, and so few, takes its share of them.
+    /// So many; one whose inputs are large takes its share of them.
     Each(u64),
     /// `part` for every `whole` of its own, rounded up.
     Share { part: u64, whole: u64 },
@@ -48,7 +52,7 @@ impl Amount {
     fn of(self, own: u64) -> u64 {
         match self {
             Self::Own => own,
-            Self::Each(cases) if own < 20_000 => (cases * own / 1_000_000).max(own),
+            Self::Each(cases) if own < FEW => (cases * own / 1_000_000).max(own),
             Self::Each(cases) => cases,
             Self::Share { part, whole } => {
                 (u128::from(own) * u128::from(part)).div_ceil(u128::from(whole)) as u64
@@ -99,6 +103,7 @@ impl Driver {
                 return Ok(());
             }
             Task::Replay(_) => return self.replay(name, library, original),
+            Task::Chosen { .. } if count < FEW => return Ok(()),
             Task::Chosen { turn, bytes } => {
                 let now = *turn == 0;
                 *turn = turn.wrapping_sub(1);
@@ -258,7 +263,7 @@ mod tests {
             bytes: vec![0, 13],
         });
         for name in ["first", "second", "third"] {
-            let told = driver.compare(name, 9, any, |&x| x, |_| 1.0);
+            let told = driver.compare(name, FEW, any, |&x| x, |_| 1.0);
             assert_eq!(told, Ok(()));
         }
         assert_eq!(driver.tally(), [("second".into(), 1)]);

@@ -1,7 +1,7 @@
 //! The command line, and the layers in order.
 
 use crate::difference::{Difference, Saved};
-use crate::driver::{Amount, Compared, Driver, Ended, Task};
+use crate::driver::{Amount, Compared, Driver, Ended, FEW, Task};
 use crate::request::{Asked, Request};
 use crate::{floats, lines, meshes, seams, textures, traces, vectors};
 use std::fs;
@@ -38,7 +38,7 @@ pub const LAYERS: [Layer; 7] = [
     },
     Layer {
         name: "cyclic",
-        share: 35,
+        share: 30,
         compare: seams::compare,
     },
     Layer {
@@ -48,7 +48,7 @@ pub const LAYERS: [Layer; 7] = [
     },
     Layer {
         name: "trace",
-        share: 15,
+        share: 20,
         compare: traces::compare,
     },
     Layer {
@@ -123,7 +123,10 @@ fn chosen(file: &str, layers: &[Layer]) -> Result<Task, String> {
     }
     .map_err(|fault| format!("{file}: {fault}"))?;
     let first = bytes.first().copied().unwrap_or(0);
-    let random = layers.iter().flat_map(survey).filter(|(_, own)| *own > 0);
+    let random = layers
+        .iter()
+        .flat_map(survey)
+        .filter(|(_, own)| *own >= FEW);
     let count = random.count();
     Ok(Task::Chosen {
         turn: usize::from(first) % count,
@@ -195,7 +198,7 @@ mod tests {
         else {
             panic!("a share");
         };
-        assert_eq!((part, whole), (3_000, 2_303_000));
+        assert_eq!((part, whole), (4_000, 2_303_000));
     }
 
     /// A written case finds its comparison by the name alone.

@@ -7,6 +7,7 @@ use crate::random::Random;
 use merlontrispa::{Mapping, Refusal, Seam};
 use original::{CyclicMapping, Vector};
 use std::collections::HashSet;
+use std::iter;
 
 /// Two rows of points, three numbers each.
 #[derive(Clone)]
@@ -109,7 +110,7 @@ pub fn compare(driver: &mut Driver) -> Compared {
     search(driver, "rows of up to 65,536 points", long_rows())?;
     driver.compare(
         "new_vector, planted",
-        1_000_000,
+        2_000_000,
         planted,
         library_search,
         original_search,
@@ -324,47 +325,51 @@ fn fitting(points: &[[f64; 3]], closed: bool, reverse: bool, offset: usize) -> R
 
 /// The longest rows that are taken: a seam at the first, the second and the last offset, and none.
 fn long_rows() -> impl Iterator<Item = Rows> {
-    let points: Vec<_> = (0..65_536).map(|j| [f64::from(j), 0.5, -1.0]).collect();
+    let points = || -> Vec<_> { (0..65_536).map(|j| [f64::from(j), 0.5, -1.0]).collect() };
     let found = [(true, 0), (true, 1), (true, 65_534), (false, 0)];
-    let found = found.into_iter().flat_map(|(closed, offset)| {
-        [false, true].map(|reverse| fitting(&points, closed, reverse, offset))
+    let found = found.into_iter().flat_map(move |(closed, offset)| {
+        [false, true].map(|reverse| fitting(&points(), closed, reverse, offset))
     });
-    let mut rows: Vec<_> = found.collect();
-    let mut none = fitting(&points, true, false, 65_534);
-    none.b[3 * 65_534] = -1.0;
-    rows.push(none);
-    rows.into_iter()
+    let none = move || {
+        let mut rows = fitting(&points(), true, false, 65_534);
+        rows.b[3 * 65_534] = -1.0;
+        rows
+    };
+    found.chain(iter::once_with(none))
 }
 
 /// Rows as long as is allowed and longer, with each coordinate at an edge.
-fn limits() -> Vec<Rows> {
+fn limits() -> impl Iterator<Item = Rows> {
     let lengths = [
         0, 1, 2, 3, 5, 6, 196_605, 196_608, 196_609, 196_610, 196_611,
     ];
-    let mut rows = Vec::new();
-    for a in lengths {
-        for b in lengths {
-            for last in [1.0, f64::NAN] {
-                let mut row = Rows {
-                    a: vec![1.0; a],
-                    b: vec![1.0; b],
-                };
-                if let Some(x) = row.b.last_mut() {
-                    *x = last;
-                }
-                rows.push(row);
+    let pairs = lengths
+        .into_iter()
+        .flat_map(move |a| lengths.map(|b| (a, b)));
+    let long = pairs.flat_map(|(a, b)| {
+        [1.0, f64::NAN].map(|last| {
+            let mut rows = Rows {
+                a: vec![1.0; a],
+                b: vec![1.0; b],
+            };
+            if let Some(x) = rows.b.last_mut() {
+                *x = last;
             }
-        }
-    }
-    for edge in COORDINATE_EDGES.into_iter().chain(COORDINATE_FAULTS) {
-        for place in 0..6 {
-            let (mut a, mut b) = (vec![edge; 6], vec![edge; 6]);
-            a[place] = 2.0;
-            b[place] = 2.0;
-            rows.push(Rows { a, b });
-        }
-    }
-    rows
+            rows
+        })
+    });
+    let edges = COORDINATE_EDGES.into_iter().chain(COORDINATE_FAULTS);
+    let at_edges = edges.flat_map(|edge| {
+        (0..6).map(move |place| {
+            let mut row = vec![edge; 6];
+            row[place] = 2.0;
+            Rows {
+                a: row.clone(),
+                b: row,
+            }
+        })
+    });
+    long.chain(at_edges)
 }
 
 /// Rows with none, one or both of the faults that are refused, or with coordinates at their limits.
