@@ -78,10 +78,17 @@ impl Mesh {
     pub fn from_grid(grid: &[f64], u_steps: usize, v_steps: usize) -> Result<Self, Refusal> {
         // Steps that are refused get lists that are long enough for the largest grid.
         let (m, n) = (u_steps.min(255), v_steps.min(255));
-        let (mut triangles, mut flipped) = (vec![0; 6 * m * n], vec![0; 2 * (m + n)]);
-        let told = triangulate_grid(grid, u_steps, v_steps, &mut triangles, &mut flipped)?;
-        let triangles = triangles.as_chunks().0[..told.triangles].to_vec();
-        let flipped = flipped.as_chunks().0[..told.flipped].to_vec();
+        let mut triangles = vec![[0; 3]; 2 * m * n];
+        let mut flipped = vec![[0; 2]; m + n];
+        let told = triangulate_grid(
+            grid,
+            u_steps,
+            v_steps,
+            triangles.as_flattened_mut(),
+            flipped.as_flattened_mut(),
+        )?;
+        triangles.truncate(told.triangles);
+        flipped.truncate(told.flipped);
         Ok(Self {
             seams: told.seams,
             triangles,
