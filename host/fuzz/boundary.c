@@ -2,16 +2,14 @@
    01 fixes for every call: which refusal applies, what a refusal leaves in the lent lists, zeros past the
    counts, numbers inside the grid. A list lies against a page that cannot be touched, so that reading or
    writing past it ends the process. */
-#include "exports.h"
 #include "input.h"
+#include "merlontrispa.h"
 
 #include <math.h>
 #include <stdio.h>
 #include <stdlib.h>
 #include <string.h>
 #include <unistd.h>
-
-enum { NONE, STEPS, LENGTH, ROOM, COORDINATE, TEXTURE, COUNT, DIRECTION, NOT_THERE, MARK, SAMPLE, NO_STEP, FULL };
 
 /* Most of a grid's steps, a row's points and a curve's samples. */
 enum { MOST_STEPS = 7, MOST_POINTS = 24, MOST_SAMPLES = 24 };
@@ -77,12 +75,12 @@ static struct grid any_grid(struct input *input, int front) {
 /* The first of 1, 2, 3 and 4 that applies. */
 static int grid_refusal(const struct grid *grid, int lengths, int room) {
     if (!steps_fit(grid->m, grid->n))
-        return STEPS;
+        return MT_STEPS;
     if (!lengths || grid->length != 3 * (grid->m + 1) * (grid->n + 1))
-        return LENGTH;
+        return MT_LENGTH;
     if (!room)
-        return ROOM;
-    return all_fit(&grid->list) ? NONE : COORDINATE;
+        return MT_ROOM;
+    return all_fit(&grid->list) ? MT_OK : MT_COORDINATE;
 }
 
 static int ascend(const size_t *numbers, size_t length) {
@@ -99,7 +97,7 @@ static int below(const size_t *numbers, size_t length, size_t limit) {
     return 1;
 }
 
-static void seam_holds(const struct seam *seam, size_t steps) {
+static void seam_holds(const mt_found_seam *seam, size_t steps) {
     noted(seam->found ? 2 * (seam->offset > 0) + seam->reverse : 4);
     HOLDS(seam->comparisons <= 2 + 2 * (uint64_t)steps * (steps + 1));
     if (seam->found)
@@ -113,8 +111,9 @@ static void search(struct input *input) {
     size_t a_len = length(input, 3 * count(input, MOST_POINTS) % 96);
     size_t b_len = byte(input) % 4 ? a_len : length(input, a_len);
     struct list a = floats(input, 0, a_len, front), b = floats(input, 1, b_len, front);
-    struct seam_answer told = mt_new_vector(a.at, a_len, b.at, b_len);
-    int refusal = a_len % 3 || b_len % 3 ? LENGTH : all_fit(&a) && all_fit(&b) ? NONE : COORDINATE;
+    mt_rows_answer told = mt_new_vector(a.at, a_len, b.at, b_len);
+    int fit = all_fit(&a) && all_fit(&b);
+    int refusal = a_len % 3 || b_len % 3 ? MT_LENGTH : fit ? MT_OK : MT_COORDINATE;
     noted(told.refusal);
     HOLDS(told.refusal == refusal);
     HOLDS(untouched(&a) && untouched(&b));
@@ -129,9 +128,9 @@ static void search(struct input *input) {
 static void map(struct input *input) {
     size_t steps = count(input, 40), offset = count(input, 40), index = count(input, 41);
     int reverse = byte(input) % 2, fits = steps && steps <= 65535 && offset < steps && index <= steps;
-    struct index_answer there = mt_map_index(reverse, offset, steps, index);
-    struct index_answer back = mt_map_index_inv(reverse, offset, steps, index);
-    HOLDS(there.refusal == (fits ? NONE : NOT_THERE) && back.refusal == there.refusal);
+    mt_index_answer there = mt_map_index(reverse, offset, steps, index);
+    mt_index_answer back = mt_map_index_inv(reverse, offset, steps, index);
+    HOLDS(there.refusal == (fits ? MT_OK : MT_NOT_THERE) && back.refusal == there.refusal);
     HOLDS(there.index <= (fits ? steps : 0) && back.index <= (fits ? steps : 0));
     if (fits && offset == 0)
         HOLDS(mt_map_index_inv(reverse, offset, steps, there.index).index == index);
@@ -141,10 +140,11 @@ static void triangulate(struct input *input) {
     int front = byte(input) % 2;
     struct grid grid = any_grid(input, front);
     size_t m = grid.m, n = grid.n, small = m <= MOST_STEPS && n <= MOST_STEPS;
-    size_t triangles_len = length(input, small ? 6 * m * n : 6), flipped_len = length(input, small ? 2 * (m + n) : 4);
+    size_t triangles_len = length(input, small ? 6 * m * n : 6);
+    size_t flipped_len = length(input, small ? 2 * (m + n) : 4);
     struct list triangles = lend(1, triangles_len * sizeof(size_t), front);
     struct list flipped = lend(2, flipped_len * sizeof(size_t), front);
-    struct mesh_answer told = mt_triangulate_grid(grid.list.at, grid.length, m, n, triangles.at,
+    mt_mesh_answer told = mt_triangulate_grid(grid.list.at, grid.length, m, n, triangles.at,
                                                   triangles_len, flipped.at, flipped_len);
     noted(told.refusal);
     HOLDS(told.refusal == grid_refusal(&grid, 1, triangles_len >= 6 * m * n && flipped_len >= 2 * (m + n)));
@@ -176,7 +176,7 @@ static void draw_grid(struct input *input) {
     size_t starts_len = length(input, small ? m + n + 2 : 4);
     struct list points = lend(1, points_len * sizeof(double), front);
     struct list starts = lend(2, starts_len * sizeof(size_t), front);
-    struct paths_answer told = mt_grid_paths(grid.list.at, grid.length, m, n, points.at, points_len,
+    mt_paths_answer told = mt_grid_paths(grid.list.at, grid.length, m, n, points.at, points_len,
                                              starts.at, starts_len);
     int room = points_len >= 6 * (m + 1) * (n + 1) && starts_len >= m + n + 2;
     noted(told.refusal);
@@ -203,14 +203,14 @@ static void read_line(struct input *input) {
         numbers[i] = count(input, 12);
     keep(&starts);
     size_t point_count = count(input, 11), line_count = count(input, 13), index = count(input, 13);
-    struct span_answer span = mt_line_span(points.at, points_len, starts.at, starts_len, point_count,
+    mt_span_answer span = mt_line_span(points.at, points_len, starts.at, starts_len, point_count,
                                            line_count, index);
-    struct part part = mt_get(points.at, points_len, starts.at, starts_len, point_count, line_count, index);
+    mt_part part = mt_get(points.at, points_len, starts.at, starts_len, point_count, line_count, index);
     HOLDS(untouched(&points) && untouched(&starts));
     int there = index < line_count && line_count <= starts_len && point_count <= points_len / 3;
     size_t end = there && index + 1 < line_count ? numbers[index + 1] : point_count;
     there = there && numbers[index] <= end && end <= point_count;
-    HOLDS(span.refusal == (there ? NONE : NOT_THERE));
+    HOLDS(span.refusal == (there ? MT_OK : MT_NOT_THERE));
     if (there) {
         HOLDS(span.start == numbers[index] && span.end == end);
         HOLDS(part.offset == 3 * span.start && part.length == 3 * (end - span.start));
@@ -258,13 +258,13 @@ static void drawn_holds(const struct grid *grid, const struct page *page, size_t
 
 /* The first of 9 and 10 that applies. */
 static int curve_refusal(const double *pairs, const uint8_t *marks, size_t samples) {
-    int refusal = NONE;
+    int refusal = MT_OK;
     for (size_t i = 0; i < samples; i++) {
         if (marks[i] > 1)
-            return MARK;
+            return MT_MARK;
         for (size_t k = 2 * i; k < 2 * i + 2; k++)
             if (marks[i] && !(isfinite(pairs[k]) && fabs(pairs[k]) <= 0x1p20))
-                refusal = SAMPLE;
+                refusal = MT_SAMPLE;
     }
     return refusal;
 }
@@ -293,7 +293,7 @@ static void trace(struct input *input) {
     struct page page = {
         lend(3, lens[0] * sizeof(double), front), lend(4, lens[1] * sizeof(size_t), front),
         lend(5, lens[2] * sizeof(size_t), front), lend(6, lens[3] * sizeof(double), front)};
-    struct paths_answer told = mt_trace_flat(
+    mt_paths_answer told = mt_trace_flat(
         grid.list.at, grid.length, grid.m, grid.n, pairs.at, pairs_len, marks.at, samples, page.points.at,
         lens[0], page.starts.at, lens[1], page.sides.at, lens[2], page.fractions.at, lens[3]);
     noted(told.refusal);
@@ -304,7 +304,7 @@ static void trace(struct input *input) {
     if (refusal) {
         HOLDS(told.refusal == refusal && page_untouched(&page));
     } else if (told.refusal) {
-        HOLDS(told.refusal == NO_STEP || told.refusal == FULL);
+        HOLDS(told.refusal == MT_NO_STEP || told.refusal == MT_FULL);
         HOLDS(page_zero(&page, 0, 0));
     } else {
         noted(told.lines);
@@ -319,24 +319,25 @@ static void texture(struct input *input) {
     size_t arms = kind == 2 ? count(input, 66) : 0, m = count(input, 255), n = count(input, 255);
     size_t ray = count(input, 70), sample = count(input, 200);
     double cosine = number(input), sine = number(input);
-    struct ray_counts counts = mt_plan(kind, spacing, twist, arms, m, n);
-    struct ray_angle angle = mt_angle(kind, spacing, twist, arms, m, n, ray, sample);
-    struct ray_point point = mt_sample_point(kind, spacing, twist, arms, m, n, ray, sample, cosine, sine);
+    mt_ray_counts counts = mt_plan(kind, spacing, twist, arms, m, n);
+    mt_ray_angle angle = mt_angle(kind, spacing, twist, arms, m, n, ray, sample);
+    mt_ray_point point = mt_sample_point(kind, spacing, twist, arms, m, n, ray, sample, cosine, sine);
     int fits = fabs(twist) <= 64 && arms <= 64;
-    int refusal = !steps_fit(m, n) ? STEPS : !fits ? TEXTURE : counts.refusal ? COUNT : NONE;
+    int refusal = !steps_fit(m, n) ? MT_STEPS : !fits ? MT_TEXTURE : counts.refusal ? MT_COUNT : MT_OK;
     noted(point.refusal);
     HOLDS(counts.refusal == refusal && counts.rays <= 65536 && counts.samples <= 65536);
     int there = ray < counts.rays && sample <= counts.samples;
-    HOLDS(angle.refusal == (refusal ? refusal : there ? NONE : NOT_THERE));
+    HOLDS(angle.refusal == (refusal ? refusal : there ? MT_OK : MT_NOT_THERE));
     HOLDS(isfinite(angle.angle));
     int turned = fabs(cosine) <= 1 && fabs(sine) <= 1;
-    HOLDS(point.refusal == (refusal ? refusal : !turned ? DIRECTION : angle.refusal));
+    HOLDS(point.refusal == (refusal ? refusal : !turned ? MT_DIRECTION : angle.refusal));
     HOLDS(isfinite(point.u) && isfinite(point.v));
 }
 
 /* The first byte chooses the call, and the rest what it takes. */
 static void run(const uint8_t *bytes, size_t size) {
-    static void (*const calls[])(struct input *) = {trace, triangulate, search, draw_grid, read_line, map, texture};
+    static void (*const calls[])(struct input *) = {trace,     triangulate, search, draw_grid,
+                                                    read_line, map,         texture};
     struct input input = {bytes, bytes + size};
     calls[byte(&input) % (sizeof calls / sizeof *calls)](&input);
 }
