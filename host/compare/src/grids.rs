@@ -57,10 +57,16 @@ impl Grid {
     }
 }
 
-/// The lines without a stretch of them, at least two.
+/// The lines without a stretch of them, alone or with its mirror image, so that a reversed seam stays
+/// one; at least two.
 fn fewer(lines: &[usize]) -> impl Iterator<Item = Vec<usize>> + use<> {
     let lines = lines.to_vec();
-    let left = stretches(lines.len()).map(move |stretch| without(&lines, &stretch));
+    let left = stretches(lines.len()).flat_map(move |gone| {
+        let mirrored = lines.len() - gone.end..lines.len() - gone.start;
+        let both = |i: &usize| !gone.contains(i) && !mirrored.contains(i);
+        let without_both = (0..lines.len()).filter(both).map(|i| lines[i]).collect();
+        [without(&lines, &gone), without_both]
+    });
     left.filter(|left| left.len() >= 2)
 }
 
