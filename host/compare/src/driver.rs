@@ -179,7 +179,7 @@ impl Driver {
         }
         progress.end();
         let (count, rate) = (progress.count(), progress.rate());
-        println!("  {name}: {count} inputs, no difference ({rate:.3} million a second)");
+        println!("  {name}: {count} inputs, no difference ({rate:.0} a second)");
         self.tally.push((name.into(), count));
         Ok(())
     }

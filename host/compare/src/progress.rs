@@ -35,9 +35,9 @@ impl Progress {
         self.count
     }
 
-    /// Millions of cases a second.
+    /// Cases a second.
     pub fn rate(&self) -> f64 {
-        self.count as f64 / self.start.elapsed().as_secs_f64() / 1e6
+        self.count as f64 / self.start.elapsed().as_secs_f64()
     }
 
     /// One case more.
@@ -68,7 +68,7 @@ impl Progress {
     fn tell(&self) {
         let (name, count, rate) = (&self.name, self.count, self.rate());
         let seconds = self.start.elapsed().as_secs();
-        let line = format!("  {name}: {count} inputs, {rate:.3} million a second, {seconds} s");
+        let line = format!("  {name}: {count} inputs, {rate:.0} a second, {seconds} s");
         if self.terminal {
             eprint!("\r{line}\x1b[K");
         } else {
