@@ -44,17 +44,20 @@ static int coordinate_fits(double x) {
 static struct list floats(struct input *input, int place, size_t length, int front) {
     struct list list = lend(place, length * sizeof(double), front);
     double *numbers = list.at;
-    for (size_t i = 0; i < length; i++)
+    for (size_t i = 0; i < length; i++) {
         numbers[i] = number(input);
+    }
     keep(&list);
     return list;
 }
 
 static int all_fit(const struct list *list) {
     const double *numbers = list->at;
-    for (size_t i = 0; i < list->bytes / sizeof(double); i++)
-        if (!coordinate_fits(numbers[i]))
+    for (size_t i = 0; i < list->bytes / sizeof(double); i++) {
+        if (!coordinate_fits(numbers[i])) {
             return 0;
+        }
+    }
     return 1;
 }
 
@@ -74,36 +77,48 @@ static struct grid any_grid(struct input *input, int front) {
 
 /* The first of 1, 2, 3 and 4 that applies. */
 static int grid_refusal(const struct grid *grid, int lengths, int room) {
-    if (!steps_fit(grid->m, grid->n))
+    if (!steps_fit(grid->m, grid->n)) {
         return MT_STEPS;
-    if (!lengths || grid->length != 3 * (grid->m + 1) * (grid->n + 1))
+    }
+    if (!lengths || grid->length != 3 * (grid->m + 1) * (grid->n + 1)) {
         return MT_LENGTH;
-    if (!room)
+    }
+    if (!room) {
         return MT_ROOM;
+    }
     return all_fit(&grid->list) ? MT_OK : MT_COORDINATE;
 }
 
 static int ascend(const size_t *numbers, size_t length) {
-    for (size_t i = 1; i < length; i++)
-        if (numbers[i - 1] > numbers[i])
+    for (size_t i = 1; i < length; i++) {
+        if (numbers[i - 1] > numbers[i]) {
             return 0;
+        }
+    }
     return 1;
 }
 
 static int below(const size_t *numbers, size_t length, size_t limit) {
-    for (size_t i = 0; i < length; i++)
-        if (numbers[i] >= limit)
+    for (size_t i = 0; i < length; i++) {
+        if (numbers[i] >= limit) {
             return 0;
+        }
+    }
     return 1;
 }
 
 static void seam_holds(const mt_found_seam *seam, size_t steps) {
     noted(seam->found ? 2 * (seam->offset > 0) + seam->reverse : 4);
     HOLDS(seam->comparisons <= 2 + 2 * (uint64_t)steps * (steps + 1));
-    if (seam->found)
+    if (seam->found) {
         HOLDS(seam->steps == steps && seam->offset < steps);
-    else
+    } else {
         HOLDS(!seam->reverse && !seam->offset && !seam->steps);
+    }
+}
+
+static int seam_zero(const mt_found_seam *seam) {
+    return !seam->found && !seam->reverse && !seam->offset && !seam->steps && !seam->comparisons;
 }
 
 static void search(struct input *input) {
@@ -117,12 +132,15 @@ static void search(struct input *input) {
     noted(told.refusal);
     HOLDS(told.refusal == refusal);
     HOLDS(untouched(&a) && untouched(&b));
-    if (refusal)
+    if (refusal) {
+        HOLDS(seam_zero(&told.seam));
         return;
-    if (a_len < 6 || a_len != b_len)
+    }
+    if (a_len < 6 || a_len != b_len) {
         HOLDS(!told.seam.found && !told.seam.comparisons);
-    else
+    } else {
         seam_holds(&told.seam, a_len / 3 - 1);
+    }
 }
 
 static void map(struct input *input) {
@@ -132,8 +150,9 @@ static void map(struct input *input) {
     mt_index_answer back = mt_map_index_inv(reverse, offset, steps, index);
     HOLDS(there.refusal == (fits ? MT_OK : MT_NOT_THERE) && back.refusal == there.refusal);
     HOLDS(there.index <= (fits ? steps : 0) && back.index <= (fits ? steps : 0));
-    if (fits && offset == 0)
+    if (fits && offset == 0) {
         HOLDS(mt_map_index_inv(reverse, offset, steps, there.index).index == index);
+    }
 }
 
 static void triangulate(struct input *input) {
@@ -145,12 +164,13 @@ static void triangulate(struct input *input) {
     struct list triangles = lend(1, triangles_len * sizeof(size_t), front);
     struct list flipped = lend(2, flipped_len * sizeof(size_t), front);
     mt_mesh_answer told = mt_triangulate_grid(grid.list.at, grid.length, m, n, triangles.at,
-                                                  triangles_len, flipped.at, flipped_len);
+                                              triangles_len, flipped.at, flipped_len);
     noted(told.refusal);
     HOLDS(told.refusal == grid_refusal(&grid, 1, triangles_len >= 6 * m * n && flipped_len >= 2 * (m + n)));
     HOLDS(untouched(&grid.list));
     if (told.refusal) {
         HOLDS(untouched(&triangles) && untouched(&flipped));
+        HOLDS(seam_zero(&told.u) && seam_zero(&told.v) && !told.triangles && !told.pairs);
         return;
     }
     seam_holds(&told.u, n);
@@ -177,13 +197,13 @@ static void draw_grid(struct input *input) {
     struct list points = lend(1, points_len * sizeof(double), front);
     struct list starts = lend(2, starts_len * sizeof(size_t), front);
     mt_paths_answer told = mt_grid_paths(grid.list.at, grid.length, m, n, points.at, points_len,
-                                             starts.at, starts_len);
+                                         starts.at, starts_len);
     int room = points_len >= 6 * (m + 1) * (n + 1) && starts_len >= m + n + 2;
     noted(told.refusal);
     HOLDS(told.refusal == grid_refusal(&grid, 1, room));
     HOLDS(untouched(&grid.list));
     if (told.refusal) {
-        HOLDS(untouched(&points) && untouched(&starts));
+        HOLDS(untouched(&points) && untouched(&starts) && !told.points && !told.lines);
         return;
     }
     HOLDS(told.points == 2 * (m + 1) * (n + 1) && told.lines == m + n + 2);
@@ -199,12 +219,13 @@ static void read_line(struct input *input) {
     struct list points = lend(0, points_len * sizeof(double), front);
     struct list starts = lend(1, starts_len * sizeof(size_t), front);
     size_t *numbers = starts.at;
-    for (size_t i = 0; i < starts_len; i++)
+    for (size_t i = 0; i < starts_len; i++) {
         numbers[i] = count(input, 12);
+    }
     keep(&starts);
     size_t point_count = count(input, 11), line_count = count(input, 13), index = count(input, 13);
     mt_span_answer span = mt_line_span(points.at, points_len, starts.at, starts_len, point_count,
-                                           line_count, index);
+                                       line_count, index);
     mt_part part = mt_get(points.at, points_len, starts.at, starts_len, point_count, line_count, index);
     HOLDS(untouched(&points) && untouched(&starts));
     int there = index < line_count && line_count <= starts_len && point_count <= points_len / 3;
@@ -215,7 +236,7 @@ static void read_line(struct input *input) {
         HOLDS(span.start == numbers[index] && span.end == end);
         HOLDS(part.offset == 3 * span.start && part.length == 3 * (end - span.start));
     } else {
-        HOLDS(!span.start && !span.end && !part.length && part.offset <= points_len);
+        HOLDS(!span.start && !span.end && !part.offset && !part.length);
     }
 }
 
@@ -260,11 +281,14 @@ static void drawn_holds(const struct grid *grid, const struct page *page, size_t
 static int curve_refusal(const double *pairs, const uint8_t *marks, size_t samples) {
     int refusal = MT_OK;
     for (size_t i = 0; i < samples; i++) {
-        if (marks[i] > 1)
+        if (marks[i] > 1) {
             return MT_MARK;
-        for (size_t k = 2 * i; k < 2 * i + 2; k++)
-            if (marks[i] && !(isfinite(pairs[k]) && fabs(pairs[k]) <= 0x1p20))
+        }
+        for (size_t k = 2 * i; k < 2 * i + 2; k++) {
+            if (marks[i] && !(isfinite(pairs[k]) && fabs(pairs[k]) <= 0x1p20)) {
                 refusal = MT_SAMPLE;
+            }
+        }
     }
     return refusal;
 }
@@ -288,8 +312,9 @@ static void trace(struct input *input) {
     struct list marks = any_marks(input, samples, front), pairs = floats(input, 1, pairs_len, front);
     /* Where the bytes have come to an end there is still room. */
     size_t room = (byte(input) + 16) % 256, lens[4] = {3 * room, room, 2 * room, room};
-    for (int i = 0; i < 4; i++)
+    for (int i = 0; i < 4; i++) {
         lens[i] = length(input, lens[i]);
+    }
     struct page page = {
         lend(3, lens[0] * sizeof(double), front), lend(4, lens[1] * sizeof(size_t), front),
         lend(5, lens[2] * sizeof(size_t), front), lend(6, lens[3] * sizeof(double), front)};
@@ -298,9 +323,11 @@ static void trace(struct input *input) {
         lens[0], page.starts.at, lens[1], page.sides.at, lens[2], page.fractions.at, lens[3]);
     noted(told.refusal);
     HOLDS(untouched(&grid.list) && untouched(&pairs) && untouched(&marks));
+    HOLDS(!told.refusal || (!told.points && !told.lines));
     int refusal = grid_refusal(&grid, pairs_len == 2 * samples, 1);
-    if (!refusal)
+    if (!refusal) {
         refusal = curve_refusal(pairs.at, marks.at, samples);
+    }
     if (refusal) {
         HOLDS(told.refusal == refusal && page_untouched(&page));
     } else if (told.refusal) {
@@ -325,13 +352,14 @@ static void texture(struct input *input) {
     int fits = fabs(twist) <= 64 && arms <= 64;
     int refusal = !steps_fit(m, n) ? MT_STEPS : !fits ? MT_TEXTURE : counts.refusal ? MT_COUNT : MT_OK;
     noted(point.refusal);
-    HOLDS(counts.refusal == refusal && counts.rays <= 65536 && counts.samples <= 65536);
+    HOLDS(counts.refusal == refusal && counts.rays <= (refusal ? 0 : 65536));
+    HOLDS(counts.samples <= (refusal ? 0 : 65536));
     int there = ray < counts.rays && sample <= counts.samples;
     HOLDS(angle.refusal == (refusal ? refusal : there ? MT_OK : MT_NOT_THERE));
-    HOLDS(isfinite(angle.angle));
+    HOLDS(isfinite(angle.angle) && (!angle.refusal || angle.angle == 0));
     int turned = fabs(cosine) <= 1 && fabs(sine) <= 1;
     HOLDS(point.refusal == (refusal ? refusal : !turned ? MT_DIRECTION : angle.refusal));
-    HOLDS(isfinite(point.u) && isfinite(point.v));
+    HOLDS(isfinite(point.u) && isfinite(point.v) && (!point.refusal || (point.u == 0 && point.v == 0)));
 }
 
 /* The first byte chooses the call, and the rest what it takes. */

@@ -14,8 +14,9 @@ uint8_t byte(struct input *input) {
 
 static uint64_t word(struct input *input) {
     uint64_t bits = 0;
-    for (int i = 0; i < 8; i++)
+    for (int i = 0; i < 8; i++) {
         bits = bits << 8 | byte(input);
+    }
     return bits;
 }
 
@@ -27,8 +28,9 @@ size_t count(struct input *input, size_t limit) {
 
 size_t length(struct input *input, size_t least) {
     uint8_t first = byte(input);
-    if (first < 200)
+    if (first < 200) {
         return least + first % 4;
+    }
     size_t less = first - 200;
     return least > less ? least - less : 0;
 }
@@ -38,10 +40,12 @@ double number(struct input *input) {
                                    0x1.0000000000001p20, 5e-324, 0.9999999990000001, 1.000000001, INFINITY,
                                    -INFINITY, NAN, 64.0, 64.00000000000001};
     uint8_t first = byte(input);
-    if (first < 224)
+    if (first < 224) {
         return (first - 80) / 4.0;
-    if (first < 240)
+    }
+    if (first < 240) {
         return edges[first - 224];
+    }
     uint64_t bits = word(input);
     double x;
     memcpy(&x, &bits, sizeof x);
@@ -53,8 +57,9 @@ static uint8_t *place_of_list(int place) {
     static uint8_t *places[PLACES];
     if (!places[place]) {
         uint8_t *all = mmap(NULL, ROOM + 2 * PAGE, PROT_NONE, MAP_PRIVATE | MAP_ANONYMOUS, -1, 0);
-        if (all == MAP_FAILED || mprotect(all + PAGE, ROOM, PROT_READ | PROT_WRITE))
+        if (all == MAP_FAILED || mprotect(all + PAGE, ROOM, PROT_READ | PROT_WRITE)) {
             abort();
+        }
         places[place] = all + PAGE;
     }
     return places[place];
@@ -63,8 +68,9 @@ static uint8_t *place_of_list(int place) {
 struct list lend(int place, size_t bytes, int front) {
     static uint8_t copies[PLACES][ROOM];
     uint8_t *room = place_of_list(place);
-    if (bytes > ROOM)
+    if (bytes > ROOM) {
         abort();
+    }
     struct list list = {front ? room : room + ROOM - bytes, copies[place], bytes};
     memset(list.at, 0xA5, bytes);
     keep(&list);
@@ -81,8 +87,10 @@ int untouched(const struct list *list) {
 
 int zero_from(const struct list *list, size_t byte) {
     const uint8_t *at = list->at;
-    for (size_t i = byte; i < list->bytes; i++)
-        if (at[i])
+    for (size_t i = byte; i < list->bytes; i++) {
+        if (at[i]) {
             return 0;
+        }
+    }
     return byte <= list->bytes;
 }
