@@ -1,18 +1,20 @@
 //! Plans, angles and sample points of textures against the original's: its counts, and the lines of whole
 //! swirls and spirals, which the library draws alone but for the cosine and the sine.
 
+use crate::case::case;
 use crate::driver::{Compared, Driver};
 use crate::grids::{Grid, any_grid};
 use crate::inputs::{EPS, any, whole};
 use crate::lines::coordinates;
+use crate::lists::grid_refusal;
 use crate::random::Random;
 use crate::seams::vectors;
-use crate::value::Show;
 use merlontrispa::{Plan, Refusal, Texture};
 use original::{
     ParametricSurfaceTexture, Surface, Vector, radial_sample_count, spiral_sample_count,
     texture_spacing,
 };
+use std::cell::LazyCell;
 use std::f64::consts::TAU;
 
 const SPACINGS: [f64; 19] = [
@@ -59,41 +61,26 @@ const ARMS: [usize; 6] = [0, 1, 2, 64, 65, usize::MAX];
 const STEPS: [usize; 7] = [0, 1, 2, 3, 254, 255, 256];
 
 /// A texture on a surface of so many cells.
+#[derive(Clone)]
 struct Input {
     texture: Texture,
     m: usize,
     n: usize,
 }
 
-impl Show for Input {
-    fn show(&self) -> String {
-        let numbers = match self.texture {
-            Texture::Grid => "grid".into(),
-            Texture::Swirl { spacing, twist } => {
-                format!("swirl {}, {}", spacing.show(), twist.show())
-            }
-            Texture::Spiral { spacing, arms } => format!("spiral {}, {arms}", spacing.show()),
-        };
-        format!("{numbers}, M {}, N {}", self.m, self.n)
-    }
-}
+case!(Input { texture, m, n });
 
 /// A texture on a grid.
+#[derive(Clone)]
 struct Scene {
     texture: Texture,
     grid: Grid,
 }
 
-impl Show for Scene {
-    fn show(&self) -> String {
-        let texture = self.texture;
-        let (m, n) = (self.grid.u_steps, self.grid.v_steps);
-        format!("{}, {}", Input { texture, m, n }.show(), self.grid.show())
-    }
-}
+case!(Scene { texture, grid });
 
 pub fn compare(driver: &mut Driver) -> Compared {
-    let radii = radii();
+    let radii = LazyCell::new(radii);
     let library = |input: &Input| input.texture.plan(input.m, input.n);
     let original = |input: &Input| original_plan(&radii, input);
     driver.compare_each("plan, edges", edges(), library, original)?;
@@ -153,6 +140,9 @@ type DrawnLines = Result<Vec<Vec<f64>>, Refusal>;
 
 /// What the original draws; where it panics, 11 is due.
 fn original_lines(scene: &Scene) -> DrawnLines {
+    if let Some(refusal) = grid_refusal(&scene.grid, |_, _| true) {
+        return Err(refusal);
+    }
     let texture = match scene.texture {
         Texture::Grid => ParametricSurfaceTexture::Grid,
         Texture::Swirl { spacing, twist } => ParametricSurfaceTexture::Swirl { spacing, twist },
