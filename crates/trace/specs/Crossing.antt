@@ -35,12 +35,15 @@ closeTo x n = lt (absolute (sub binary64 x (natFloat n))) eps
 unfoldable pub cellOf : Float → ℕ → ℕ
 cellOf x steps = pick (closeTo x steps) (steps - 1) (count (floorZ x))
 
+-- no answer: no steps, or more than EPS outside 0 to steps
 unfoldable pub offAxis : Float → ℕ → Bool
 offAxis x steps = eqb steps 0 || (lt x (neg eps) || lt (add binary64 (natFloat steps) eps) x)
 
+-- the cell of a value, and how far into it the value is
 unfoldable pub inCell : Float → ℕ → StepIndex
 inCell x steps = At (cellOf x steps) (sub binary64 x (natFloat (cellOf x steps)))
 
+-- `step_index`: the value is brought between 0 and steps first
 unfoldable pub stepIndex : Float → ℕ → StepIndex
 stepIndex x steps = pick (offAxis x steps) Nothing (inCell (clamped x zero64 (natFloat steps)) steps)
 
