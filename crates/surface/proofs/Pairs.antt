@@ -10,7 +10,7 @@ use lib.Dec.{eqb, ltb}
 use lib.ListN.{length}
 use borrow.Author.Tests.{eq-eqb, ne-eqb, ltb-true, ltb-false, lt-ltb}
 use Rattle.cyclic.specs.Mapping.{pick}
-use Rattle.surface.specs.Surface.{Seam, reverse, reversed, inverse, Shape, slot, proper, triangles, Pair, pair, ordered, insert, Before, Ascending, numberOf, stepOn, process, flipped, lowU, highU, lowV, highV, wrapEnds}
+use Rattle.surface.specs.Surface.{Seam, reverse, reversed, inverse, Shape, slot, proper, triangles, Pair, pair, ordered, insert, numberOf, stepOn, process, flipped, lowU, highU, lowV, highV, wrapEnds}
 use Rattle.surface.proofs.Steps.{both-true, eqb-cases, lt-or-le, Offset, laidOn, reverse-step}
 use Rattle.surface.proofs.Triangles.{number-below}
 use Rattle.surface.proofs.Halves.{lowU-lt, highU-lt, lowV-lt, highV-lt}
@@ -121,6 +121,14 @@ insert-here p (r ∷ rs) =
     (insert-form p r rs)
 
 -- ---- ascending
+
+-- "ascending by the first and then the second, each pair once", as a property of a list
+abbrev pub Before : Pair → Pair → Type 0
+Before p q = (p .low < q .low) ⊎ ((p .low ≡ q .low) × (p .high < q .high))
+
+abbrev pub Ascending : List Pair → Type 0
+Ascending [] = Unit {0}
+Ascending (p ∷ ps) = ((q : Pair) → List·Memᴰ q ps → Before p q) × Ascending ps
 
 before-trans : (p q r : Pair) → Before p q → Before q r → Before p r
 before-trans p q r (inl a) (inl b) = inl (omega arith)

@@ -2,7 +2,6 @@
 pub mod Crossing
 pub mod Walk
 pub mod Drawing
-pub mod Lines
 pub mod Trace
 pub mod Page
 pub mod Demand
