@@ -6,3 +6,4 @@ pub mod Trace
 pub mod Page
 pub mod Demand
 pub mod Table
+pub mod Known
