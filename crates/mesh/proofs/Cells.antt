@@ -11,7 +11,7 @@ use lib.ListN.{length, getD, set, length-append}
 use lib.Seq.{getD-set-same, getD-set-other}
 use Rattle.surface.proofs.Steps.{lt-or-le}
 use Rattle.cyclic.specs.declared.seam.Seam.{Seam}
-use Rattle.surface.specs.Surface.{pick, Shape, Triangle, tri, proper, falling, halfOf, slot, kept, numberOf}
+use Rattle.surface.specs.Surface.{pick, Shape, Triangle, tri, proper, falling, halfOf, slot, kept, triangleNumber}
 use Rattle.surface.specs.Found.{surfaceWith}
 use Rattle.mesh.specs.declared.corner.Cell.{Cell}
 use Rattle.mesh.specs.Held.{firsts, triangleAt, trianglesIn}
@@ -52,8 +52,8 @@ kept-most s (suc k) = rw length-append (omega (arith, kept-most s k, one (proper
 pub held-most : (s : Shape) (k count : ℕ) (l : List ℕ) → trianglesIn count l ≡ kept s k → count ≤ k
 held-most s k count l e = omega (arith, length-firsts (triangleAt l) count, ap length e, kept-most s k)
 
-pub held-count : (s : Shape) (k count : ℕ) (l : List ℕ) → trianglesIn count l ≡ kept s k → count ≡ numberOf s k
-unfolding numberOf
+pub held-count : (s : Shape) (k count : ℕ) (l : List ℕ) → trianglesIn count l ≡ kept s k → count ≡ triangleNumber s k
+unfolding triangleNumber
 held-count s k count l e = sym (length-firsts (triangleAt l) count) ∙ ap length e
 
 -- before the first cell

@@ -4,11 +4,11 @@ use mathlib.Core.Path.{_≡_, refl}
 use mathlib.Core.Bool.{Bool, true}
 use mathlib.Core.List.{[], _∷_}
 use Rattle.cyclic.specs.Mapping as mapping
-use Rattle.surface.specs.Surface.{Seam, unjoined, forward, reverse, Shape, Rule, once, twice, Split, falling, rising, cornerBy, corner, tri, halfOf, slot, slots, kept, triangles, numberOf, pair, stepOn, lowU, highU, lowV, highV, process, flipped, joinedBy, J, nth}
+use Rattle.surface.specs.Surface.{Seam, unjoined, forward, reverse, Shape, Rule, once, twice, Split, falling, rising, cornerBy, corner, tri, halfOf, slot, slots, kept, triangles, triangleNumber, pair, stepOn, lowU, highU, lowV, highV, process, flipped, joinedBy, J, nth}
 
 -- all that a closed result computes through
 unfoldable computed : Bool
-unfolding mapping.inverse cornerBy corner halfOf slot slots kept triangles numberOf stepOn lowU highU lowV highV process flipped joinedBy J
+unfolding mapping.inverse cornerBy corner halfOf slot slots kept triangles triangleNumber stepOn lowU highU lowV highV process flipped joinedBy J
 computed = true
 
 abbrev shape : ℕ → ℕ → Seam → Seam → Rule → Split → Shape
