@@ -2,9 +2,12 @@
 //!
 //!     compare [--seed NUMBER] [--cases NUMBER] [LAYER..]
 //!
+//!     compare [--seed NUMBER] --record FILE
+//!
 //! `--cases` says how many random inputs each comparison takes, in the place of a number of its own; one
 //! on large grids takes its share of them.
 //! The first difference ends the run: the inputs are printed by their bits, and the exit status is 1.
+//! `--record` writes the cases that `crates/replay` runs, and says what they reach.
 //! Where the sources of the original are absent nothing is compared, and the exit status is 2.
 
 use std::process::ExitCode;
@@ -25,6 +28,8 @@ mod lists;
 mod meshes;
 #[cfg(larnt)]
 mod random;
+#[cfg(larnt)]
+mod record;
 #[cfg(larnt)]
 mod run;
 #[cfg(larnt)]
