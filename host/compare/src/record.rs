@@ -92,13 +92,13 @@ const REACHED: [(Call, &[&str]); 6] = [
 ];
 
 /// One call with what it answers and leaves.
-pub struct Case {
+pub struct Recorded {
     call: Call,
     fields: Vec<Vec<u64>>,
     reaches: Vec<String>,
 }
 
-impl Case {
+impl Recorded {
     /// A call with these numbers, held to the original, or to the scope where it is `refused`: only the
     /// original's own panic is its answer.
     pub fn new(call: Call, refused: Option<Refusal>, numbers: &[u64]) -> Self {
@@ -178,7 +178,7 @@ pub fn bits(x: f64) -> u64 {
 /// The cases that are kept, and how many reach each thing.
 pub struct Record {
     seed: u64,
-    cases: Vec<Case>,
+    cases: Vec<Recorded>,
     reached: BTreeMap<String, u32>,
 }
 
@@ -205,7 +205,7 @@ impl Record {
     }
 
     /// Keeps a short case that reaches something that few do.
-    pub fn offer(&mut self, case: Case) {
+    pub fn offer(&mut self, case: Recorded) {
         let few = |what: &String| self.reached.get(what).is_none_or(|&count| count < ENOUGH);
         if case.length() <= LENGTH && case.reaches.iter().any(few) {
             self.keep(case);
@@ -213,7 +213,7 @@ impl Record {
     }
 
     /// Keeps a case.
-    pub fn keep(&mut self, case: Case) {
+    pub fn keep(&mut self, case: Recorded) {
         for what in &case.reaches {
             *self.reached.entry(what.clone()).or_default() += 1;
         }
@@ -270,7 +270,7 @@ fn line(field: &[u64]) -> String {
 #[cfg(test)]
 mod tests {
     use super::*;
-    use crate::run::SEED;
+    use crate::request::SEED;
     use std::fs;
     use std::path::Path;
 

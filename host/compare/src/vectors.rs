@@ -3,7 +3,7 @@
 use crate::driver::{Compared, Driver};
 use crate::inputs::{any, near};
 use crate::random::Random;
-use crate::record::{Call, Case, Record, bits};
+use crate::record::{Call, Record, Recorded, bits};
 use merlontrispa::Vector;
 
 const COUNT: u64 = 10_000_000;
@@ -79,13 +79,13 @@ pub fn record(record: &mut Record) {
             ("mul_scalar", p.mul_scalar(b.x)),
         ];
         for (operation, (name, result)) in (0..).zip(results) {
-            let case = Case::new(Call::Vector, None, &[operation]).reaching(name);
+            let case = Recorded::new(Call::Vector, None, &[operation]).reaching(name);
             let result = words(from_original(result));
             record.keep(case.words(&words(a)).words(&words(b)).words(&result));
         }
         let [a, b] = close_or_not(&mut random);
         let close = original(a).all_close(original(b));
-        let case = Case::new(Call::Vector, None, &[3]).reaching(if close {
+        let case = Recorded::new(Call::Vector, None, &[3]).reaching(if close {
             "all_close"
         } else {
             "not all_close"
