@@ -429,24 +429,139 @@ def trace_samples_walk():
     return w.text(8)
 
 
+# ---- `mt_trace_samples`: the answer of `trace_samples` in local 9
+
+EXPORT_LOCALS = 18
+
+
+def mt_trace_samples_passed():
+    """What `trace_samples` asks: the tokens, then the parameters."""
+    w = Walk(*[f"t{p}" for p in SLICES], *[f"O{p}" for p in SLICES])
+    w.step("nothing !")
+    w.now(0, "joined")
+    w.gather(*[f"t{p}" for p in SLICES])
+    w.now(1, "tokens")
+    w.line()
+    w.step("nothing !")
+    w.now(0, "joined")
+    for p in reversed(PARAMETERS):
+        if p in NUMBERS:
+            w.step(f"owned ! usize (Is usize) (uint-makes 𝓤 H A W w64) d{sub(p)} _ (refl, g{sub(p)})")
+            w.now(0, f"O{p}")
+        w.bring(f"O{p}", "joined")
+        w.step("fjoin !")
+        w.now(2, "joined")
+    w.bring("tokens", "joined")
+    w.end("join ! $ frame ! $ nothing ! $ done !")
+    return w.text(6)
+
+
+def mt_trace_samples_walk():
+    w = Walk("tokens", "owns")
+    enter(w, EXPORT_LOCALS)
+
+    w.note("what `trace_samples` is passed")
+    lent = lend_outputs(w, 10)
+    w.line()
+    take_parameters(w)
+    copy_slice(w, 0, 0, "f64")
+    copy_slice(w, SAMPLES, 1, "T.the-row")
+
+    w.note("`trace_samples`")
+    w.bring(*[f"t{p}" for p in SLICES], *[f"O{p}" for p in SLICES])
+    w.step("group ! 12")
+    w.step("use1 W (raw (Rec 𝓤 H A mem run .pre to-rec)) (goes-rec g₁ g₂)")
+    w.now(12, "pre")
+    w.line()
+    w.bind(f"calls-at ! fm (Rec 𝓤 H A mem run) known-rec to-rec {w.operands(*map(w.load, [1, 2, 3, 4, *lent]))}", "v")
+    w.now(1, "post")
+    w.line()
+    w.step("use1 W (later (some (After-rec v))) (id⊢ 𝓤 _)")
+    w.step("await ! tt")
+    w.bind("pick !", "r")
+    w.split("post", "toks")
+    w.bring("post")
+    w.bind("use1 W (some (Rec-said r)) (id⊢ 𝓤 _) $ pick !", "ws")
+    w.split("post", "lasts", "answer")
+    w.bring("answer")
+    w.bind(f"heard ! (Said r {last_lists('ws', 4)})", "said")
+    w.now(1)
+    w.bring("post")
+    w.bind("heard ! (Demand3 d₀ d₁ d₂)", "demand")
+    w.now(1)
+    outputs_after(w, 4)
+    w.split("toks", "tokens")
+    w.bring("toks")
+    w.line()
+    w.bind("peeks ! Tr.the-row (Is Tr.the-row) (shows 𝓤 H A Tr.the-row) r (v ∷ [])", "is")
+    w.now(1, "answer")
+    w.step("land ! (from ! (stop !)) " + w.cell(9, "(EL.lawful Tr.the-type Tr′.the-laws 𝓤 H A W tt .typed r _ is .0)"))
+
+    w.note("`trace_to_c`")
+    w.step("use1 W (raw (Conv 𝓤 H A mem run .pre (to-conv r v))) (goes-conv r v)")
+    w.now(1, "pre")
+    w.line()
+    w.bind(f"calls-at ! fm (Conv 𝓤 H A mem run) known-conv (to-conv r v) {w.operands(w.load(9))}", "u")
+    w.now(1, "post")
+    w.line()
+    w.step("use1 W (later (some (After-conv r u))) (id⊢ 𝓤 _)")
+    w.step("await ! tt")
+    w.bind("pick !", "c")
+    w.split("post", "toks")
+    w.bring("post")
+    w.bind("use1 W (some (Conv-said r c)) (id⊢ 𝓤 _) $ pick !", "us")
+    w.split("post", "lasts")
+    w.bring("post")
+    w.bind("heard ! (c ≡ traceAnswer (statedTrace r))", "e")
+    w.now(1)
+    w.split("toks", "none")
+    w.bring("toks")
+    w.line()
+    w.bind("peeks ! An.the-row (Is An.the-row) (shows 𝓤 H A An.the-row) c (u ∷ [])", "is′")
+    w.now(1, "answer")
+    w.step("land ! (from ! (stop !)) " + w.cell(0, "(LL.lawful An.the-type An′.the-laws 𝓤 H A W .typed c _ is′ .0)"))
+
+    w.line()
+    w.split("tokens", *[f"t{p}" for p in SLICES])
+    leave(w, EXPORT_LOCALS, [], "answer")
+    w.end(f"by ! (exits g₁ g₂ r c u {last_lists('ws', 4)} said demand e e₄ e₅ e₆ e₇)")
+    return w.text(8)
+
+
 # ---- putting a proof together
 
 
-def write(path, source, walks):
-    with open(f"{HERE}/{source}.in") as file:
+def sections(name):
+    """The parts of a file, each after a line `== NAME`."""
+    with open(f"{HERE}/{name}.in") as file:
+        parts = re.split(r"^== (.*)\n", file.read(), flags=re.M)
+    return dict(zip(parts[1::2], parts[2::2]))
+
+
+def write(path, parts):
+    """`parts` for the lines `@NAME` of the file that has the function's name."""
+    with open(f"{HERE}/{os.path.basename(path)}.in") as file:
         text = file.read()
-    with open(f"{HERE}/parameters.in") as file:
-        text = text.replace("@PARAMETERS\n", file.read())
-    for name, walk in walks.items():
-        text = text.replace(f"@{name}\n", walk + "\n")
+    for name, part in parts.items():
+        text = text.replace(f"@{name}\n", part.removesuffix("\n") + "\n")
     assert not re.search(r"@[A-Z]", text)
     with open(f"{ROOT}/crates/{path}/Proof.antt", "w") as file:
         file.write(text)
 
 
+def entry(known, **walks):
+    parts = sections("entries")
+    parts["WALKED"] = parts["WALKED"].replace("@KNOWN", known)
+    return parts | walks
+
+
 def main():
-    write("records/proofs/flatten", "flatten", {"TURN": flatten_turn(), "ENDS": flatten_ends(), "START": flatten_start()})
-    write("records/proofs/trace_samples", "trace_samples", {"WALK": trace_samples_walk()})
+    write("records/proofs/flatten", {"TURN": flatten_turn(), "ENDS": flatten_ends(), "START": flatten_start()})
+    write("records/proofs/trace_samples", entry("known-flat known-laid", WALK=trace_samples_walk()))
+    write(
+        "exports/proofs/samples/mt_trace_samples",
+        entry("known-rec known-conv", PASSED=mt_trace_samples_passed(), WALK=mt_trace_samples_walk()),
+    )
 
 
 if __name__ == "__main__":

@@ -25,12 +25,7 @@ pub struct Sample {
 }
 
 // Sample i goes to its places, if they are there.
-fn put_sample(
-    pairs: &mut [f64; MAX_NUMBERS],
-    marks: &mut [u8; MAX_MARKS],
-    i: usize,
-    sample: Sample,
-)
+fn put_sample(pairs: &mut [f64; MAX_NUMBERS], marks: &mut [u8; MAX_MARKS], i: usize, sample: Sample)
     ensures { λ _. ⌜ (now (pairs .exit) ≡ putPair (now (pairs .entry)) i sample)
         × (now (marks .exit) ≡ putMark (now (marks .entry)) i sample) ⌝ }
 {
@@ -85,7 +80,17 @@ fn trace_flattened(
     let end = 2 * count;
     let used_pairs = &all_pairs[..end];
     let used_marks = &all_marks[..count];
-    trace_flat(grid, m, n, used_pairs, used_marks, points, starts, sides, fractions)
+    trace_flat(
+        grid,
+        m,
+        n,
+        used_pairs,
+        used_marks,
+        points,
+        starts,
+        sides,
+        fractions,
+    )
 }
 
 // Traces a curve, given as records, across the cells of a grid, as `trace_flat` does with their pairs

@@ -337,8 +337,9 @@ module _ {M : Type 1} (𝓤 : URA M) (H : Heap 𝓤) (A : Atoms 𝓤) (W : Given
 
     turns : (t : UpTo n) → ent 𝓤 (Inv t) (Wp 𝓤 H C Λ En body.turn-1 (afterTurn 𝓤 H (Below t) Left))
     turns t = elim (or-equal (t .i) n (t .within)) [
-        inl small ↦ more (t .i) (Below t) small (below t small)
-      | inr e ↦ subst (λ (k : ℕ). ent 𝓤 (⋆ 𝓤 H A (At k)) (Wp 𝓤 H C Λ En body.turn-1 (afterTurn 𝓤 H (Below t) Left))) (sym e) (ends (Below t)) ]
+      | inl small ↦ more (t .i) (Below t) small (below t small)
+      | inr e ↦ subst (λ (k : ℕ). ent 𝓤 (⋆ 𝓤 H A (At k)) (Wp 𝓤 H C Λ En body.turn-1 (afterTurn 𝓤 H (Below t) Left))) (sym e) (ends (Below t))
+    ]
 
     loops : ent 𝓤 (⋆ 𝓤 H A (At 0)) (Wp 𝓤 H C Λ En (loop body.turn-1) Left)
     loops = loop-rule 𝓤 H (W .laws) 𝓣 (Less n) (less-wf n) En body.turn-1 Left Inv turns (record { i = 0; within = omega arith })

@@ -17,7 +17,7 @@ use prog.Memory.{Memory}
 use prog.Routine.{Routine}
 use prog.Wp.{Heap, Calls, Loops, WpFn, Tables}
 use ghost.Atoms.{Atoms}
-use contract.Lifetimes.{Lfts}
+use contract.Lifetimes.{Lfts, Shares}
 use contract.Monad.{Fun, fact}
 use contract.Running.{givenOf, tables, tablesOf}
 use types.Kit.{Given, Item, ‵, raw, _⊛_, ⋆, some, later, _$_, _∵_, !, qed, by, move, keep, use0, use1, use2, use3, group, split, join, pick, rewrite, fsplit, fjoin, feqL, suffices, frame, await, done}
@@ -26,7 +26,7 @@ use types.Run.{look, init, forget, stop, hop, fld, from, load, lit, float-lit, a
 use types.SemTy.{Body}
 use types.Tokens.{lft-new, lft-end, lent-back}
 use sound.WpLaws.{FmC, fmOf, WpFn-mono}
-use denote.RattleType.{owns}
+use denote.RattleType.{RattleType, owns}
 use denote.Laws.{Is, shows}
 use denote.Enum.Laws as EL
 use denote.Floats.{float-lawful}
@@ -95,6 +95,7 @@ module _ {M : Type 1} (𝓤 : URA M) (H : Heap 𝓤) (A : Atoms 𝓤) (W : Given
   abbrev N : List ℕ
   N = marksUpTo d₃ xB n
 
+  -- the references, their machine values, and what they own
   abbrev x₀ : RefT (List Float)
   x₀ = record { ptr = (b₀, o₀); name = γ₀; now = d₀ }
 
@@ -140,8 +141,14 @@ module _ {M : Type 1} (𝓤 : URA M) (H : Heap 𝓤) (A : Atoms 𝓤) (W : Given
   abbrev at : Vals f.signature κs
   at = (s₀ ∷ [], (vint w64 d₁ ∷ [], (vint w64 d₂ ∷ [], (s₃ ∷ [], (s₄ ∷ [], (s₅ ∷ [], (s₆ ∷ [], (s₇ ∷ [], tt))))))))
 
+  abbrev qs : Shares 6
+  qs = (q₀, (q₃, (q₄, (q₅, (q₆, (q₇, tt))))))
+
+  abbrev args : List Val
+  args = s₀ ∷ vint w64 d₁ ∷ vint w64 d₂ ∷ s₃ ∷ s₄ ∷ s₅ ∷ s₆ ∷ s₇ ∷ []
+
   abbrev bound : walkOf 𝓤 H A f.ended stayed (f.clauses 𝓤 H A mem run) .Ghost
-  bound = ((κs, (q₀, (q₃, (q₄, (q₅, (q₆, (q₇, tt)))))), tt, a, at), tt)
+  bound = ((κs, qs, tt, a, at), tt)
 
   abbrev Post : Val → SProp 𝓤
   Post = walkOf 𝓤 H A f.ended stayed (f.clauses 𝓤 H A mem run) .post bound
@@ -164,13 +171,25 @@ module _ {M : Type 1} (𝓤 : URA M) (H : Heap 𝓤) (A : Atoms 𝓤) (W : Given
   abbrev O₇ : Fml
   O₇ = MutSlice (named 5) κ₇ f64 .own x₇ (s₇ ∷ [])
 
+  -- at the entry: the tokens, and the parameters' types
+  abbrev Tokens : Item 𝓤
+  Tokens = (‵ (flft κ₀ q₀) ⊛ (‵ (flft κ₃ q₃) ⊛ (‵ (flft κ₄ q₄) ⊛ (‵ (flft κ₅ q₅) ⊛ (‵ (flft κ₆ q₆) ⊛ (‵ (flft κ₇ q₇) ⊛ ‵ ftrue))))))
+
+  abbrev Types : List RattleType
+  Types = ShrSlice (named 0) κ₀ f64 ∷ usize ∷ usize ∷ ShrSlice (named 1) κ₃ T.the-row ∷ MutSlice (named 2) κ₄ f64 ∷ MutSlice (named 3) κ₅ usize ∷ MutSlice (named 4) κ₆ usize ∷ MutSlice (named 5) κ₇ f64 ∷ []
+
+  -- at the exit, before the result: the tokens, the slices that are read, and the last lists of the others
+  abbrev Left : List Float → List ℕ → List ℕ → List Float → List (Item 𝓤) → List (Item 𝓤)
+  Left w₄ w₅ w₆ w₇ rest = ‵ (flft κ₀ q₀) ∷ ‵ (flft κ₃ q₃) ∷ ‵ (flft κ₄ q₄) ∷ ‵ (flft κ₅ q₅) ∷ ‵ (flft κ₆ q₆) ∷ ‵ (flft κ₇ q₇) ∷ ‵ O₀ ∷ ‵ O₃ ∷ ‵ (finally f64 γ₄ w₄) ∷ ‵ (finally usize γ₅ w₅) ∷ ‵ (finally usize γ₆ w₆) ∷ ‵ (finally f64 γ₇ w₇) ∷ rest
+
   -- what `trace_flattened` ensures, at the last lists of the outputs
   abbrev Said : Trace → List Float → List ℕ → List ℕ → List Float → Type 0
   Said r w₄ w₅ w₆ w₇ = (ss : List Sample) → length ss ≡ n → Flattened ss P N → Traces (traceFlat d₀ d₁ d₂ (pairsOf ss) (marksOf ss) (lists d₄ d₅ d₆ d₇)) r w₄ w₅ w₆ w₇
 
-  exits : d₁ < 2 ^ 64 → d₂ < 2 ^ 64 → (r : Trace) (v : Val) (w₄ : List Float) (w₅ : List ℕ) (w₆ : List ℕ) (w₇ : List Float) → Said r w₄ w₅ w₆ w₇ → length w₄ ≡ length d₄ → length w₅ ≡ length d₅ → length w₆ ≡ length d₆ → length w₇ ≡ length d₇ → ent 𝓤 (⋆ 𝓤 H A (‵ (flft κ₀ q₀) ∷ ‵ (flft κ₃ q₃) ∷ ‵ (flft κ₄ q₄) ∷ ‵ (flft κ₅ q₅) ∷ ‵ (flft κ₆ q₆) ∷ ‵ (flft κ₇ q₇) ∷ ‵ O₀ ∷ ‵ O₃ ∷ ‵ (finally f64 γ₄ w₄) ∷ ‵ (finally usize γ₅ w₅) ∷ ‵ (finally usize γ₆ w₆) ∷ ‵ (finally f64 γ₇ w₇) ∷ ‵ (An.the-row .own r (v ∷ [])) ∷ [])) (Post v)
+  exits : d₁ < 2 ^ 64 → d₂ < 2 ^ 64 → (r : Trace) (v : Val) (w₄ : List Float) (w₅ w₆ : List ℕ) (w₇ : List Float) → Said r w₄ w₅ w₆ w₇ → length w₄ ≡ length d₄ → length w₅ ≡ length d₅ → length w₆ ≡ length d₆ → length w₇ ≡ length d₇
+      → ent 𝓤 (⋆ 𝓤 H A (Left w₄ w₅ w₆ w₇ (‵ (An.the-row .own r (v ∷ [])) ∷ []))) (Post v)
   exits g₁ g₂ r v w₄ w₅ w₆ w₇ said e₄ e₅ e₆ e₇ =
-      qed W (‵ (flft κ₀ q₀) ∷ ‵ (flft κ₃ q₃) ∷ ‵ (flft κ₄ q₄) ∷ ‵ (flft κ₅ q₅) ∷ ‵ (flft κ₆ q₆) ∷ ‵ (flft κ₇ q₇) ∷ ‵ O₀ ∷ ‵ O₃ ∷ ‵ (finally f64 γ₄ w₄) ∷ ‵ (finally usize γ₅ w₅) ∷ ‵ (finally usize γ₆ w₆) ∷ ‵ (finally f64 γ₇ w₇) ∷ ‵ (An.the-row .own r (v ∷ [])) ∷ []) ∵
+      qed W (Left w₄ w₅ w₆ w₇ (‵ (An.the-row .own r (v ∷ [])) ∷ [])) ∵
       suffices ! _ (ends-at 𝓤 H A f.ended stayed (f.clauses 𝓤 H A mem run) W bound v r (tt, (tt, (tt, (tt, (w₄, (w₅, (w₆, (w₇, tt)))))))) (tt, (tt, (tt, (tt, (e₄, (e₅, (e₆, (e₇, tt))))))))) $
       says-both ! (said d₃ refl (flattened d₃ xF xB lF lB)) (demand3 d₀ d₁ d₂) $
       nothing ! $ move ! (6 ∷ 0 ∷ []) $ join ! $ move ! (5 ∷ 0 ∷ []) $ join ! $ move ! (4 ∷ 0 ∷ []) $ join ! $ move ! (3 ∷ 0 ∷ []) $ join ! $ move ! (2 ∷ 0 ∷ []) $ join ! $ move ! (1 ∷ 0 ∷ []) $ join ! $ frame ! $
@@ -247,10 +266,10 @@ module _ {M : Type 1} (𝓤 : URA M) (H : Heap 𝓤) (A : Atoms 𝓤) (W : Given
       ⊛ raw (fact 𝓤 (Said r (ws .1 .1 .1 .1 .1 .1 .0) (ws .1 .1 .1 .1 .1 .1 .1 .0) (ws .1 .1 .1 .1 .1 .1 .1 .1 .0) (ws .1 .1 .1 .1 .1 .1 .1 .1 .1 .0)))
 
   module _ (C : Calls 𝓤 H) (Λ : Loops 𝓤 H) (fm : FmC 𝓤 H (W .laws) C) (known-flat : Triple 𝓤 (C #records·flatten) (Flat 𝓤 H A mem run)) (known-laid : Triple 𝓤 (C #records·trace-flattened) (Laid 𝓤 H A mem run)) where
-    walk : Room f64 (length d₀) → d₁ < 2 ^ 64 → d₂ < 2 ^ 64 → Room T.the-row (length d₃) → Room f64 (length d₄) → Room usize (length d₅) → Room usize (length d₆) → Room f64 (length d₇) → ent 𝓤 (onEntry 𝓤 H A f.signature κs (q₀, (q₃, (q₄, (q₅, (q₆, (q₇, tt)))))) a at) (WpFn 𝓤 H C Λ code.function (s₀ ∷ vint w64 d₁ ∷ vint w64 d₂ ∷ s₃ ∷ s₄ ∷ s₅ ∷ s₆ ∷ s₇ ∷ []) Post)
+    walk : Room f64 (length d₀) → d₁ < 2 ^ 64 → d₂ < 2 ^ 64 → Room T.the-row (length d₃) → Room f64 (length d₄) → Room usize (length d₅) → Room usize (length d₆) → Room f64 (length d₇) →
+        ent 𝓤 (onEntry 𝓤 H A f.signature κs qs a at) (WpFn 𝓤 H C Λ code.function args Post)
     walk g₀ g₁ g₂ g₃ g₄ g₅ g₆ g₇ =
-        qed W ((‵ (flft κ₀ q₀) ⊛ (‵ (flft κ₃ q₃) ⊛ (‵ (flft κ₄ q₄) ⊛ (‵ (flft κ₅ q₅) ⊛ (‵ (flft κ₆ q₆) ⊛ (‵ (flft κ₇ q₇) ⊛ ‵ ftrue)))))) ∷ ‵ (owns (ShrSlice (named 0) κ₀ f64 ∷ usize ∷ usize ∷ ShrSlice (named 1) κ₃ T.the-row ∷ MutSlice (named 2) κ₄ f64 ∷ MutSlice (named 3) κ₅ usize ∷ MutSlice (named 4) κ₆ usize ∷ MutSlice (named 5) κ₇ f64 ∷ []) a at) ∷ []) ∵
-        enter ! C Λ code.function (s₀ ∷ vint w64 d₁ ∷ vint w64 d₂ ∷ s₃ ∷ s₄ ∷ s₅ ∷ s₆ ∷ s₇ ∷ []) _ $
+        qed W (Tokens ∷ ‵ (owns Types a at) ∷ []) ∵ enter ! C Λ code.function args _ $
         alloc1 ! (λ l₀. alloc1 ! (λ l₁. alloc1 ! (λ l₂. alloc1 ! (λ l₃. alloc1 ! (λ l₄. alloc1 ! (λ l₅. alloc1 ! (λ l₆. alloc1 ! (λ l₇. alloc1 ! (λ l₈. alloc1 ! (λ l₉. alloc1 ! (λ l₁₀. alloc1 ! (λ l₁₁.
         alloc1 ! (λ l₁₂. alloc1 ! (λ l₁₃. alloc1 ! (λ l₁₄. alloc1 ! (λ l₁₅. alloc1 ! (λ l₁₆. alloc1 ! (λ l₁₇. alloc1 ! (λ l₁₈. alloc1 ! (λ l₁₉. alloc1 ! (λ l₂₀. alloc1 ! (λ l₂₁. alloc1 ! (λ l₂₂.
         alloc1 ! (λ l₂₃. alloc1 ! (λ l₂₄. alloc0 ! $ params1 ! $
@@ -347,7 +366,9 @@ trace-samples-meets : {M : Type 1} (𝓤 : URA M) (H : Heap 𝓤) (A : Atoms �
     → Triple 𝓤 (𝓣 .C #records·flatten) (Flat 𝓤 H A mem run) → Triple 𝓤 (𝓣 .C #records·trace-flattened) (Laid 𝓤 H A mem run)
     → Meets 𝓤 H A f.signature (WpFn 𝓤 H (𝓣 .C) (𝓣 .Λ) code.function) (f.spec 𝓤 H A mem run)
 trace-samples-meets 𝓤 H A W mem run 𝓣 known-flat known-laid =
-    walk-meets 𝓤 H A f.ended stayed W (goes-none-slice 𝓤 H A W 6 (0 ∷ []) tt (plain (λ _. f64)) yes, (goes-none 𝓤 H A W 6 (λ _. usize) yes (λ κs x f. refl), (goes-none 𝓤 H A W 6 (λ _. usize) yes (λ κs x f. refl), (goes-none-slice 𝓤 H A W 6 (1 ∷ []) tt (plain (λ _. T.the-row)) yes, (goes-gave-slice 𝓤 H A W 6 2 tt (plain (λ _. f64)), (goes-gave-slice 𝓤 H A W 6 3 tt (plain (λ _. usize)), (goes-gave-slice 𝓤 H A W 6 4 tt (plain (λ _. usize)), (goes-gave-slice 𝓤 H A W 6 5 tt (plain (λ _. f64)), tt)))))))) (f.clauses 𝓤 H A mem run)
+    walk-meets 𝓤 H A f.ended stayed W
+    (goes-none-slice 𝓤 H A W 6 (0 ∷ []) tt (plain (λ _. f64)) yes, (goes-none 𝓤 H A W 6 (λ _. usize) yes (λ κs x f. refl), (goes-none 𝓤 H A W 6 (λ _. usize) yes (λ κs x f. refl), (goes-none-slice 𝓤 H A W 6 (1 ∷ []) tt (plain (λ _. T.the-row)) yes, (goes-gave-slice 𝓤 H A W 6 2 tt (plain (λ _. f64)), (goes-gave-slice 𝓤 H A W 6 3 tt (plain (λ _. usize)), (goes-gave-slice 𝓤 H A W 6 4 tt (plain (λ _. usize)), (goes-gave-slice 𝓤 H A W 6 5 tt (plain (λ _. f64)), tt))))))))
+    (f.clauses 𝓤 H A mem run)
     (WpFn 𝓤 H (𝓣 .C) (𝓣 .Λ) code.function) (WpFn-mono 𝓤 H (W .laws) 𝓣 code.function) (trace-samples-walks 𝓤 H A W mem run (𝓣 .C) (𝓣 .Λ) (fmOf 𝓤 H (W .laws) 𝓣) known-flat known-laid)
 
 pub trace-samples-spec : {M : Type 1} → stated.statement M
