@@ -26,6 +26,8 @@ mod meshes;
 #[cfg(larnt)]
 mod random;
 #[cfg(larnt)]
+mod records;
+#[cfg(larnt)]
 mod run;
 #[cfg(larnt)]
 mod seams;

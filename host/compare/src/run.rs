@@ -1,7 +1,7 @@
 //! The command line, and the layers in order.
 
 use crate::driver::{Compared, Driver};
-use crate::{floats, lines, meshes, seams, textures, traces, vectors};
+use crate::{floats, lines, meshes, records, seams, textures, traces, vectors};
 use std::process::ExitCode;
 
 const SEED: u64 = 20_260_526;
@@ -9,13 +9,14 @@ const SEED: u64 = 20_260_526;
 /// A layer's name and its comparisons.
 type Layer = (&'static str, fn(&mut Driver) -> Compared);
 
-const LAYERS: [Layer; 7] = [
+const LAYERS: [Layer; 8] = [
     ("float", floats::compare),
     ("vector", vectors::compare),
     ("path", lines::compare),
     ("cyclic", seams::compare),
     ("mesh", meshes::compare),
     ("trace", traces::compare),
+    ("records", records::compare),
     ("texture", textures::compare),
 ];
 

@@ -27,5 +27,5 @@ pub use mapping::{Mapping, Seam};
 pub use mesh::{Mesh, Seams, Triangulation, triangulate_grid};
 pub use refusal::Refusal;
 pub use texture::{Plan, Texture};
-pub use trace::{TraceLists, trace_flat};
+pub use trace::{ParamPoint, Sample, TraceLists, trace_flat, trace_samples};
 pub use vector::Vector;
