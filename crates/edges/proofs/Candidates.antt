@@ -2,19 +2,21 @@
 use mathlib.Core.Path.{_≡_, sym, ap, _∙_}
 use mathlib.Core.Bool.{true, false}
 use Prim.Native.Nat.{ℕ}
-use lib.Ieee.{Float}
+use lib.Ieee.{Float, binary64, sub}
 use Rattle.edges.specs.declared.point.ParamPoint.{ParamPoint}
+use Rattle.edges.specs.declared.point.Axis.{Axis}
 use Rattle.edges.specs.declared.point.WholeStep.the-variants.{Step, Between}
 use Rattle.edges.specs.declared.cell.DiagonalCell.the-variants.{Cell, NoCell}
+use Rattle.edges.specs.declared.event.ParamEdge.{ParamEdge}
 use Rattle.edges.specs.declared.event.ParamEdge.the-variants.{U, «V», Diagonal}
 use Rattle.edges.specs.declared.event.EdgeAtPoint.the-variants.{Edge, NoEdge}
 use Rattle.edges.specs.declared.event.NormalizedLambda.{NormalizedLambda}
 use Rattle.edges.specs.declared.event.NormalizedLambda.the-variants.{Lambda, Outside}
 use Rattle.edges.specs.declared.event.Candidate.{Candidate}
 use Rattle.edges.specs.declared.event.Candidate.the-variants.{Event, NoEvent}
-use Rattle.edges.specs.Param.{lerp, paramInBounds, integerStep}
+use Rattle.edges.specs.Param.{lerp, along, across, paramInBounds, integerStep}
 use Rattle.edges.specs.Cell.{diagonalCellAt}
-use Rattle.edges.specs.Events.{event, edgeAtPoint, onLine, uAt, vAt, diagonalCrossing}
+use Rattle.edges.specs.Events.{event, edgeAtPoint, lambdaAt, onLine, lineAt, lineCrossing, change, diagonalCrossing}
 
 -- ---- the side at a point
 module _ (m n : ℕ) (p : ParamPoint) where
@@ -40,28 +42,27 @@ module _ (m n : ℕ) (p : ParamPoint) where
       unfolding edgeAtPoint
       edge-none e f = rw (h, d, e, f)
 
+-- ---- the lambda of a line, from the coordinates s and t of the ends
+pub line-lambda : (x : Axis) (a b : ParamPoint) (step : ℕ) {s t : Float} {r : NormalizedLambda} → s ≡ along x a → t ≡ along x b → r ≡ lambdaAt step s (sub binary64 t s) →
+    r ≡ lambdaAt step (along x a) (change x a b)
+line-lambda x a b step hs ht h = rw (sym hs, sym ht) h
+
 -- ---- candidates: r is the lambda that was found, and q the point there
 module _ (a b : ParamPoint) {L r : NormalizedLambda} (e : r ≡ L) where
-  pub u-off : (n u : ℕ) → r ≡ Outside → NoEvent ≡ uAt n a b u L
-  unfolding uAt
-  u-off n u h = rw (sym e ∙ h)
-
-  pub v-off : (m v : ℕ) → r ≡ Outside → NoEvent ≡ vAt m a b v L
-  unfolding vAt
-  v-off m v h = rw (sym e ∙ h)
+  pub line-off : (x : Axis) (n step : ℕ) → r ≡ Outside → NoEvent ≡ lineCrossing x n a b step L
+  unfolding lineCrossing
+  line-off x n step h = rw (sym e ∙ h)
 
   pub crossing-off : (m n : ℕ) → r ≡ Outside → NoEvent ≡ diagonalCrossing m n a b L
   unfolding diagonalCrossing
   crossing-off m n h = rw (sym e ∙ h)
 
   module _ {l : Float} {q : ParamPoint} (h : r ≡ Lambda l) (k : q ≡ lerp a b l) where
-    pub u-on : (n u : ℕ) {x : Candidate} → x ≡ onLine (q .v) n (event l (U u)) → x ≡ uAt n a b u L
-    unfolding uAt
-    u-on n u t = rw (sym e ∙ h) (t ∙ ap (λ (y : ParamPoint). onLine (y .v) n (event l (U u))) k)
-
-    pub v-on : (m v : ℕ) {x : Candidate} → x ≡ onLine (q .u) m (event l («V» v)) → x ≡ vAt m a b v L
-    unfolding vAt
-    v-on m v t = rw (sym e ∙ h) (t ∙ ap (λ (y : ParamPoint). onLine (y .u) m (event l («V» v))) k)
+    pub line-on : (x : Axis) (n step : ℕ) {y : Float} {s : ParamEdge} {c : Candidate} → y ≡ across x q → s ≡ lineAt x step → c ≡ onLine y n (event l s) → c ≡ lineCrossing x n a b step L
+    unfolding lineCrossing
+    line-on x n step {y} {s} hy hs t =
+        rw (sym e ∙ h)
+        (t ∙ ap (λ (z : Float). onLine z n (event l s)) (hy ∙ ap (across x) k) ∙ ap (λ (z : ParamEdge). onLine (across x (lerp a b l)) n (event l z)) hs)
 
     pub crossing-out : (m n : ℕ) → paramInBounds m n q ≡ false → NoEvent ≡ diagonalCrossing m n a b L
     unfolding diagonalCrossing

@@ -6,17 +6,19 @@ use Prim.Native.Nat.{ℕ, zero, suc, _+_, _-_, _≤_, _<_, min, max}
 use native.Mathlib.Nat.{le-trans}
 use native.Mathlib.Omega.{arith}
 use lib.ListN.{length, getD, length-append}
-use lib.Ieee.{Float, binary64, sub}
+use lib.Ieee.{Float}
 use Rattle.float.specs.Consts.{zero64, one64}
 use Rattle.float.specs.Order.{totalOrder}
 use Rattle.float.specs.Whole.{floorZ, ceilZ}
 use Rattle.float.specs.Cast.{count}
 use Rattle.edges.specs.declared.point.ParamPoint.{ParamPoint}
+use Rattle.edges.specs.declared.point.Axis.{Axis}
+use Rattle.edges.specs.declared.point.Axis.the-variants.{AxisU, AxisV}
 use Rattle.edges.specs.declared.event.EdgeEvent.{EdgeEvent}
 use Rattle.edges.specs.declared.event.Candidate.{Candidate}
 use Rattle.edges.specs.declared.event.Candidate.the-variants.{Event, NoEvent}
 use Rattle.edges.specs.Param.{pick}
-use Rattle.edges.specs.Events.{edgeAtPoint, endCandidate, uCandidate, vCandidate, changeOfSum, diagonalCandidate, moves, listed, listFrom, lowSum, highSum, firstSum, pastSum, ends, us, vs, diagonals, candidates, precedes, insert, sortInto, closeBy, uniqueAfter, unique, sortedEdgeEvents, IfEvent, Each}
+use Rattle.edges.specs.Events.{edgeAtPoint, endCandidate, change, lineCandidate, changeOfSum, diagonalCandidate, moves, listed, listFrom, lowSum, highSum, firstSum, pastSum, ends, lines, diagonals, candidates, precedes, insert, sortInto, closeBy, uniqueAfter, unique, sortedEdgeEvents, IfEvent, Each}
 
 module _ (P : EdgeEvent → Type 0) where
   each-append : (xs ys : List EdgeEvent) → Each P xs → Each P ys → Each P (xs ++ ys)
@@ -35,6 +37,11 @@ module _ (P : EdgeEvent → Type 0) where
   each-if : (b : Bool) (es : List EdgeEvent) → Each P es → Each P (pick b es [])
   each-if true es h = h
   each-if false es h = tt
+
+  each-lines : (x : Axis) (m n : ℕ) (a b : ParamPoint) → ((j : ℕ) → j < m + 1 → IfEvent P (lineCandidate x n a b j)) → Each P (lines x m n a b)
+  unfolding lines
+  each-lines x m n a b h =
+      each-if (moves (change x a b)) (listFrom (lineCandidate x n a b) (m + 1) 0) (each-from (lineCandidate x n a b) (m + 1) 0 (m + 1) (omega arith) h)
 
   each-insert : (e : EdgeEvent) (es : List EdgeEvent) → P e → Each P es → Each P (insert e es)
   unfolding insert
@@ -72,18 +79,18 @@ module _ (P : EdgeEvent → Type 0) where
 
   -- the candidates of a step
   module _ (m n : ℕ) (a b : ParamPoint) (start : IfEvent P (endCandidate zero64 (edgeAtPoint m n a))) (end : IfEvent P (endCandidate one64 (edgeAtPoint m n b)))
-      (u : (j : ℕ) → j < m + 1 → IfEvent P (uCandidate n a b j)) (v : (j : ℕ) → j < n + 1 → IfEvent P (vCandidate m a b j)) (d : (j : ℕ) → IfEvent P (diagonalCandidate m n a b j)) where
+      (u : (j : ℕ) → j < m + 1 → IfEvent P (lineCandidate AxisU n a b j)) (v : (j : ℕ) → j < n + 1 → IfEvent P (lineCandidate AxisV m a b j)) (d : (j : ℕ) → IfEvent P (diagonalCandidate m n a b j)) where
     pub each-candidate : Each P (candidates m n a b)
-    unfolding candidates ends us vs diagonals
+    unfolding candidates ends diagonals
     each-candidate =
         let first = firstSum a b in
         let past = pastSum m n a b in
         let e : Each P (ends m n a b) = each-listed (endCandidate zero64 (edgeAtPoint m n a)) (listed (endCandidate one64 (edgeAtPoint m n b)) []) start (each-listed (endCandidate one64 (edgeAtPoint m n b)) [] end tt) in
-        let x : Each P (us m n a b) = each-if (moves (sub binary64 (b .u) (a .u))) (listFrom (uCandidate n a b) (m + 1) 0) (each-from (uCandidate n a b) (m + 1) 0 (m + 1) (omega arith) u) in
-        let y : Each P (vs m n a b) = each-if (moves (sub binary64 (b .v) (a .v))) (listFrom (vCandidate m a b) (n + 1) 0) (each-from (vCandidate m a b) (n + 1) 0 (n + 1) (omega arith) v) in
+        let x : Each P (lines AxisU m n a b) = each-lines AxisU m n a b u in
+        let y : Each P (lines AxisV n m a b) = each-lines AxisV n m a b v in
         let z : Each P (diagonals m n a b) = each-if (moves (changeOfSum a b)) (listFrom (diagonalCandidate m n a b) (past - first) first)
         (each-from (diagonalCandidate m n a b) (past - first) first (first + (past - first)) (omega arith) (λ j h. d j)) in
-        each-append (ends m n a b) (us m n a b ++ (vs m n a b ++ diagonals m n a b)) e (each-append (us m n a b) (vs m n a b ++ diagonals m n a b) x (each-append (vs m n a b) (diagonals m n a b) y z))
+        each-append (ends m n a b) (lines AxisU m n a b ++ (lines AxisV n m a b ++ diagonals m n a b)) e (each-append (lines AxisU m n a b) (lines AxisV n m a b ++ diagonals m n a b) x (each-append (lines AxisV n m a b) (diagonals m n a b) y z))
 
     pub each-event : Each P (sortedEdgeEvents m n a b)
     unfolding sortedEdgeEvents
@@ -137,22 +144,22 @@ unfolding unique
 length-unique [] = omega arith
 length-unique (e ∷ es) = omega (arith, length-after (e .lambda) es)
 
+length-lines : (x : Axis) (m n : ℕ) (a b : ParamPoint) → length (lines x m n a b) ≤ m + 1
+unfolding lines
+length-lines x m n a b = le-trans (length-if (moves (change x a b)) (listFrom (lineCandidate x n a b) (m + 1) 0)) (length-from (lineCandidate x n a b) (m + 1) 0)
+
 -- ends, U, V and diagonals
 pub length-candidates : (m n : ℕ) (a b : ParamPoint) → length (candidates m n a b) ≤ 2 + (m + 1) + (n + 1) + (m + n - 1)
-unfolding candidates ends us vs diagonals
+unfolding candidates ends diagonals
 length-candidates m n a b =
     let start = endCandidate zero64 (edgeAtPoint m n a) in
     let end = endCandidate one64 (edgeAtPoint m n b) in
     let first = firstSum a b in
     let past = pastSum m n a b in
-    let fu = listFrom (uCandidate n a b) (m + 1) 0 in
-    let fv = listFrom (vCandidate m a b) (n + 1) 0 in
     let fd = listFrom (diagonalCandidate m n a b) (past - first) first in
     let e : length (ends m n a b) ≤ 2 = le-trans (length-listed start (listed end [])) (suc-le (length-listed end [])) in
-    let u : length (us m n a b) ≤ m + 1 = le-trans (length-if (moves (sub binary64 (b .u) (a .u))) fu) (length-from (uCandidate n a b) (m + 1) 0) in
-    let v : length (vs m n a b) ≤ n + 1 = le-trans (length-if (moves (sub binary64 (b .v) (a .v))) fv) (length-from (vCandidate m a b) (n + 1) 0) in
     let d : length (diagonals m n a b) ≤ past - first = le-trans (length-if (moves (changeOfSum a b)) fd) (length-from (diagonalCandidate m n a b) (past - first) first) in
-    total (ends m n a b) (us m n a b) (vs m n a b) (diagonals m n a b) e u v (le-trans d (sums (count (ceilZ (lowSum a b))) (count (floorZ (highSum a b)) + 1)))
+    total (ends m n a b) (lines AxisU m n a b) (lines AxisV n m a b) (diagonals m n a b) e (length-lines AxisU m n a b) (length-lines AxisV n m a b) (le-trans d (sums (count (ceilZ (lowSum a b))) (count (floorZ (highSum a b)) + 1)))
   where
     suc-le : {k : ℕ} → k ≤ 1 → k + 1 ≤ 2
     suc-le h = omega arith

@@ -4,16 +4,19 @@ use mathlib.Core.Bool.{true, false}
 use mathlib.Core.List.{List, [], _∷_, _++_}
 use Prim.Native.Nat.{ℕ, suc, _+_, _-_, _<_, _≤_, min, max}
 use native.Mathlib.Omega.{arith}
-use lib.Ieee.{binary64, sub}
+use lib.Ieee.{Float, binary64, sub}
 use Rattle.float.specs.Consts.{zero64, one64}
 use Rattle.float.specs.Whole.{floorZ, ceilZ}
 use Rattle.float.specs.Cast.{count}
 use Rattle.edges.specs.declared.point.ParamPoint.{ParamPoint}
+use Rattle.edges.specs.declared.point.Axis.{Axis}
+use Rattle.edges.specs.declared.point.Axis.the-variants.{AxisU, AxisV}
 use Rattle.edges.specs.declared.event.EdgeEvent.{EdgeEvent}
 use Rattle.edges.specs.declared.event.Candidate.{Candidate}
 use Rattle.edges.specs.declared.event.Candidate.the-variants.{Event, NoEvent}
 use Rattle.edges.specs.declared.event.EdgeAtPoint.{EdgeAtPoint}
-use Rattle.edges.specs.Events.{edgeAtPoint, endCandidate, uCandidate, vCandidate, changeOfSum, diagonalCandidate, moves, listed, listFrom, lowSum, highSum, firstSum, pastSum, ends, us, vs, diagonals, candidates, insert, pushed, sortInto, IfEvent}
+use Rattle.edges.specs.Param.{along}
+use Rattle.edges.specs.Events.{edgeAtPoint, endCandidate, change, lineCandidate, changeOfSum, diagonalCandidate, moves, listed, listFrom, lowSum, highSum, firstSum, pastSum, ends, lines, diagonals, candidates, insert, pushed, sortInto, IfEvent}
 
 pub if-event : (P : EdgeEvent → Type 0) {c : Candidate} {e : EdgeEvent} → c ≡ Event e → IfEvent P c → P e
 if-event P q h = rw q at h
@@ -54,6 +57,19 @@ module _ (f : ℕ → Candidate) (end i : ℕ) (acc : List EdgeEvent) {w : List 
 gather-starts : (f : ℕ → Candidate) (end : ℕ) (acc : List EdgeEvent) → sortInto (listFrom f end 0) acc ≡ gathering f end 0 acc
 gather-starts f end acc = let s : end ≡ end - 0 = omega arith in ap (λ (k : ℕ). sortInto (listFrom f k 0) acc) s
 
+-- ---- the lines of an axis, d being by how much it was found to change, from the coordinates s and t of the ends
+pub changes : (x : Axis) (a b : ParamPoint) {s t : Float} → s ≡ along x b → t ≡ along x a → sub binary64 s t ≡ change x a b
+changes x a b hs ht = rw (hs, ht)
+
+module _ (x : Axis) (m n : ℕ) (a b : ParamPoint) (acc : List EdgeEvent) {d : Float} (e : d ≡ change x a b) where
+  pub lines-none : moves d ≡ false → acc ≡ sortInto (lines x m n a b) acc
+  unfolding lines sortInto
+  lines-none h = rw (ap moves (sym e) ∙ h)
+
+  pub lines-start : moves d ≡ true → sortInto (lines x m n a b) acc ≡ gathering (lineCandidate x n a b) (m + 1) 0 acc
+  unfolding lines
+  lines-start h = rw (ap moves (sym e) ∙ h) (gather-starts (lineCandidate x n a b) (m + 1) acc)
+
 -- ---- the four groups
 module _ (m n : ℕ) (a b : ParamPoint) where
   pub ends-pushed : {x y : EdgeAtPoint} {c d : Candidate} {r s : List EdgeEvent} → x ≡ edgeAtPoint m n a → y ≡ edgeAtPoint m n b → c ≡ endCandidate zero64 x → d ≡ endCandidate one64 y →
@@ -68,22 +84,6 @@ module _ (m n : ℕ) (a b : ParamPoint) where
       ∙ sym (sort-listed first (listed second []) [] ∙ sort-listed second [] (pushed first []))
 
   module _ (acc : List EdgeEvent) where
-    pub us-none : moves (sub binary64 (b .u) (a .u)) ≡ false → acc ≡ sortInto (us m n a b) acc
-    unfolding us sortInto
-    us-none h = rw h
-
-    pub us-start : moves (sub binary64 (b .u) (a .u)) ≡ true → sortInto (us m n a b) acc ≡ gathering (uCandidate n a b) (m + 1) 0 acc
-    unfolding us
-    us-start h = rw h (gather-starts (uCandidate n a b) (m + 1) acc)
-
-    pub vs-none : moves (sub binary64 (b .v) (a .v)) ≡ false → acc ≡ sortInto (vs m n a b) acc
-    unfolding vs sortInto
-    vs-none h = rw h
-
-    pub vs-start : moves (sub binary64 (b .v) (a .v)) ≡ true → sortInto (vs m n a b) acc ≡ gathering (vCandidate m a b) (n + 1) 0 acc
-    unfolding vs
-    vs-start h = rw h (gather-starts (vCandidate m a b) (n + 1) acc)
-
     pub diagonals-none : moves (changeOfSum a b) ≡ false → acc ≡ sortInto (diagonals m n a b) acc
     unfolding diagonals sortInto
     diagonals-none h = rw h
@@ -93,11 +93,11 @@ module _ (m n : ℕ) (a b : ParamPoint) where
     unfolding diagonals
     diagonals-start h p q = rw (h, p, q)
 
-  pub groups-sorted : {r s t w : List EdgeEvent} → r ≡ sortInto (ends m n a b) [] → s ≡ sortInto (us m n a b) r → t ≡ sortInto (vs m n a b) s → w ≡ sortInto (diagonals m n a b) t →
+  pub groups-sorted : {r s t w : List EdgeEvent} → r ≡ sortInto (ends m n a b) [] → s ≡ sortInto (lines AxisU m n a b) r → t ≡ sortInto (lines AxisV n m a b) s → w ≡ sortInto (diagonals m n a b) t →
       w ≡ sortInto (candidates m n a b) []
   unfolding candidates
   groups-sorted hr hs ht hw =
-      rw (sort-append (ends m n a b) (us m n a b ++ (vs m n a b ++ diagonals m n a b)), sort-append (us m n a b) (vs m n a b ++ diagonals m n a b), sort-append (vs m n a b) (diagonals m n a b), ← hr, ← hs, ← ht) hw
+      rw (sort-append (ends m n a b) (lines AxisU m n a b ++ (lines AxisV n m a b ++ diagonals m n a b)), sort-append (lines AxisU m n a b) (lines AxisV n m a b ++ diagonals m n a b), sort-append (lines AxisV n m a b) (diagonals m n a b), ← hr, ← hs, ← ht) hw
 
 -- ---- bounds on the sums tried
 pub first-from : (a b : ParamPoint) {first : ℕ} → first ≡ firstSum a b → 1 ≤ first

@@ -5,9 +5,11 @@ use Prim.Native.Nat.{ℕ, _+_, _^_, _≤_, _<_}
 use native.Mathlib.Omega.{arith}
 use native.Mathlib.Nat.{le-trans, lt-of-lt-of-le}
 use lib.Dec.{lit≤}
-use lib.Ieee.{Float, binary64, sub}
+use lib.Ieee.{Float}
 use Rattle.float.specs.Cast.{natFloat}
 use Rattle.edges.specs.declared.point.ParamPoint.{ParamPoint}
+use Rattle.edges.specs.declared.point.Axis.{Axis}
+use Rattle.edges.specs.declared.point.Axis.the-variants.{AxisU, AxisV}
 use Rattle.edges.specs.declared.point.WholeStep.{WholeStep}
 use Rattle.edges.specs.declared.point.WholeStep.the-variants.{Step, Between}
 use Rattle.edges.specs.declared.cell.DiagonalCell.{DiagonalCell}
@@ -21,9 +23,9 @@ use Rattle.edges.specs.declared.event.NormalizedLambda.{NormalizedLambda
 use Rattle.edges.specs.declared.event.NormalizedLambda.the-variants.{Lambda, Outside}
 use Rattle.edges.specs.declared.event.Candidate.{Candidate}
 use Rattle.edges.specs.declared.event.Candidate.the-variants.{Event, NoEvent}
-use Rattle.edges.specs.Param.{pick, lerp, within, paramInBounds, integerStep}
+use Rattle.edges.specs.Param.{pick, lerp, along, across, within, paramInBounds, integerStep}
 use Rattle.edges.specs.Cell.{diagonalCellAt}
-use Rattle.edges.specs.Events.{event, diagonalAt, orV, orU, edgeAtPoint, endCandidate, onLine, uAt, vAt, diagonalEvent, diagonalCrossing, lambdaAt, uCandidate, vCandidate, sumOf, changeOfSum, diagonalCandidate, Inside, IfEvent, OnGrid}
+use Rattle.edges.specs.Events.{event, diagonalAt, orV, orU, edgeAtPoint, endCandidate, onLine, lineAt, lineCrossing, diagonalEvent, diagonalCrossing, lambdaAt, change, lineCandidate, sumOf, changeOfSum, diagonalCandidate, Inside, IfEvent, OnGrid}
 use Rattle.edges.proofs.Steps.{StepWithin, step-within}
 use Rattle.edges.proofs.Index.{CellInside, diagonal-inside}
 
@@ -72,15 +74,10 @@ on-line P x steps e h = go (within x (natFloat steps))
     go true = h
     go false = tt
 
-pub u-on-grid : (m n : ℕ) (a b : ParamPoint) (u : ℕ) (r : NormalizedLambda) → u ≤ m → IfEvent (OnGrid m n) (uAt n a b u r)
-unfolding uAt
-u-on-grid m n a b u Outside h = tt
-u-on-grid m n a b u (Lambda l) h = on-line (OnGrid m n) (lerp a b l .v) n (event l (U u)) h
-
-pub v-on-grid : (m n : ℕ) (a b : ParamPoint) (v : ℕ) (r : NormalizedLambda) → v ≤ n → IfEvent (OnGrid m n) (vAt m a b v r)
-unfolding vAt
-v-on-grid m n a b v Outside h = tt
-v-on-grid m n a b v (Lambda l) h = on-line (OnGrid m n) (lerp a b l .u) m (event l («V» v)) h
+pub line-on-grid : (x : Axis) (m n steps : ℕ) (a b : ParamPoint) (k : ℕ) (r : NormalizedLambda) → Inside m n (lineAt x k) → IfEvent (OnGrid m n) (lineCrossing x steps a b k r)
+unfolding lineCrossing
+line-on-grid x m n steps a b k Outside h = tt
+line-on-grid x m n steps a b k (Lambda l) h = on-line (OnGrid m n) (across x (lerp a b l)) steps (event l (lineAt x k)) h
 
 pub diagonal-on-grid : (m n : ℕ) (a b : ParamPoint) (r : NormalizedLambda) → IfEvent (OnGrid m n) (diagonalCrossing m n a b r)
 unfolding diagonalCrossing
@@ -114,11 +111,14 @@ module _ (m n : ℕ) (hm : m ≤ 255) (hn : n ≤ 255) {c : Candidate} where
   end-small l p q h = is-small (h ∙ ap (endCandidate l) q) (end-on-grid m n l p (le-trans hm (lit≤ tt)) (le-trans hn (lit≤ tt)))
 
   module _ (a b : ParamPoint) where
-    pub u-small : (u : ℕ) → u < m + 1 → c ≡ uCandidate n a b u → IfEvent (OnGrid 255 255) c
-    u-small u k q = is-small q (u-on-grid m n a b u (lambdaAt u (a .u) (sub binary64 (b .u) (a .u))) (omega arith))
-
-    pub v-small : (v : ℕ) → v < n + 1 → c ≡ vCandidate m a b v → IfEvent (OnGrid 255 255) c
-    v-small v k q = is-small q (v-on-grid m n a b v (lambdaAt v (a .v) (sub binary64 (b .v) (a .v))) (omega arith))
-
     pub diagonal-small : (sum : ℕ) → c ≡ diagonalCandidate m n a b sum → IfEvent (OnGrid 255 255) c
     diagonal-small sum q = is-small q (diagonal-on-grid m n a b (lambdaAt sum (sumOf a) (changeOfSum a b)))
+
+-- a line of at most 255 steps
+pub line-small : (x : Axis) (m n : ℕ) (a b : ParamPoint) (k : ℕ) → m ≤ 255 → k < m + 1 → {c : Candidate} → c ≡ lineCandidate x n a b k → IfEvent (OnGrid 255 255) c
+line-small x m n a b k hm h {c} q =
+    subst⁻¹ (λ (y : Candidate). IfEvent (OnGrid 255 255) y) q (line-on-grid x 255 255 n a b k (lambdaAt k (along x a) (change x a b)) (inside x))
+  where
+    inside : (y : Axis) → Inside 255 255 (lineAt y k)
+    inside AxisU = omega arith
+    inside AxisV = omega arith

@@ -7,7 +7,7 @@ use native.Mathlib.Nat.{le-trans}
 use native.Mathlib.Omega.{arith}
 use lib.Dec.{lit≤}
 use lib.ListN.{length, getD}
-use lib.Ieee.{Float, nan, binary64, ofBits, lt, le, eq, neg, add, sub, isNan}
+use lib.Ieee.{Float, nan, binary64, ofBits, lt, le, eq, neg, add, isNan}
 use Rattle.float.specs.Consts.{eps, zero64, one64}
 use Rattle.float.specs.Order.{clamped, totalOrder}
 use Rattle.float.specs.declared.order.Ordering.{Ordering}
@@ -16,21 +16,22 @@ use Rattle.float.proofs.Less.{le-not-nan}
 use Rattle.float.proofs.Bounds.{clamp-above, clamp-below}
 use Rattle.float.proofs.Orders.{less-greater, not-less-transitive, order-self}
 use Rattle.edges.specs.declared.point.ParamPoint.{ParamPoint}
+use Rattle.edges.specs.declared.point.Axis.{Axis}
+use Rattle.edges.specs.declared.point.Axis.the-variants.{AxisU, AxisV}
 use Rattle.edges.specs.declared.cell.DiagonalCell.{DiagonalCell}
 use Rattle.edges.specs.declared.cell.DiagonalCell.the-variants.{Cell, NoCell}
-use Rattle.edges.specs.declared.event.ParamEdge.the-variants.{U, «V»}
 use Rattle.edges.specs.declared.event.EdgeEvent.{EdgeEvent}
 use Rattle.edges.specs.declared.event.EdgeAtPoint.{EdgeAtPoint}
 use Rattle.edges.specs.declared.event.EdgeAtPoint.the-variants.{Edge, NoEdge}
 use Rattle.edges.specs.declared.event.NormalizedLambda.{NormalizedLambda}
 use Rattle.edges.specs.declared.event.NormalizedLambda.the-variants.{Lambda, Outside}
 use Rattle.edges.specs.declared.event.Candidate.the-variants.{NoEvent}
-use Rattle.edges.specs.Param.{pick, lerp, within, paramInBounds, normalizeLambda}
+use Rattle.edges.specs.Param.{pick, lerp, across, within, paramInBounds, normalizeLambda}
 use Rattle.edges.specs.Cell.{diagonalCellAt}
-use Rattle.edges.specs.Events.{event, edgeAtPoint, endCandidate, lambdaAt, uAt, vAt, diagonalEvent, diagonalCrossing, sumOf, changeOfSum, candidates, precedes, insert, sortInto, closeBy, uniqueAfter, unique, sortedEdgeEvents, Inside, IfEvent, Each, OnGrid, OnStep, AscendFrom, Ascend, ApartFrom, Apart}
+use Rattle.edges.specs.Events.{event, edgeAtPoint, endCandidate, lambdaAt, lineAt, lineCrossing, change, diagonalEvent, diagonalCrossing, sumOf, changeOfSum, candidates, precedes, insert, sortInto, closeBy, uniqueAfter, unique, sortedEdgeEvents, Inside, IfEvent, Each, OnGrid, OnStep, AscendFrom, Ascend, ApartFrom, Apart}
 use Rattle.edges.specs.Scratch.{edgeOf, eventOf, eventsIn}
 use Rattle.edges.proofs.Places.{event-in, events-length}
-use Rattle.edges.proofs.Grid.{on-line, end-on-grid, u-on-grid, v-on-grid, diagonal-on-grid}
+use Rattle.edges.proofs.Grid.{on-line, end-on-grid, line-on-grid, diagonal-on-grid}
 use Rattle.edges.proofs.Each.{each-event, each-candidate, each-sort, each-unique, each-at, each-implies, length-sort, length-unique, length-candidates}
 
 -- ---- each side is on the grid
@@ -38,8 +39,8 @@ module _ (m n : ℕ) (a b : ParamPoint) where
   pub events-inside : m ≤ 2 ^ 53 → n ≤ 2 ^ 53 → Each (OnGrid m n) (sortedEdgeEvents m n a b)
   events-inside hm hn =
       each-event (OnGrid m n) m n a b (end-on-grid m n zero64 a hm hn) (end-on-grid m n one64 b hm hn)
-      (λ j h. u-on-grid m n a b j (lambdaAt j (a .u) (sub binary64 (b .u) (a .u))) (omega arith))
-      (λ j h. v-on-grid m n a b j (lambdaAt j (a .v) (sub binary64 (b .v) (a .v))) (omega arith))
+      (λ j h. line-on-grid AxisU m n n a b j (lambdaAt j (a .u) (change AxisU a b)) (omega arith))
+      (λ j h. line-on-grid AxisV m n m a b j (lambdaAt j (a .v) (change AxisV a b)) (omega arith))
       (λ j. diagonal-on-grid m n a b (lambdaAt j (sumOf a) (changeOfSum a b)))
 
 -- ---- lambdas are from 0 to 1
@@ -74,15 +75,10 @@ end-on-step l (Edge e) h = h
 end-on-step l NoEdge h = tt
 
 module _ (m n : ℕ) (a b : ParamPoint) where
-  u-on-step : (u : ℕ) (r : NormalizedLambda) → LambdaOnStep r → IfEvent OnStep (uAt n a b u r)
-  unfolding uAt
-  u-on-step u Outside h = tt
-  u-on-step u (Lambda l) h = on-line OnStep (lerp a b l .v) n (event l (U u)) h
-
-  v-on-step : (v : ℕ) (r : NormalizedLambda) → LambdaOnStep r → IfEvent OnStep (vAt m a b v r)
-  unfolding vAt
-  v-on-step v Outside h = tt
-  v-on-step v (Lambda l) h = on-line OnStep (lerp a b l .u) m (event l («V» v)) h
+  line-on-step : (x : Axis) (steps k : ℕ) (r : NormalizedLambda) → LambdaOnStep r → IfEvent OnStep (lineCrossing x steps a b k r)
+  unfolding lineCrossing
+  line-on-step x steps k Outside h = tt
+  line-on-step x steps k (Lambda l) h = on-line OnStep (across x (lerp a b l)) steps (event l (lineAt x k)) h
 
   diagonal-on-step : (r : NormalizedLambda) → LambdaOnStep r → IfEvent OnStep (diagonalCrossing m n a b r)
   unfolding diagonalCrossing
@@ -105,8 +101,8 @@ module _ (m n : ℕ) (a b : ParamPoint) where
   candidates-on-step : Each OnStep (candidates m n a b)
   candidates-on-step =
       each-candidate OnStep m n a b (end-on-step zero64 (edgeAtPoint m n a) zero-on-step) (end-on-step one64 (edgeAtPoint m n b) one-on-step)
-      (λ j h. u-on-step j (lambdaAt j (a .u) (sub binary64 (b .u) (a .u))) (normalized _))
-      (λ j h. v-on-step j (lambdaAt j (a .v) (sub binary64 (b .v) (a .v))) (normalized _))
+      (λ j h. line-on-step AxisU n j (lambdaAt j (a .u) (change AxisU a b)) (normalized _))
+      (λ j h. line-on-step AxisV m j (lambdaAt j (a .v) (change AxisV a b)) (normalized _))
       (λ j. diagonal-on-step (lambdaAt j (sumOf a) (changeOfSum a b)) (normalized _))
 
   sorted-on-step : Each OnStep (sortInto (candidates m n a b) [])

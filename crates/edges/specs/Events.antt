@@ -13,6 +13,8 @@ use Rattle.float.specs.declared.order.Ordering.the-variants.{Less, Equal, Great
 use Rattle.float.specs.Whole.{floorZ, ceilZ}
 use Rattle.float.specs.Cast.{natFloat, count}
 use Rattle.edges.specs.declared.point.ParamPoint.{ParamPoint}
+use Rattle.edges.specs.declared.point.Axis.{Axis}
+use Rattle.edges.specs.declared.point.Axis.the-variants.{AxisU, AxisV}
 use Rattle.edges.specs.declared.point.WholeStep.{WholeStep}
 use Rattle.edges.specs.declared.point.WholeStep.the-variants.{Step, Between}
 use Rattle.edges.specs.declared.cell.DiagonalCell.{DiagonalCell}
@@ -26,7 +28,7 @@ use Rattle.edges.specs.declared.event.NormalizedLambda.{NormalizedLambda
 use Rattle.edges.specs.declared.event.NormalizedLambda.the-variants.{Lambda, Outside}
 use Rattle.edges.specs.declared.event.Candidate.{Candidate}
 use Rattle.edges.specs.declared.event.Candidate.the-variants.{Event, NoEvent}
-use Rattle.edges.specs.Param.{pick, lerp, within, paramInBounds, integerStep, normalizeLambda}
+use Rattle.edges.specs.Param.{pick, lerp, along, across, within, paramInBounds, integerStep, normalizeLambda}
 use Rattle.edges.specs.Cell.{diagonalCellAt}
 
 abbrev pub event : Float → ParamEdge → EdgeEvent
@@ -66,15 +68,15 @@ lambdaAt step x dx = normalizeLambda (div binary64 (sub binary64 (natFloat step)
 abbrev pub onLine : Float → ℕ → EdgeEvent → Candidate
 onLine x steps e = pick (within x (natFloat steps)) (Event e) NoEvent
 
--- U(u), where the crossing is within EPS of the grid in v
-unfoldable pub uAt : ℕ → ParamPoint → ParamPoint → ℕ → NormalizedLambda → Candidate
-uAt n a b u Outside = NoEvent
-uAt n a b u (Lambda l) = onLine (lerp a b l .v) n (event l (U u))
+-- the line at a step of an axis
+abbrev pub lineAt : Axis → ℕ → ParamEdge
+lineAt AxisU u = U u
+lineAt AxisV v = «V» v
 
--- V(v) alike in u
-unfoldable pub vAt : ℕ → ParamPoint → ParamPoint → ℕ → NormalizedLambda → Candidate
-vAt m a b v Outside = NoEvent
-vAt m a b v (Lambda l) = onLine (lerp a b l .u) m (event l («V» v))
+-- U(u) or V(v), where the crossing is within EPS of the grid on the other axis, which has so many steps
+unfoldable pub lineCrossing : Axis → ℕ → ParamPoint → ParamPoint → ℕ → NormalizedLambda → Candidate
+lineCrossing x steps a b step Outside = NoEvent
+lineCrossing x steps a b step (Lambda l) = onLine (across x (lerp a b l)) steps (event l (lineAt x step))
 
 abbrev pub diagonalEvent : Float → DiagonalCell → Candidate
 diagonalEvent l (Cell u v) = Event (event l (Diagonal u v))
@@ -86,11 +88,12 @@ diagonalCrossing m n a b Outside = NoEvent
 diagonalCrossing m n a b (Lambda l) =
     pick (paramInBounds m n (lerp a b l)) (diagonalEvent l (diagonalCellAt m n (lerp a b l))) NoEvent
 
-abbrev pub uCandidate : ℕ → ParamPoint → ParamPoint → ℕ → Candidate
-uCandidate n a b u = uAt n a b u (lambdaAt u (a .u) (sub binary64 (b .u) (a .u)))
+-- by how much an axis changes along the step
+abbrev pub change : Axis → ParamPoint → ParamPoint → Float
+change x a b = sub binary64 (along x b) (along x a)
 
-abbrev pub vCandidate : ℕ → ParamPoint → ParamPoint → ℕ → Candidate
-vCandidate m a b v = vAt m a b v (lambdaAt v (a .v) (sub binary64 (b .v) (a .v)))
+abbrev pub lineCandidate : Axis → ℕ → ParamPoint → ParamPoint → ℕ → Candidate
+lineCandidate x steps a b step = lineCrossing x steps a b step (lambdaAt step (along x a) (change x a b))
 
 -- u + v along the step: where it starts, where it ends, and by how much it changes
 abbrev pub sumOf : ParamPoint → Float
@@ -134,11 +137,9 @@ pastSum m n a b = min (m + n) (count (floorZ (highSum a b)) + 1)
 unfoldable pub ends : ℕ → ℕ → ParamPoint → ParamPoint → List EdgeEvent
 ends m n a b = listed (endCandidate zero64 (edgeAtPoint m n a)) (listed (endCandidate one64 (edgeAtPoint m n b)) [])
 
-unfoldable pub us : ℕ → ℕ → ParamPoint → ParamPoint → List EdgeEvent
-us m n a b = pick (moves (sub binary64 (b .u) (a .u))) (listFrom (uCandidate n a b) (m + 1) 0) []
-
-unfoldable pub vs : ℕ → ℕ → ParamPoint → ParamPoint → List EdgeEvent
-vs m n a b = pick (moves (sub binary64 (b .v) (a .v))) (listFrom (vCandidate m a b) (n + 1) 0) []
+-- the lines of an axis of m steps, the other having n
+unfoldable pub lines : Axis → ℕ → ℕ → ParamPoint → ParamPoint → List EdgeEvent
+lines x m n a b = pick (moves (change x a b)) (listFrom (lineCandidate x n a b) (m + 1) 0) []
 
 unfoldable pub diagonals : ℕ → ℕ → ParamPoint → ParamPoint → List EdgeEvent
 diagonals m n a b =
@@ -146,7 +147,7 @@ diagonals m n a b =
 
 -- "the candidates and their order: end events first, then U, V, diagonals"
 unfoldable pub candidates : ℕ → ℕ → ParamPoint → ParamPoint → List EdgeEvent
-candidates m n a b = ends m n a b ++ (us m n a b ++ (vs m n a b ++ diagonals m n a b))
+candidates m n a b = ends m n a b ++ (lines AxisU m n a b ++ (lines AxisV n m a b ++ diagonals m n a b))
 
 -- "a stable sort by IEEE 754 totalOrder": each event in turn goes before the first that it precedes, so after its equals
 abbrev pub precedes : Ordering → Bool

@@ -9,6 +9,8 @@ use Rattle.float.specs.Order.{clamped}
 use Rattle.float.specs.Whole.{rounded}
 use Rattle.float.specs.Cast.{natFloat}
 use Rattle.edges.specs.declared.point.ParamPoint.{ParamPoint}
+use Rattle.edges.specs.declared.point.Axis.{Axis}
+use Rattle.edges.specs.declared.point.Axis.the-variants.{AxisU, AxisV}
 use Rattle.edges.specs.declared.point.WholeStep.{WholeStep}
 use Rattle.edges.specs.declared.point.WholeStep.the-variants.{Step, Between}
 use Rattle.edges.specs.declared.event.NormalizedLambda.{NormalizedLambda}
@@ -27,6 +29,15 @@ between a b t = add binary64 a (mul binary64 (sub binary64 b a) t)
 
 abbrev pub lerp : ParamPoint → ParamPoint → Float → ParamPoint
 lerp a b t = param (between (a .u) (b .u) t) (between (a .v) (b .v) t)
+
+-- the coordinate on an axis, and the one on the other axis
+abbrev pub along : Axis → ParamPoint → Float
+along AxisU p = p .u
+along AxisV p = p .v
+
+abbrev pub across : Axis → ParamPoint → Float
+across AxisU p = p .v
+across AxisV p = p .u
 
 -- from −EPS to top + EPS
 unfoldable pub within : Float → Float → Bool

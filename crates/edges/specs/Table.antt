@@ -11,11 +11,11 @@ use Rattle.float.specs.Cast.{natFloat}
 use Rattle.edges.specs.declared.event.ParamEdge.the-variants.{U, «V», Diagonal}
 use Rattle.edges.specs.Param.{param, lerp, within, paramInBounds, integerStep, normalizeLambda}
 use Rattle.edges.specs.Cell.{indexOf, onDiagonal, tryCell, diagonalCellAt}
-use Rattle.edges.specs.Events.{event, edgeAtPoint, uAt, vAt, diagonalCrossing, listFrom, ends, us, vs, diagonals, candidates, insert, sortInto, uniqueAfter, unique, sortedEdgeEvents}
+use Rattle.edges.specs.Events.{event, edgeAtPoint, lineCrossing, diagonalCrossing, listFrom, ends, lines, diagonals, candidates, insert, sortInto, uniqueAfter, unique, sortedEdgeEvents}
 
 -- `unfolding computed` opens every definition that a closed result needs
 unfoldable pub computed : Bool
-unfolding within paramInBounds integerStep normalizeLambda indexOf onDiagonal tryCell diagonalCellAt edgeAtPoint uAt vAt diagonalCrossing listFrom ends us vs diagonals candidates insert sortInto uniqueAfter unique sortedEdgeEvents eps negative absolute clamped totalOrder floorZ ceilZ rounded natFloat ofBits ofInt neg lt le eq add sub mul div round toUnsigned
+unfolding within paramInBounds integerStep normalizeLambda indexOf onDiagonal tryCell diagonalCellAt edgeAtPoint lineCrossing diagonalCrossing listFrom ends lines diagonals candidates insert sortInto uniqueAfter unique sortedEdgeEvents eps negative absolute clamped totalOrder floorZ ceilZ rounded natFloat ofBits ofInt neg lt le eq add sub mul div round toUnsigned
 computed = true
 
 abbrev quarter : Float

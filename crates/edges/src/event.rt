@@ -1,6 +1,7 @@
 // Events: a lambda and the side it falls on.
 use crate::cell::DiagonalCell;
 use crate::cell::diagonal_cell_at;
+use crate::point::Axis;
 use crate::point::ParamPoint;
 use crate::point::WholeStep;
 use crate::point::integer_step;
@@ -10,7 +11,7 @@ use float::cast::to_f64;
 use float::order::clamp;
 ghost use mathlib.Core.Path.{_≡_};
 ghost use Rattle.edges.specs.Param.{normalizeLambda};
-ghost use Rattle.edges.specs.Events.{edgeAtPoint, endCandidate, lambdaAt, onLine, uCandidate, vCandidate, diagonalCandidate};
+ghost use Rattle.edges.specs.Events.{edgeAtPoint, endCandidate, lambdaAt, onLine, lineAt, lineCandidate, diagonalCandidate};
 
 pub enum ParamEdge {
     U(usize),
@@ -94,38 +95,37 @@ fn on_line(x: f64, steps: usize, event: EdgeEvent) -> Candidate
     Candidate::NoEvent
 }
 
-// Where the step from a to b crosses the line U(u).
-pub fn u_candidate(n: usize, a: ParamPoint, b: ParamPoint, u: usize) -> Candidate
-    ensures { λ r. ⌜ r ≡ uCandidate n a b u ⌝ }
+// The line at `step` of an axis.
+fn line_at(axis: Axis, step: usize) -> ParamEdge
+    ensures { λ r. ⌜ r ≡ lineAt axis step ⌝ }
 {
-    let NormalizedLambda::Lambda(lambda) = lambda_at(u, a.u, b.u - a.u) else {
-        return Candidate::NoEvent;
-    };
-    let point = a.lerp(b, lambda);
-    on_line(
-        point.v,
-        n,
-        EdgeEvent {
-            lambda,
-            edge: ParamEdge::U(u),
-        },
-    )
+    match axis {
+        Axis::AxisU => ParamEdge::U(step),
+        Axis::AxisV => ParamEdge::V(step),
+    }
 }
 
-// Where the step from a to b crosses the line V(v).
-pub fn v_candidate(m: usize, a: ParamPoint, b: ParamPoint, v: usize) -> Candidate
-    ensures { λ r. ⌜ r ≡ vCandidate m a b v ⌝ }
+// Where the step from a to b crosses the line at `step` of an axis, the other axis having `steps`.
+pub fn line_candidate(
+    axis: Axis,
+    steps: usize,
+    a: ParamPoint,
+    b: ParamPoint,
+    step: usize,
+) -> Candidate
+    ensures { λ r. ⌜ r ≡ lineCandidate axis steps a b step ⌝ }
 {
-    let NormalizedLambda::Lambda(lambda) = lambda_at(v, a.v, b.v - a.v) else {
+    let start = a.along(axis);
+    let NormalizedLambda::Lambda(lambda) = lambda_at(step, start, b.along(axis) - start) else {
         return Candidate::NoEvent;
     };
     let point = a.lerp(b, lambda);
     on_line(
-        point.u,
-        m,
+        point.across(axis),
+        steps,
         EdgeEvent {
             lambda,
-            edge: ParamEdge::V(v),
+            edge: line_at(axis, step),
         },
     )
 }

@@ -5,12 +5,18 @@ use float::consts::EPS;
 use float::sign::abs;
 use float::whole::round;
 ghost use mathlib.Core.Path.{_≡_};
-ghost use Rattle.edges.specs.Param.{lerp, within, paramInBounds, integerStep};
+ghost use Rattle.edges.specs.Param.{lerp, along, across, within, paramInBounds, integerStep};
 
 #[repr(C)]
 pub struct ParamPoint {
     pub u: f64,
     pub v: f64,
+}
+
+// An axis of the parameter plane.
+pub enum Axis {
+    AxisU,
+    AxisV,
 }
 
 impl ParamPoint {
@@ -20,6 +26,26 @@ impl ParamPoint {
         ParamPoint {
             u: self.u + (other.u - self.u) * t,
             v: self.v + (other.v - self.v) * t,
+        }
+    }
+
+    // The coordinate on an axis.
+    pub fn along(self, axis: Axis) -> f64
+        ensures { λ r. ⌜ r ≡ along axis self ⌝ }
+    {
+        match axis {
+            Axis::AxisU => self.u,
+            Axis::AxisV => self.v,
+        }
+    }
+
+    // The coordinate on the other axis.
+    pub fn across(self, axis: Axis) -> f64
+        ensures { λ r. ⌜ r ≡ across axis self ⌝ }
+    {
+        match axis {
+            Axis::AxisU => self.v,
+            Axis::AxisV => self.u,
         }
     }
 }

@@ -80,7 +80,7 @@ fn place_of(lambdas: &[f64], count: usize, lambda: f64) -> usize
 
 // Puts an event in its place among `count` sorted events, after its equals, and moves those after
 // it up by one.
-fn insert_event(lambdas: &mut [f64], codes: &mut [u32], count: usize, event: EdgeEvent)
+pub fn insert_event(lambdas: &mut [f64], codes: &mut [u32], count: usize, event: EdgeEvent)
     requires { ⌜ (count < length (now lambdas)) × (length (now lambdas) ≡ length (now codes)) × OnGrid 255 255 event ⌝ }
     ensures { λ _. ⌜ eventsIn (now (lambdas .exit)) (now (codes .exit)) (count + 1)
         ≡ insert event (eventsIn (now (lambdas .entry)) (now (codes .entry)) count) ⌝ }

@@ -1,11 +1,13 @@
 // The events of the step from a to b, in order. Each push sorts its candidates into the lists and
 // answers the new count.
+use crate::event::Candidate;
 use crate::event::diagonal_candidate;
 use crate::event::edge_at_point;
 use crate::event::end_candidate;
-use crate::event::u_candidate;
-use crate::event::v_candidate;
+use crate::event::line_candidate;
+use crate::point::Axis;
 use crate::point::ParamPoint;
+use crate::scratch::insert_event;
 use crate::scratch::push_candidate;
 use crate::scratch::unique;
 use float::consts::EPS;
@@ -16,7 +18,7 @@ ghost use mathlib.Core.Path.{_≡_};
 ghost use mathlib.Core.List.{[]};
 ghost use Prim.Native.Nat.{_+_, _-_, _<_, _≤_};
 ghost use Rattle.float.specs.Cast.{count};
-ghost use Rattle.edges.specs.Events.{lowSum, highSum, firstSum, pastSum, ends, us, vs, diagonals, candidates, sortInto, sortedEdgeEvents};
+ghost use Rattle.edges.specs.Events.{lowSum, highSum, firstSum, pastSum, ends, lines, diagonals, candidates, sortInto, sortedEdgeEvents};
 ghost use Rattle.edges.specs.Scratch.{eventsIn, Room};
 
 fn push_ends(
@@ -36,48 +38,31 @@ fn push_ends(
     push_candidate(lambdas, codes, count, end)
 }
 
-fn push_u_lines(
+// The lines of an axis of `along` steps, the other axis having `across`.
+fn push_lines(
     lambdas: &mut [f64],
     codes: &mut [u32],
     count: usize,
-    m: usize,
-    n: usize,
+    axis: Axis,
+    along: usize,
+    across: usize,
     a: ParamPoint,
     b: ParamPoint,
 ) -> usize
-    requires { ⌜ Room m n (now lambdas) (now codes) count (m + 1) ⌝ }
-    ensures { λ r. ⌜ (r ≤ count + (m + 1)) × (eventsIn (now (lambdas .exit)) (now (codes .exit)) r
-        ≡ sortInto (us m n a b) (eventsIn (now (lambdas .entry)) (now (codes .entry)) count)) ⌝ }
+    requires { ⌜ Room along across (now lambdas) (now codes) count (along + 1) ⌝ }
+    ensures { λ r. ⌜ (r ≤ count + (along + 1)) × (eventsIn (now (lambdas .exit)) (now (codes .exit)) r
+        ≡ sortInto (lines axis along across a b) (eventsIn (now (lambdas .entry)) (now (codes .entry)) count)) ⌝ }
 {
     let mut total = count;
-    if !(EPS < abs(b.u - a.u)) {
+    if !(EPS < abs(b.along(axis) - a.along(axis))) {
         return total;
     }
-    for u in 0..m + 1 {
-        total = push_candidate(lambdas, codes, total, u_candidate(n, a, b, u));
-    }
-    total
-}
-
-fn push_v_lines(
-    lambdas: &mut [f64],
-    codes: &mut [u32],
-    count: usize,
-    m: usize,
-    n: usize,
-    a: ParamPoint,
-    b: ParamPoint,
-) -> usize
-    requires { ⌜ Room m n (now lambdas) (now codes) count (n + 1) ⌝ }
-    ensures { λ r. ⌜ (r ≤ count + (n + 1)) × (eventsIn (now (lambdas .exit)) (now (codes .exit)) r
-        ≡ sortInto (vs m n a b) (eventsIn (now (lambdas .entry)) (now (codes .entry)) count)) ⌝ }
-{
-    let mut total = count;
-    if !(EPS < abs(b.v - a.v)) {
-        return total;
-    }
-    for v in 0..n + 1 {
-        total = push_candidate(lambdas, codes, total, v_candidate(m, a, b, v));
+    for step in 0..along + 1 {
+        let Candidate::Event(event) = line_candidate(axis, across, a, b, step) else {
+            continue;
+        };
+        insert_event(lambdas, codes, total, event);
+        total += 1;
     }
     total
 }
@@ -161,8 +146,8 @@ fn push_candidates(
     ensures { λ r. ⌜ (r ≤ 1023) × (eventsIn (now (lambdas .exit)) (now (codes .exit)) r ≡ sortInto (candidates m n a b) []) ⌝ }
 {
     let ends = push_ends(lambdas, codes, m, n, a, b);
-    let us = push_u_lines(lambdas, codes, ends, m, n, a, b);
-    let vs = push_v_lines(lambdas, codes, us, m, n, a, b);
+    let us = push_lines(lambdas, codes, ends, Axis::AxisU, m, n, a, b);
+    let vs = push_lines(lambdas, codes, us, Axis::AxisV, n, m, a, b);
     push_diagonals(lambdas, codes, vs, m, n, a, b)
 }
 

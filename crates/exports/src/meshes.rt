@@ -6,6 +6,7 @@ use cyclic::seam::Seam;
 use cyclic::seam::SeamSearch;
 use mesh::Triangulation;
 ghost use mathlib.Core.Path.{_≡_};
+ghost use Rattle.surface.specs.Found.{SurfaceMeets};
 ghost use Rattle.mesh.specs.Mesh.{statedTriangulation, triangulateGrid};
 ghost use Rattle.exports.specs.Seams.{foundSeam};
 ghost use Rattle.exports.specs.Meshes.{meshAnswer, Hands};
@@ -59,8 +60,9 @@ pub extern "C" fn mt_triangulate_grid(
     triangles: &mut [usize],
     flipped: &mut [usize],
 ) -> MeshAnswer
-    ensures { λ r. ⌜ Hands (triangulateGrid (now (grid .entry)) m n (now (triangles .entry)) (now (flipped .entry))) r
+    ensures handed { λ r. ⌜ Hands (triangulateGrid (now (grid .entry)) m n (now (triangles .entry)) (now (flipped .entry))) r
         (now (triangles .exit)) (now (flipped .exit)) ⌝ }
+    ensures surface { λ _. ⌜ SurfaceMeets (now (grid .entry)) m n ⌝ }
 {
     mesh_to_c(mesh::triangulate_grid(grid, m, n, triangles, flipped))
 }

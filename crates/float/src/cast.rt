@@ -18,9 +18,12 @@ pub fn to_usize(x: f64) -> usize
     }
 }
 
-// n as f64: up to 2^53 nothing is rounded.
+// n as f64. A number of 32 bits, as nearly all are, is converted by one instruction.
 pub fn to_f64(n: usize) -> f64
     ensures { λ r. ⌜ r ≡ natFloat n ⌝ }
 {
+    if n <= 4294967295 {
+        return (n as u32) as f64;
+    }
     std::num::nearest_u64_to_f64(n as u64)
 }

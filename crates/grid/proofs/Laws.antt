@@ -3,7 +3,7 @@ use Prim.Native.Nat.{ℕ, zero, suc, _+_, _*_, _/_, _%_, _≤_, _<_}
 use native.Mathlib.Nat.{mul-le-mul}
 use native.Mathlib.Omega.{arith}
 use native.Mathlib.Numerals.{add-one}
-use mathlib.Core.Path.{_≡_, refl, sym, ap, _∙_}
+use mathlib.Core.Path.{_≡_, refl, sym, subst}
 use mathlib.Core.Bool.{Bool, true, false, _&&_, true≢false}
 use mathlib.Core.List.{List, [], _∷_}
 use lib.Arith.{digits-lt, digits-div, digits-mod}
@@ -17,23 +17,19 @@ use Rattle.refusal.specs.declared.Check.{Check}
 use Rattle.refusal.specs.declared.Check.the-variants.{Passed, Failed}
 use Rattle.refusal.specs.declared.Refusal.{Refusal}
 use Rattle.refusal.specs.declared.Refusal.the-variants.{Steps, Length, Coordinate}
-use Rattle.refusal.specs.Refusals.{unless}
-use Rattle.grid.specs.Grid.{pointNumber, stepsFit, lengthFits, maxCoordinate, coordinatesFit, shapeCheck, gridCheck, Accepted}
+use Rattle.refusal.specs.Refusals.{unless, andThen}
+use Rattle.grid.specs.Grid.{pointNumber, stepsFit, lengthFits, maxCoordinate, coordinatesFit, gridCheck, Accepted}
 
 pub record Stepped (m n : ℕ) : Type 0 where
   pub m-least : 1 ≤ m
   pub m-most : m ≤ 255
   pub n-least : 1 ≤ n
   pub n-most : n ≤ 255
+  pub points : (m + 1) * (n + 1) ≤ 65536
 
 pub record Shaped (g : List Float) (m n : ℕ) : Type 0 where
   pub steps : Stepped m n
   pub size : length g ≡ 3 * ((m + 1) * (n + 1))
-
--- what comes after a test, where it passes
-abbrev pub andThen : Check → Check → Check
-andThen Passed after = after
-andThen (Failed k) after = Failed k
 
 pub and-true : (a : Bool) → a && true ≡ a
 and-true true = refl
@@ -53,56 +49,62 @@ pub unless-passed : (t : Bool) (k : Refusal) (after : Check) → unless t k afte
 unless-passed true k after h = (refl, h)
 unless-passed false k after h = let z : _≡_ {A = ℕ} 0 1 = cc in absurd (omega arith)
 
+pub then-passed : (c after : Check) → andThen c after ≡ Passed → (c ≡ Passed) × (after ≡ Passed)
+then-passed Passed after h = (refl, h)
+then-passed (Failed k) after h = let z : _≡_ {A = ℕ} 0 1 = cc in absurd (omega arith)
+
 -- M and N
+
+-- at most 2^16 points
+pub points-most : (m n : ℕ) → m ≤ 255 → n ≤ 255 → (m + 1) * (n + 1) ≤ 65536
+points-most m n hm hn = mul-le-mul {n₂ = 256} {m₂ = 256} (omega arith) (omega arith)
 
 pub steps-known : (m n : ℕ) → stepsFit m n ≡ true → Stepped m n
 steps-known m n h =
     let b = and-both (leb 1 m && leb m 255) (leb 1 n && leb n 255) h in
     let bm = and-both (leb 1 m) (leb m 255) (b .0) in
     let bn = and-both (leb 1 n) (leb n 255) (b .1) in
-    record { m-least = leb-true 1 m (bm .0); m-most = leb-true m 255 (bm .1); n-least = leb-true 1 n (bn .0); n-most = leb-true n 255 (bn .1) }
-
--- at most 2^16 points
-pub points-most : (m n : ℕ) → m ≤ 255 → n ≤ 255 → (m + 1) * (n + 1) ≤ 65536
-points-most m n hm hn = mul-le-mul {n₂ = 256} {m₂ = 256} (omega arith) (omega arith)
+    let hm = leb-true m 255 (bm .1) in
+    let hn = leb-true n 255 (bn .1) in
+    record { m-least = leb-true 1 m (bm .0); m-most = hm; n-least = leb-true 1 n (bn .0); n-most = hn; points = points-most m n hm hn }
 
 -- The tests of a grid
 
-pub shape-known : (g : List Float) (m n : ℕ) → shapeCheck g m n ≡ Passed → Shaped g m n
-unfolding shapeCheck
-shape-known g m n h =
-    let a = unless-passed (stepsFit m n) Steps (unless (lengthFits g m n) Length Passed) h in
-    let b = unless-passed (lengthFits g m n) Length Passed (a .1) in
-    record { steps = steps-known m n (a .0); size = eqb-true (length g) (3 * ((m + 1) * (n + 1))) (b .0) }
+-- what is known where 1, 2, the call's own test and 4 pass
+pub record Passing (g : List Float) (m n : ℕ) (between : Check) : Type 0 where
+  pub shaped : Shaped g m n
+  pub own : between ≡ Passed
+  pub coordinates : coordinatesFit g ≡ true
 
--- tests 1 and 2 before others are `shapeCheck` before them
-pub shape-first : (g : List Float) (m n : ℕ) (after : Check) → unless (stepsFit m n) Steps (unless (lengthFits g m n) Length after) ≡ andThen (shapeCheck g m n) after
-unfolding shapeCheck
-shape-first g m n after = go (stepsFit m n) (lengthFits g m n)
-  where
-    go : (s l : Bool) → unless s Steps (unless l Length after) ≡ andThen (unless s Steps (unless l Length Passed)) after
-    go true true = refl
-    go true false = refl
-    go false l = refl
-
-pub grid-is : (g : List Float) (m n : ℕ) → gridCheck g m n ≡ andThen (shapeCheck g m n) (unless (coordinatesFit g) Coordinate Passed)
+pub grid-passed : (g : List Float) (m n : ℕ) (between : Check) → gridCheck g m n between ≡ Passed → Passing g m n between
 unfolding gridCheck
-grid-is g m n = shape-first g m n (unless (coordinatesFit g) Coordinate Passed)
+grid-passed g m n between h =
+    let last = unless (coordinatesFit g) Coordinate Passed in
+    let a = unless-passed (stepsFit m n) Steps (unless (lengthFits g m n) Length (andThen between last)) h in
+    let b = unless-passed (lengthFits g m n) Length (andThen between last) (a .1) in
+    let c = then-passed between last (b .1) in
+    record {
+      shaped = record { steps = steps-known m n (a .0); size = eqb-true (length g) (3 * ((m + 1) * (n + 1))) (b .0) };
+      own = c .0;
+      coordinates = unless-passed (coordinatesFit g) Coordinate Passed (c .1) .0;
+    }
 
-pub accepted-shape : (g : List Float) (m n : ℕ) → Accepted g m n → shapeCheck g m n ≡ Passed
-accepted-shape g m n h = go (shapeCheck g m n) (sym (grid-is g m n) ∙ h)
-  where
-    go : (c : Check) → andThen c (unless (coordinatesFit g) Coordinate Passed) ≡ Passed → c ≡ Passed
-    go Passed h = refl
-    go (Failed k) h = h
-
-pub accepted-coordinates : (g : List Float) (m n : ℕ) → Accepted g m n → coordinatesFit g ≡ true
-accepted-coordinates g m n h =
-    unless-passed (coordinatesFit g) Coordinate Passed
-    (ap (λ (c : Check). andThen c (unless (coordinatesFit g) Coordinate Passed)) (sym (accepted-shape g m n h)) ∙ sym (grid-is g m n) ∙ h) .0
+-- a grid that passes in a call is accepted
+pub grid-accepted : (g : List Float) (m n : ℕ) (between : Check) → gridCheck g m n between ≡ Passed → Accepted g m n
+grid-accepted g m n between h = subst (λ (c : Check). gridCheck g m n c ≡ Passed) (grid-passed g m n between h .own) h
 
 pub accepted-known : (g : List Float) (m n : ℕ) → Accepted g m n → Shaped g m n
-accepted-known g m n h = shape-known g m n (accepted-shape g m n h)
+accepted-known g m n h = grid-passed g m n Passed h .shaped
+
+-- a call's own test may test M and N once more
+pub steps-twice : (g : List Float) (m n : ℕ) (between : Check) → gridCheck g m n (unless (stepsFit m n) Steps between) ≡ gridCheck g m n between
+unfolding gridCheck
+steps-twice g m n between = go (stepsFit m n)
+  where
+    go : (s : Bool) → let last = unless (coordinatesFit g) Coordinate Passed in
+        unless s Steps (unless (lengthFits g m n) Length (andThen (unless s Steps between) last)) ≡ unless s Steps (unless (lengthFits g m n) Length (andThen between last))
+    go true = refl
+    go false = refl
 
 -- Coordinates
 

@@ -12,7 +12,7 @@ use Rattle.vector.specs.Vectors.{vector}
 use Rattle.refusal.specs.declared.Check.{Check}
 use Rattle.refusal.specs.declared.Check.the-variants.{Passed, Failed}
 use Rattle.refusal.specs.declared.Refusal.the-variants.{Steps, Length, Coordinate}
-use Rattle.refusal.specs.Refusals.{unless}
+use Rattle.refusal.specs.Refusals.{unless, andThen}
 
 -- "Grid point (u, v), u from 0 to M and v from 0 to N, has the number u·(N+1)+v."
 abbrev pub pointNumber : ℕ → ℕ → ℕ → ℕ
@@ -39,13 +39,13 @@ unfoldable pub coordinatesFit : List Float → Bool
 coordinatesFit [] = true
 coordinatesFit (x ∷ xs) = atMost x maxCoordinate && coordinatesFit xs
 
--- refusals 1 and 2 of a grid
-unfoldable pub shapeCheck : List Float → ℕ → ℕ → Check
-shapeCheck g m n = unless (stepsFit m n) Steps (unless (lengthFits g m n) Length Passed)
+-- refusals 1, 2 and 4 of a grid; `between` is what the call itself refuses after 2 and before 4
+unfoldable pub gridCheck : List Float → ℕ → ℕ → Check → Check
+gridCheck g m n between =
+    unless (stepsFit m n) Steps
+    (unless (lengthFits g m n) Length
+    (andThen between (unless (coordinatesFit g) Coordinate Passed)))
 
 -- "A grid is accepted when its M and N, length and coordinates pass 1, 2 and 4."
-unfoldable pub gridCheck : List Float → ℕ → ℕ → Check
-gridCheck g m n = unless (stepsFit m n) Steps (unless (lengthFits g m n) Length (unless (coordinatesFit g) Coordinate Passed))
-
 abbrev pub Accepted : List Float → ℕ → ℕ → Type 0
-Accepted g m n = gridCheck g m n ≡ Passed
+Accepted g m n = gridCheck g m n Passed ≡ Passed

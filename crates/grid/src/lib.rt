@@ -6,7 +6,7 @@ use vector::Vector;
 ghost use mathlib.Core.Path.{_≡_};
 ghost use Prim.Native.Nat.{_+_, _*_, _≤_};
 ghost use lib.ListN.{length};
-ghost use Rattle.grid.specs.Grid.{pointNumber, pointAt, stepsFit, coordinatesFit, shapeCheck};
+ghost use Rattle.grid.specs.Grid.{pointNumber, pointAt, stepsFit, coordinatesFit, gridCheck};
 
 // M and N are at most this.
 pub const MAX_STEPS: usize = 255;
@@ -54,15 +54,21 @@ pub fn steps_fit(m: usize, n: usize) -> bool
     ((1 <= m) & (m <= MAX_STEPS)) & ((1 <= n) & (n <= MAX_STEPS))
 }
 
-// Refusals 1 and 2: the steps, and the length that goes with them.
-pub fn check_shape(grid: &[f64], m: usize, n: usize) -> Check
-    ensures { λ r. ⌜ r ≡ shapeCheck (now (grid .entry)) m n ⌝ }
+// Refusals 1, 2 and 4 of a grid; `between` is what the call itself refuses after 2 and before 4.
+pub fn check_grid(grid: &[f64], m: usize, n: usize, between: Check) -> Check
+    ensures { λ r. ⌜ r ≡ gridCheck (now (grid .entry)) m n between ⌝ }
 {
     if !steps_fit(m, n) {
         return Check::Failed(Refusal::Steps);
     }
     if grid.len() != 3 * ((m + 1) * (n + 1)) {
         return Check::Failed(Refusal::Length);
+    }
+    if let Check::Failed(refusal) = between {
+        return Check::Failed(refusal);
+    }
+    if !coordinates_fit(grid) {
+        return Check::Failed(Refusal::Coordinate);
     }
     Check::Passed
 }

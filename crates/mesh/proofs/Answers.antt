@@ -1,24 +1,22 @@
 -- The open call's answer and lists: its refusals in order, what is known where none applies, and the lists that are handed over. Assumes nothing.
 use Prim.Native.Nat.{ℕ, _+_, _*_, _≤_}
 use mathlib.Core.Path.{_≡_, refl, sym, ap, subst, _∙_}
-use mathlib.Core.Logic.{_⊎_, ⊎-elim}
-use mathlib.Core.Bool.{Bool, true, false, _&&_, _||_}
 use mathlib.Core.List.{List, []}
 use native.Mathlib.Omega.{arith}
-use lib.Dec.{leb, ltb}
+use lib.Dec.{leb}
 use lib.Ieee.{Float}
 use lib.ListN.{length, take}
 use lib.Seq.{length-take-le}
-use borrow.Author.Tests.{ltb-true, ltb-false, leb-true, le-leb, lt-leb}
+use borrow.Author.Tests.{leb-true}
 use Rattle.refusal.specs.declared.Check.{Check}
 use Rattle.refusal.specs.declared.Check.the-variants.{Passed, Failed}
 use Rattle.refusal.specs.declared.Refusal.{Refusal}
-use Rattle.refusal.specs.declared.Refusal.the-variants.{Room, Coordinate}
+use Rattle.refusal.specs.declared.Refusal.the-variants.{Steps, Room}
 use Rattle.refusal.specs.Refusals.{ok, unless}
 use Rattle.lent.specs.Lent.{filled, zeroedFrom}
 use Rattle.lent.proofs.Laws.{zeroed-filled}
-use Rattle.grid.specs.Grid.{coordinatesFit, shapeCheck}
-use Rattle.grid.proofs.Laws.{andThen, and-both, unless-passed, shape-first, shape-known}
+use Rattle.grid.specs.Grid.{stepsFit, gridCheck, Accepted}
+use Rattle.grid.proofs.Laws.{and-both, unless-passed, grid-passed, grid-accepted, accepted-known, steps-twice}
 use Rattle.cyclic.specs.declared.seam.Seam.{Seam}
 use Rattle.cyclic.specs.declared.seam.Seam.the-variants.{Joined, Unjoined}
 use Rattle.cyclic.specs.declared.seam.SeamSearch.{SeamSearch}
@@ -33,48 +31,30 @@ use Rattle.mesh.specs.Corners.{Maps, Bounded}
 use Rattle.mesh.specs.Held.{triangleAt, trianglesIn, pairsIn}
 use Rattle.mesh.proofs.Firsts.{length-firsts}
 use Rattle.mesh.specs.Rims.{flips}
-use Rattle.mesh.proofs.Holding.{or-true, or-false, triangles-held, pairs-held}
+use Rattle.mesh.proofs.Holding.{triangles-held, pairs-held}
 use Rattle.mesh.proofs.Cells.{held-most}
 use Rattle.mesh.proofs.Flips.{seam-most, held-pairs, flipped-is}
 
 -- Refusals
 
-pub mesh-is : (g : List Float) (m n : ℕ) (t f : List ℕ) → meshCheck g m n t f ≡ andThen (shapeCheck g m n) (unless (roomFits m n t f) Room (unless (coordinatesFit g) Coordinate Passed))
+-- the grid's tests, with the test of room between them, are those of `meshCheck`
+pub mesh-checked : (g : List Float) (m n : ℕ) (t f : List ℕ) {room c : Check} → room ≡ unless (stepsFit m n) Steps (unless (roomFits m n t f) Room Passed) →
+    c ≡ gridCheck g m n room → c ≡ meshCheck g m n t f
 unfolding meshCheck
-mesh-is g m n t f = shape-first g m n (unless (roomFits m n t f) Room (unless (coordinatesFit g) Coordinate Passed))
-
-and-false : (a : Bool) → a && false ≡ false
-and-false true = refl
-and-false false = refl
-
--- the test of room, as the code makes it
-pub room-short : (m n : ℕ) (t f : List ℕ) → ltb (length t) (6 * (m * n)) || ltb (length f) (2 * (m + n)) ≡ true → roomFits m n t f ≡ false
-room-short m n t f h =
-    ⊎-elim
-    (λ e. rw (lt-leb (6 * (m * n)) (length t) (ltb-true (length t) (6 * (m * n)) e)))
-    (λ e. rw (lt-leb (2 * (m + n)) (length f) (ltb-true (length f) (2 * (m + n)) e)) (and-false (leb (6 * (m * n)) (length t))))
-    (or-true (ltb (length t) (6 * (m * n))) (ltb (length f) (2 * (m + n))) h)
-
-pub room-there : (m n : ℕ) (t f : List ℕ) → ltb (length t) (6 * (m * n)) || ltb (length f) (2 * (m + n)) ≡ false → roomFits m n t f ≡ true
-room-there m n t f h =
-    let w = or-false (ltb (length t) (6 * (m * n))) (ltb (length f) (2 * (m + n))) h in
-    rw (le-leb (6 * (m * n)) (length t) (ltb-false (length t) (6 * (m * n)) (w .0)), le-leb (2 * (m + n)) (length f) (ltb-false (length f) (2 * (m + n)) (w .1)))
+mesh-checked g m n t f er ec = ec ∙ ap (gridCheck g m n) er ∙ steps-twice g m n (unless (roomFits m n t f) Room Passed)
 
 pub record Admitted (g : List Float) (m n : ℕ) (t f : List ℕ) : Type 0 where
-  pub shape : shapeCheck g m n ≡ Passed
+  pub accepted : Accepted g m n
   pub triangle-room : 6 * (m * n) ≤ length t
   pub pair-room : 2 * (m + n) ≤ length f
 
-both-passed : (c after : Check) → andThen c after ≡ Passed → (c ≡ Passed) × (after ≡ Passed)
-both-passed Passed after h = (refl, h)
-both-passed (Failed k) after h = let z : _≡_ {A = ℕ} 0 1 = cc in absurd (omega arith)
-
 pub admitted : (g : List Float) (m n : ℕ) (t f : List ℕ) → meshCheck g m n t f ≡ Passed → Admitted g m n t f
+unfolding meshCheck
 admitted g m n t f h =
-    let a = both-passed (shapeCheck g m n) (unless (roomFits m n t f) Room (unless (coordinatesFit g) Coordinate Passed)) (sym (mesh-is g m n t f) ∙ h) in
-    let b = unless-passed (roomFits m n t f) Room (unless (coordinatesFit g) Coordinate Passed) (a .1) in
-    let r = and-both (leb (6 * (m * n)) (length t)) (leb (2 * (m + n)) (length f)) (b .0) in
-    record { shape = a .0; triangle-room = leb-true (6 * (m * n)) (length t) (r .0); pair-room = leb-true (2 * (m + n)) (length f) (r .1) }
+    let room = unless (roomFits m n t f) Room Passed in
+    let own = unless-passed (roomFits m n t f) Room Passed (grid-passed g m n room h .own) .0 in
+    let r = and-both (leb (6 * (m * n)) (length t)) (leb (2 * (m + n)) (length f)) own in
+    record { accepted = grid-accepted g m n room h; triangle-room = leb-true (6 * (m * n)) (length t) (r .0); pair-room = leb-true (2 * (m + n)) (length f) (r .1) }
 
 -- The seams that are found fit the grid
 
@@ -82,10 +62,10 @@ maps-row : (steps : ℕ) (seam : Seam) → OfRow steps seam → Maps seam steps
 maps-row steps Unjoined h = tt
 maps-row steps (Joined k) h = h
 
-pub found-bounded : (g : List Float) (m n : ℕ) {u v : SeamSearch} → shapeCheck g m n ≡ Passed → u ≡ uSearch g m n → v ≡ vSearch g m n →
+pub found-bounded : (g : List Float) (m n : ℕ) {u v : SeamSearch} → Accepted g m n → u ≡ uSearch g m n → v ≡ vSearch g m n →
     Bounded (record { m = m; n = n; u = u .seam; v = v .seam })
 found-bounded g m n {u} {v} h p q =
-    let s = shape-known g m n h .steps in
+    let s = accepted-known g m n h .steps in
     record {
       m-least = s .m-least;
       m-most = s .m-most;

@@ -115,11 +115,11 @@ comes p q = ltb (p .low) (q .low) || (eqb (p .low) (q .low) && ltb (p .high) (q 
 abbrev pub alike : Pair → Pair → Bool
 alike p q = eqb (p .low) (q .low) && eqb (p .high) (q .high)
 
-pub or-true : (a b : Bool) → a || b ≡ true → (a ≡ true) ⊎ (b ≡ true)
+or-true : (a b : Bool) → a || b ≡ true → (a ≡ true) ⊎ (b ≡ true)
 or-true true b h = inl refl
 or-true false b h = inr h
 
-pub or-false : (a b : Bool) → a || b ≡ false → (a ≡ false) × (b ≡ false)
+or-false : (a b : Bool) → a || b ≡ false → (a ≡ false) × (b ≡ false)
 or-false true b h = absurd (true≢false h)
 or-false false b h = (refl, h)
 

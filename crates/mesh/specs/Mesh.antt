@@ -8,10 +8,10 @@ use lib.ListN.{length}
 use lib.Ieee.{Float}
 use Rattle.refusal.specs.declared.Check.{Check}
 use Rattle.refusal.specs.declared.Check.the-variants.{Passed, Failed}
-use Rattle.refusal.specs.declared.Refusal.the-variants.{Steps, Length, Room, Coordinate}
+use Rattle.refusal.specs.declared.Refusal.the-variants.{Room}
 use Rattle.refusal.specs.Refusals.{Answer, ok, refused, numberOf, unless}
 use Rattle.lent.specs.Lent.{filled}
-use Rattle.grid.specs.Grid.{stepsFit, lengthFits, coordinatesFit}
+use Rattle.grid.specs.Grid.{gridCheck}
 use Rattle.cyclic.specs.declared.seam.SeamSearch.{SeamSearch}
 use Rattle.surface.specs.Surface.{Triangle, Pair, Shape, triangles, flipped}
 use Rattle.surface.specs.Found.{uSearch, vSearch, surfaceOf}
@@ -47,10 +47,7 @@ roomFits m n t f = leb (6 * (m * n)) (length t) && leb (2 * (m + n)) (length f)
 
 -- refusals 1, 2, 3 and 4
 unfoldable pub meshCheck : List Float → ℕ → ℕ → List ℕ → List ℕ → Check
-meshCheck g m n t f =
-    unless (stepsFit m n) Steps
-    (unless (lengthFits g m n) Length
-    (unless (roomFits m n t f) Room (unless (coordinatesFit g) Coordinate Passed)))
+meshCheck g m n t f = gridCheck g m n (unless (roomFits m n t f) Room Passed)
 
 -- an answer and the two lent lists after a call
 pub record Handed : Type 0 where

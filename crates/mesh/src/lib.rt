@@ -7,10 +7,12 @@ ghost use mathlib.Core.Path.{_≡_};
 ghost use Prim.Native.Nat.{_+_, _*_, _≤_};
 ghost use lib.ListN.{length};
 ghost use Rattle.surface.specs.Found.{uSearch, vSearch, SurfaceMeets};
-ghost use Rattle.grid.specs.Grid.{shapeCheck};
+ghost use Rattle.grid.specs.Grid.{stepsFit, Accepted};
 ghost use Rattle.refusal.specs.declared.Check.the-variants.{Passed};
+ghost use Rattle.refusal.specs.declared.Refusal.the-variants.{Steps, Room};
+ghost use Rattle.refusal.specs.Refusals.{unless};
 ghost use Rattle.mesh.specs.Corners.{shapeOf, Bounded};
-ghost use Rattle.mesh.specs.Mesh.{meshCheck, triangulateGrid, Hands, Filled};
+ghost use Rattle.mesh.specs.Mesh.{roomFits, meshCheck, triangulateGrid, Hands, Filled};
 
 pub mod corner;
 pub mod flipped;
@@ -35,27 +37,30 @@ pub struct MeshCounts {
     pub pairs: usize,
 }
 
+// Refusals 1 and 3. It runs before the grid's own tests, so it multiplies only an M and N that pass 1.
+fn check_room(m: usize, n: usize, triangles: &[usize], flipped: &[usize]) -> Check
+    ensures { λ r. ⌜ r ≡ unless (stepsFit m n) Steps (unless (roomFits m n (now (triangles .entry)) (now (flipped .entry))) Room Passed) ⌝ }
+{
+    if !grid::steps_fit(m, n) {
+        return Check::Failed(Refusal::Steps);
+    }
+    let fits = (6 * (m * n) <= triangles.len()) & (2 * (m + n) <= flipped.len());
+    if !fits {
+        return Check::Failed(Refusal::Room);
+    }
+    Check::Passed
+}
+
 // Refusals 1, 2, 3 and 4.
 fn check_mesh(grid: &[f64], m: usize, n: usize, triangles: &[usize], flipped: &[usize]) -> Check
     ensures { λ r. ⌜ r ≡ meshCheck (now (grid .entry)) m n (now (triangles .entry)) (now (flipped .entry)) ⌝ }
 {
-    match grid::check_shape(grid, m, n) {
-        Check::Failed(k) => Check::Failed(k),
-        Check::Passed => {
-            if (triangles.len() < 6 * (m * n)) | (flipped.len() < 2 * (m + n)) {
-                return Check::Failed(Refusal::Room);
-            }
-            if !grid::coordinates_fit(grid) {
-                return Check::Failed(Refusal::Coordinate);
-            }
-            Check::Passed
-        }
-    }
+    grid::check_grid(grid, m, n, check_room(m, n, triangles, flipped))
 }
 
 // The u seam compares column u = 0 with u = M, the v seam row v = 0 with v = N.
 fn find_seams(grid: &[f64], m: usize, n: usize) -> Seams
-    requires { ⌜ shapeCheck (now grid) m n ≡ Passed ⌝ }
+    requires { ⌜ Accepted (now grid) m n ⌝ }
     ensures { λ r. ⌜ (r .u ≡ uSearch (now (grid .entry)) m n) × (r .v ≡ vSearch (now (grid .entry)) m n) ⌝ }
 {
     let u = cyclic::seam::search_rows(grid, 0, grid, m * (n + 1), 1, n);

@@ -8,11 +8,11 @@ use lib.ListN.{length}
 use lib.Ieee.{Float}
 use Rattle.refusal.specs.declared.Check.{Check}
 use Rattle.refusal.specs.declared.Check.the-variants.{Passed, Failed}
-use Rattle.refusal.specs.declared.Refusal.the-variants.{Steps, Length, Room, Coordinate}
+use Rattle.refusal.specs.declared.Refusal.the-variants.{Room}
 use Rattle.refusal.specs.Refusals.{Answer, ok, refused, numberOf, unless}
 use Rattle.lent.specs.Lent.{zeroFloat, filled}
 use Rattle.vector.specs.declared.Vector.{Vector}
-use Rattle.grid.specs.Grid.{pointNumber, pointAt, stepsFit, lengthFits, coordinatesFit}
+use Rattle.grid.specs.Grid.{pointNumber, pointAt, gridCheck}
 use Rattle.path.specs.declared.GridPathsAnswer.{GridPathsAnswer}
 use Rattle.path.specs.declared.GridPathsAnswer.the-variants.{Drawn, Refused}
 
@@ -59,10 +59,7 @@ roomFits m n points starts = leb (6 * ((m + 1) * (n + 1))) (length points) && le
 
 -- refusals 1, 2, 3 and 4
 unfoldable pub pathsCheck : List Float → ℕ → ℕ → List Float → List ℕ → Check
-pathsCheck g m n points starts =
-    unless (stepsFit m n) Steps
-    (unless (lengthFits g m n) Length
-    (unless (roomFits m n points starts) Room (unless (coordinatesFit g) Coordinate Passed)))
+pathsCheck g m n points starts = gridCheck g m n (unless (roomFits m n points starts) Room Passed)
 
 pub record Counts : Type 0 where
   pub points : ℕ

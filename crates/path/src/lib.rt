@@ -7,7 +7,11 @@ use refusal::Refusal;
 ghost use mathlib.Core.Path.{_≡_};
 ghost use Prim.Native.Nat.{_≤_, _<_};
 ghost use lib.ListN.{length};
-ghost use Rattle.path.specs.GridPaths.{gridPaths, Leaves};
+ghost use Rattle.refusal.specs.declared.Check.the-variants.{Passed};
+ghost use Rattle.refusal.specs.declared.Refusal.the-variants.{Steps, Room};
+ghost use Rattle.refusal.specs.Refusals.{unless};
+ghost use Rattle.grid.specs.Grid.{stepsFit};
+ghost use Rattle.path.specs.GridPaths.{roomFits, gridPaths, Leaves};
 ghost use Rattle.path.specs.Line.{lineEnd, lineSpan, lineAt, statedLine};
 
 pub enum GridPathsAnswer {
@@ -22,6 +26,20 @@ pub enum LineAnswer {
     Refused(Refusal),
 }
 
+// Refusals 1 and 3. It runs before the grid's own tests, so it multiplies only an M and N that pass 1.
+fn check_room(m: usize, n: usize, points: &[f64], starts: &[usize]) -> Check
+    ensures { λ r. ⌜ r ≡ unless (stepsFit m n) Steps (unless (roomFits m n (now (points .entry)) (now (starts .entry))) Room Passed) ⌝ }
+{
+    if !grid::steps_fit(m, n) {
+        return Check::Failed(Refusal::Steps);
+    }
+    let fits = (6 * ((m + 1) * (n + 1)) <= points.len()) & (m + n + 2 <= starts.len());
+    if !fits {
+        return Check::Failed(Refusal::Room);
+    }
+    Check::Passed
+}
+
 // The grid's lines: those along u, v by v, then those along v, u by u. Three f64 a point go into `points`, the number of
 // each line's first point into `starts`.
 pub fn grid_paths(
@@ -34,20 +52,12 @@ pub fn grid_paths(
     ensures { λ r. ⌜ Leaves (gridPaths (now (grid .entry)) m n (now (points .entry)) (now (starts .entry))) r
         (now (points .exit)) (now (starts .exit)) ⌝ }
 {
-    match grid::check_shape(grid, m, n) {
+    let room = check_room(m, n, points, starts);
+    match grid::check_grid(grid, m, n, room) {
         Check::Failed(k) => GridPathsAnswer::Refused(k),
         Check::Passed => {
             let count = (m + 1) * (n + 1);
             let lines = m + n + 2;
-            if points.len() < 6 * count {
-                return GridPathsAnswer::Refused(Refusal::Room);
-            }
-            if starts.len() < lines {
-                return GridPathsAnswer::Refused(Refusal::Room);
-            }
-            if !grid::coordinates_fit(grid) {
-                return GridPathsAnswer::Refused(Refusal::Coordinate);
-            }
             draw::points(grid, m, n, points);
             draw::starts(m, n, starts);
             GridPathsAnswer::Drawn(2 * count, lines)

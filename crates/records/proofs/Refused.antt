@@ -8,27 +8,27 @@ use lib.ListN.{length}
 use lib.Ieee.{Float}
 use borrow.Author.Tests.{lt-leb}
 use Rattle.refusal.specs.declared.Check.{Check}
-use Rattle.refusal.specs.declared.Check.the-variants.{Failed}
+use Rattle.refusal.specs.declared.Check.the-variants.{Passed, Failed}
 use Rattle.refusal.specs.declared.Refusal.the-variants.{Steps, Length}
-use Rattle.refusal.specs.Refusals.{unless}
-use Rattle.grid.specs.Grid.{stepsFit, lengthFits}
+use Rattle.refusal.specs.Refusals.{unless, andThen}
+use Rattle.grid.specs.Grid.{stepsFit, lengthFits, gridCheck}
 use Rattle.trace.specs.declared.page.Trace.the-variants.{Refused}
 use Rattle.trace.specs.Trace.{Lists, traceCheck, traceFlat, Traces}
 use Rattle.trace.proofs.Ended.{refused-before}
 
 module _ (g : List Float) (m n : ℕ) (pairs : List Float) (marks : List ℕ) (l : Lists) {b : Bool} (e : b ≡ stepsFit m n) where
   wrong-steps : b ≡ false → traceCheck g m n pairs marks ≡ Failed Steps
-  unfolding traceCheck
+  unfolding traceCheck gridCheck
   wrong-steps f = rw (← e, f)
 
   too-many : b ≡ true → 65537 < length marks → traceCheck g m n pairs marks ≡ Failed Length
-  unfolding traceCheck
-  too-many t h = rw (← e, t, lt-leb (length marks) 65537 h) (go (lengthFits g m n) (eqb (length pairs) (2 * length marks)) _)
+  unfolding traceCheck gridCheck
+  too-many t h = rw (← e, t, lt-leb (length marks) 65537 h) (go (lengthFits g m n) (eqb (length pairs) (2 * length marks)) _ _)
     where
-      go : (a c : Bool) (x : Check) → unless (a && (c && false)) Length x ≡ Failed Length
-      go true true x = refl
-      go true false x = refl
-      go false c x = refl
+      go : (a c : Bool) (x y : Check) → andThen (unless a Length (andThen (unless (c && false) Length Passed) x)) y ≡ Failed Length
+      go true true x y = refl
+      go true false x y = refl
+      go false c x y = refl
 
   pub steps-refused : b ≡ false → Traces (traceFlat g m n pairs marks l) (Refused Steps) (l .points) (l .starts) (l .sides) (l .fractions)
   steps-refused f = refused-before g m n pairs marks l (sym (wrong-steps f)) refl

@@ -54,6 +54,11 @@ abbrev pub unless : Bool → Refusal → Check → Check
 unless true k after = after
 unless false k after = Failed k
 
+-- tests after each other: those that come after are due only where the first pass
+abbrev pub andThen : Check → Check → Check
+andThen Passed after = after
+andThen (Failed k) after = Failed k
+
 -- an answer that is due only where the tests before it pass
 abbrev pub passing : {A : Type 0} → Check → Answer A → Answer A
 passing Passed a = a

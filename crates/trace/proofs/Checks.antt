@@ -1,6 +1,6 @@
 -- `traceCheck` by the tests of the code, and what a trace that passes it is known by. Assumes nothing.
 use mathlib.Core.Path.{_≡_, refl, sym, ap, _∙_}
-use mathlib.Core.Bool.{Bool, true, false, _&&_, _||_, true≢false}
+use mathlib.Core.Bool.{Bool, true, false, _&&_, _||_}
 use mathlib.Core.List.{List, [], _∷_}
 use Prim.Native.Nat.{ℕ, zero, suc, _+_, _*_, _≤_, _<_}
 use native.Mathlib.Numerals.{add-one}
@@ -14,10 +14,10 @@ use Rattle.float.specs.Sign.{atMost}
 use Rattle.refusal.specs.declared.Check.{Check}
 use Rattle.refusal.specs.declared.Check.the-variants.{Passed, Failed}
 use Rattle.refusal.specs.declared.Refusal.{Refusal}
-use Rattle.refusal.specs.declared.Refusal.the-variants.{Steps, Length, Coordinate, Mark, Sample}
-use Rattle.refusal.specs.Refusals.{unless}
-use Rattle.grid.specs.Grid.{stepsFit, lengthFits, coordinatesFit, shapeCheck}
-use Rattle.grid.proofs.Laws.{andThen, shape-first, shape-known, Shaped}
+use Rattle.refusal.specs.declared.Refusal.the-variants.{Length, Mark, Sample}
+use Rattle.refusal.specs.Refusals.{unless, andThen}
+use Rattle.grid.specs.Grid.{gridCheck}
+use Rattle.grid.proofs.Laws.{Shaped, and-both, unless-passed, then-passed, grid-passed}
 use Rattle.trace.specs.Trace.{samplesLengthFits, marksFit, maxSample, pairsFit, traceCheck}
 
 -- ---- the marks
@@ -73,71 +73,55 @@ pairs-end ps ks i h = rw (drop-of-length-le ks h)
 
 -- ---- all tests in order
 
--- the tests of the contents
-abbrev rest : List Float → List Float → List ℕ → Check
-rest g pairs marks = unless (coordinatesFit g) Coordinate (unless (marksFit marks) Mark (unless (pairsFit pairs marks) Sample Passed))
+module _ (pairs : List Float) (marks : List ℕ) where
+  pub marks-long : 65537 < length marks → Failed Length ≡ unless (samplesLengthFits pairs marks) Length Passed
+  marks-long h = go (eqb (length pairs) (2 * length marks))
+    where
+      go : (a : Bool) → Failed Length ≡ unless (a && leb (length marks) 65537) Length Passed
+      go true = rw (lt-leb (length marks) 65537 h)
+      go false = refl
+
+  pub pairs-other : (length pairs ≡ 2 * length marks → ⊥) → Failed Length ≡ unless (samplesLengthFits pairs marks) Length Passed
+  pairs-other h = rw (ne-eqb (length pairs) (2 * length marks) h)
+
+  pub lengths-fit : length marks ≤ 65537 → length pairs ≡ 2 * length marks → Passed ≡ unless (samplesLengthFits pairs marks) Length Passed
+  lengths-fit short twice = rw (eq-eqb (length pairs) (2 * length marks) twice, le-leb (length marks) 65537 short)
+
+  -- lengths that fit, by the grid's tests with theirs between
+  pub passed-lengths : (g : List Float) (m n : ℕ) → gridCheck g m n (unless (samplesLengthFits pairs marks) Length Passed) ≡ Passed → (length pairs ≡ 2 * length marks) × (length marks ≤ 65537)
+  passed-lengths g m n h =
+      let own = grid-passed g m n (unless (samplesLengthFits pairs marks) Length Passed) h .own in
+      let l = and-both (eqb (length pairs) (2 * length marks)) (leb (length marks) 65537) (unless-passed (samplesLengthFits pairs marks) Length Passed own .0) in
+      (eqb-true (length pairs) (2 * length marks) (l .0), leb-true (length marks) 65537 (l .1))
 
 module _ (g : List Float) (m n : ℕ) (pairs : List Float) (marks : List ℕ) where
-  check-is : traceCheck g m n pairs marks
-      ≡ andThen (shapeCheck g m n) (unless (samplesLengthFits pairs marks) Length (rest g pairs marks))
-  unfolding traceCheck
-  check-is =
-      go (lengthFits g m n) (samplesLengthFits pairs marks) (rest g pairs marks)
-      ∙ shape-first g m n (unless (samplesLengthFits pairs marks) Length (rest g pairs marks))
-    where
-      go : (a b : Bool) (x : Check) → unless (stepsFit m n) Steps (unless (a && b) Length x) ≡ unless (stepsFit m n) Steps (unless a Length (unless b Length x))
-      go true true x = refl
-      go true false x = refl
-      go false b x = refl
+  module _ {lengths c : Check} (el : lengths ≡ unless (samplesLengthFits pairs marks) Length Passed) (ec : c ≡ gridCheck g m n lengths) where
+    check-is : traceCheck g m n pairs marks ≡ andThen c (unless (marksFit marks) Mark (unless (pairsFit pairs marks) Sample Passed))
+    unfolding traceCheck
+    check-is = rw (← el, ← ec)
 
-  pub shape-fails : {r : Check} {k : Refusal} → r ≡ shapeCheck g m n → r ≡ Failed k → Failed k ≡ traceCheck g m n pairs marks
-  shape-fails er e = rw (check-is, ← er, e)
+    pub grid-refused : {k : Refusal} → c ≡ Failed k → Failed k ≡ traceCheck g m n pairs marks
+    grid-refused e = rw (check-is, e)
 
-  module _ {r : Check} (er : r ≡ shapeCheck g m n) (e : r ≡ Passed) where
-    pub marks-long : 65537 < length marks → Failed Length ≡ traceCheck g m n pairs marks
-    marks-long h =
-        let t : samplesLengthFits pairs marks ≡ false = go (eqb (length pairs) (2 * length marks)) in
-        rw (check-is, ← er, e, t)
-      where
-        go : (a : Bool) → (a && leb (length marks) 65537) ≡ false
-        go true = lt-leb (length marks) 65537 h
-        go false = refl
+    module _ (e : c ≡ Passed) where
+      -- what the test of the pairs asks for
+      pub pairs-twice : length pairs ≡ 2 * length marks
+      pairs-twice = passed-lengths pairs marks g m n (rw (← el, ← ec) e) .0
 
-    pub pairs-other : (length pairs ≡ 2 * length marks → ⊥) → Failed Length ≡ traceCheck g m n pairs marks
-    pairs-other h =
-        let t : samplesLengthFits pairs marks ≡ false = rw (ne-eqb (length pairs) (2 * length marks) h) in
-        rw (check-is, ← er, e, t)
+      pub mark-refused : marksFit marks ≡ false → Failed Mark ≡ traceCheck g m n pairs marks
+      mark-refused k = rw (check-is, e, k)
 
-    module _ (short : length marks ≤ 65537) (twice : length pairs ≡ 2 * length marks) where
-      lengths : samplesLengthFits pairs marks ≡ true
-      lengths = rw (eq-eqb (length pairs) (2 * length marks) twice) (le-leb (length marks) 65537 short)
+      pub sample-refused : marksFit marks ≡ true → pairsFit pairs marks ≡ false → Failed Sample ≡ traceCheck g m n pairs marks
+      sample-refused k p = rw (check-is, e, k, p)
 
-      pub coordinate-fails : coordinatesFit g ≡ false → Failed Coordinate ≡ traceCheck g m n pairs marks
-      coordinate-fails c = rw (check-is, ← er, e, lengths, c)
-
-      pub mark-refused : coordinatesFit g ≡ true → marksFit marks ≡ false → Failed Mark ≡ traceCheck g m n pairs marks
-      mark-refused c k = rw (check-is, ← er, e, lengths, c, k)
-
-      pub sample-refused : coordinatesFit g ≡ true → marksFit marks ≡ true → pairsFit pairs marks ≡ false → Failed Sample ≡ traceCheck g m n pairs marks
-      sample-refused c k p = rw (check-is, ← er, e, lengths, c, k, p)
-
-      pub check-passes : coordinatesFit g ≡ true → marksFit marks ≡ true → pairsFit pairs marks ≡ true → Passed ≡ traceCheck g m n pairs marks
-      check-passes c k p = rw (check-is, ← er, e, lengths, c, k, p)
+      pub check-passes : marksFit marks ≡ true → pairsFit pairs marks ≡ true → Passed ≡ traceCheck g m n pairs marks
+      check-passes k p = rw (check-is, e, k, p)
 
   -- what a trace that passes is known by
   pub checked : traceCheck g m n pairs marks ≡ Passed → Shaped g m n × (length pairs ≡ 2 * length marks) × (length marks ≤ 65537)
-  checked h = go (shapeCheck g m n) refl (samplesLengthFits pairs marks) refl (sym check-is ∙ h)
-    where
-      both : (a b : Bool) → a && b ≡ true → (a ≡ true) × (b ≡ true)
-      both true true p = (refl, refl)
-      both true false p = absurd (true≢false (sym p))
-      both false b p = absurd (true≢false (sym p))
-
-      go : (r : Check) → shapeCheck g m n ≡ r → (t : Bool) → samplesLengthFits pairs marks ≡ t →
-          andThen r (unless t Length (rest g pairs marks)) ≡ Passed →
-          Shaped g m n × (length pairs ≡ 2 * length marks) × (length marks ≤ 65537)
-      go Passed er true et p =
-          let l = both (eqb (length pairs) (2 * length marks)) (leb (length marks) 65537) et in
-          (shape-known g m n er, eqb-true (length pairs) (2 * length marks) (l .0), leb-true (length marks) 65537 (l .1))
-      go Passed er false et p = let z : _≡_ {A = ℕ} 0 1 = cc in absurd (omega arith)
-      go (Failed k) er t et p = let z : _≡_ {A = ℕ} 0 1 = cc in absurd (omega arith)
+  unfolding traceCheck
+  checked h =
+      let lengths = unless (samplesLengthFits pairs marks) Length Passed in
+      let p = then-passed (gridCheck g m n lengths) (unless (marksFit marks) Mark (unless (pairsFit pairs marks) Sample Passed)) h .0 in
+      let l = passed-lengths pairs marks g m n p in
+      (grid-passed g m n lengths p .shaped, l .0, l .1)

@@ -2,7 +2,7 @@
 use mathlib.Core.Path.{_≡_, refl, sym, ap, _∙_, subst}
 use mathlib.Core.Bool.{Bool, true, false}
 use mathlib.Core.List.{List, [], _∷_}
-use Prim.Native.Nat.{ℕ, zero, suc, _+_, _≤_, _<_}
+use Prim.Native.Nat.{ℕ, _+_, _≤_, _<_}
 use native.Mathlib.Nat.{le-trans}
 use native.Mathlib.Omega.{arith}
 use lib.Dec.{ltb, lit≤}
@@ -17,6 +17,7 @@ use Rattle.edges.specs.declared.point.ParamPoint.{ParamPoint}
 use Rattle.edges.specs.declared.event.EdgeEvent.{EdgeEvent}
 use Rattle.edges.proofs.Places.{event-in, events-length}
 use Rattle.edges.proofs.Kept.{next-event}
+use Rattle.edges.proofs.Each.{each-at}
 use Rattle.edges.proofs.Laws.{events-inside}
 use Rattle.refusal.specs.declared.Refusal.{Refusal}
 use Rattle.trace.specs.declared.page.Pen.{Pen}
@@ -26,11 +27,6 @@ use Rattle.trace.specs.Walk.{Step, on, off, follow, nextLambda, crossed,
 use Rattle.trace.specs.Page.{Page, pageOf, pushPage, flushPage, Pushed}
 use Rattle.trace.proofs.Follow.{down, stops, as-well}
 use Rattle.trace.proofs.Crossed.{unless-is}
-
-each-at : (P : EdgeEvent → Type 0) (es : List EdgeEvent) (i : ℕ) (d : EdgeEvent) → Each P es → i < length es → P (getD es i d)
-each-at P [] i d h k = absurd (omega arith)
-each-at P (e ∷ es) zero d h k = h .0
-each-at P (e ∷ es) (suc i) d h k = each-at P es i d (h .1) (omega arith)
 
 module _ (ls : List Float) (cs : List ℕ) (count i : ℕ) (h : count ≤ length ls) (s : length ls ≡ length cs) where
   -- the event at i is on the grid

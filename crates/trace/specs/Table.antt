@@ -8,7 +8,7 @@ use Rattle.float.specs.Consts.{eps, zero64, one64}
 use Rattle.float.specs.Order.{larger}
 use Rattle.vector.specs.Vectors.{allClose}
 use Rattle.refusal.specs.Refusals.{ok, refused}
-use Rattle.grid.specs.Grid.{pointAt, coordinatesFit}
+use Rattle.grid.specs.Grid.{pointAt, coordinatesFit, gridCheck}
 use Rattle.edges.specs.Table as events
 use Rattle.trace.specs.declared.crossing.StepIndex.the-variants.{At, Nothing}
 use Rattle.trace.specs.Crossing.{closeTo, cellOf, offAxis, inCell, stepIndex, blend, edgePoint}
@@ -18,7 +18,7 @@ use Rattle.trace.specs.Trace.{marksFit, pairsFit, traceCheck, Lists, lis
 
 -- `unfolding computed` opens every definition that a closed result needs
 unfoldable pub computed : Bool
-unfolding events.computed larger allClose pointAt coordinatesFit closeTo cellOf offAxis inCell stepIndex blend edgePoint samplesOf beforeInside afterInside crossed crossings appendEdgeCrossings sampled traced pushSegmentPoint flushSegment marksFit pairsFit traceCheck inTurn traceFlat
+unfolding events.computed larger allClose pointAt coordinatesFit gridCheck closeTo cellOf offAxis inCell stepIndex blend edgePoint samplesOf beforeInside afterInside crossed crossings appendEdgeCrossings sampled traced pushSegmentPoint flushSegment marksFit pairsFit traceCheck inTurn traceFlat
 computed = true
 
 abbrev quarter : Float

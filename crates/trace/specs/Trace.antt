@@ -10,10 +10,10 @@ use Rattle.float.specs.Sign.{atMost}
 use Rattle.refusal.specs.declared.Check.{Check}
 use Rattle.refusal.specs.declared.Check.the-variants.{Passed, Failed}
 use Rattle.refusal.specs.declared.Refusal.{Refusal}
-use Rattle.refusal.specs.declared.Refusal.the-variants.{Steps, Length, Coordinate, Mark, Sample}
-use Rattle.refusal.specs.Refusals.{Answer, ok, refused, numberOf, unless}
+use Rattle.refusal.specs.declared.Refusal.the-variants.{Length, Mark, Sample}
+use Rattle.refusal.specs.Refusals.{Answer, ok, refused, numberOf, unless, andThen}
 use Rattle.lent.specs.Lent.{zeroFloat, filled}
-use Rattle.grid.specs.Grid.{stepsFit, lengthFits, coordinatesFit}
+use Rattle.grid.specs.Grid.{gridCheck}
 use Rattle.trace.specs.declared.crossing.Crossing.{Crossing}
 use Rattle.trace.specs.declared.page.Previous.the-variants.{Nowhere}
 use Rattle.trace.specs.declared.page.Trace.{Trace}
@@ -44,11 +44,9 @@ pairsFit (u ∷ (v ∷ ps)) (k ∷ ks) = (eqb k 0 || (atMost u maxSample && atMo
 -- refusals 1, 2, 4, 9 and 10
 unfoldable pub traceCheck : List Float → ℕ → ℕ → List Float → List ℕ → Check
 traceCheck g m n pairs marks =
-    unless (stepsFit m n) Steps
-    (unless (lengthFits g m n && samplesLengthFits pairs marks) Length
-    (unless (coordinatesFit g) Coordinate
+    andThen (gridCheck g m n (unless (samplesLengthFits pairs marks) Length Passed))
     (unless (marksFit marks) Mark
-    (unless (pairsFit pairs marks) Sample Passed))))
+    (unless (pairsFit pairs marks) Sample Passed))
 
 -- the values of an answer: the count of points and of lines
 pub record Counts : Type 0 where

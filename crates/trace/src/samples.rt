@@ -7,7 +7,10 @@ ghost use Prim.Native.Nat.{_*_};
 ghost use lib.Dec.{eqb};
 ghost use lib.ListN.{length};
 ghost use Rattle.float.specs.Sign.{atMost};
-ghost use Rattle.trace.specs.Trace.{marksFit, maxSample, pairsFit, traceCheck};
+ghost use Rattle.refusal.specs.declared.Check.the-variants.{Passed};
+ghost use Rattle.refusal.specs.declared.Refusal.the-variants.{Length};
+ghost use Rattle.refusal.specs.Refusals.{unless};
+ghost use Rattle.trace.specs.Trace.{samplesLengthFits, marksFit, maxSample, pairsFit, traceCheck};
 
 // A trace takes at most this many marks.
 pub const MAX_MARKS: usize = 65537;
@@ -51,21 +54,26 @@ fn pairs_fit(pairs: &[f64], marks: &[u8]) -> bool
     true
 }
 
-// Refusals 1, 2, 4, 9 and 10.
-pub fn check_trace(grid: &[f64], m: usize, n: usize, pairs: &[f64], marks: &[u8]) -> Check
-    ensures { λ r. ⌜ r ≡ traceCheck (now (grid .entry)) m n (now (pairs .entry)) (now (marks .entry)) ⌝ }
+// Refusal 2 of the samples.
+fn check_lengths(pairs: &[f64], marks: &[u8]) -> Check
+    ensures { λ r. ⌜ r ≡ unless (samplesLengthFits (now (pairs .entry)) (now (marks .entry))) Length Passed ⌝ }
 {
-    if let Check::Failed(refusal) = grid::check_shape(grid, m, n) {
-        return Check::Failed(refusal);
-    }
     if MAX_MARKS < marks.len() {
         return Check::Failed(Refusal::Length);
     }
     if pairs.len() != 2 * marks.len() {
         return Check::Failed(Refusal::Length);
     }
-    if !grid::coordinates_fit(grid) {
-        return Check::Failed(Refusal::Coordinate);
+    Check::Passed
+}
+
+// Refusals 1, 2, 4, 9 and 10.
+pub fn check_trace(grid: &[f64], m: usize, n: usize, pairs: &[f64], marks: &[u8]) -> Check
+    ensures { λ r. ⌜ r ≡ traceCheck (now (grid .entry)) m n (now (pairs .entry)) (now (marks .entry)) ⌝ }
+{
+    let lengths = check_lengths(pairs, marks);
+    if let Check::Failed(refusal) = grid::check_grid(grid, m, n, lengths) {
+        return Check::Failed(refusal);
     }
     if !marks_fit(marks) {
         return Check::Failed(Refusal::Mark);

@@ -1,27 +1,39 @@
 //! Grid lines against the original's, and lines read back against its `Paths`.
 
+use crate::case::{Smaller, case};
 use crate::driver::{Compared, Driver};
 use crate::grids::{Grid, any_grid, any_steps};
 use crate::inputs::whole;
-use crate::lists::{fill, floats, grid_refusal, length, numbers, spoil};
+use crate::lists::{fewer_cells, fill, floats, grid_refusal, length, numbers, spoil};
 use crate::random::Random;
 use crate::seams::vectors;
-use crate::value::Show;
 use merlontrispa::{Drawn, Lines, Refusal, grid_paths};
 use original::{ParametricSurfaceTexture, Paths, Surface, Vector};
 
 /// A grid and how long the lists are that are lent.
+#[derive(Clone)]
 struct Input {
     grid: Grid,
     points: usize,
     starts: usize,
 }
 
-impl Show for Input {
-    fn show(&self) -> String {
-        let (grid, points, starts) = (self.grid.show(), self.points, self.starts);
-        format!("{grid}, lists of {points} and {starts}")
+case!(Input { grid, points, starts }, first Input::fewer_cells);
+
+impl Input {
+    fn fewer_cells(&self) -> Smaller<Self> {
+        let fewer = fewer_cells(&self.grid, [self.points, self.starts], least);
+        Box::new(fewer.map(|(grid, [points, starts])| Self {
+            grid,
+            points,
+            starts,
+        }))
     }
+}
+
+/// The least lengths of the lists that are taken.
+fn least(m: usize, n: usize) -> [usize; 2] {
+    [6 * (m + 1) * (n + 1), m + n + 2]
 }
 
 /// An answer and the two lists after the call.
@@ -62,7 +74,10 @@ fn library(input: &Input) -> Output {
 
 fn original(input: &Input) -> Output {
     let (mut points, mut starts) = (floats(input.points), numbers(input.starts));
-    let room = |m, n| input.points >= 6 * (m + 1) * (n + 1) && input.starts >= m + n + 2;
+    let room = |m, n| {
+        let [points, starts] = least(m, n);
+        input.points >= points && input.starts >= starts
+    };
     if let Some(refusal) = grid_refusal(&input.grid, room) {
         return (Err(refusal), (points, starts));
     }
@@ -128,10 +143,11 @@ fn walked(input: &Input) -> Vec<Vec<f64>> {
 
 fn drawable(random: &mut Random) -> Input {
     let (m, n) = (any_steps(random), any_steps(random));
+    let [points, starts] = least(m, n);
     Input {
         grid: any_grid(random, m, n),
-        points: length(random, 6 * (m + 1) * (n + 1)),
-        starts: length(random, m + n + 2),
+        points: length(random, points),
+        starts: length(random, starts),
     }
 }
 
@@ -142,6 +158,7 @@ fn faulty(random: &mut Random) -> Input {
 }
 
 /// Lists, counts and an index that may or may not fit each other.
+#[derive(Clone)]
 struct Listed {
     points: Vec<f64>,
     starts: Vec<usize>,
@@ -149,15 +166,12 @@ struct Listed {
     index: usize,
 }
 
-impl Show for Listed {
-    fn show(&self) -> String {
-        let (points, starts, drawn) = (self.points.show(), self.starts.show(), self.drawn);
-        format!(
-            "points {points}, starts {starts}, {drawn:?}, index {}",
-            self.index
-        )
-    }
-}
+case!(Listed {
+    points,
+    starts,
+    drawn,
+    index
+});
 
 impl Listed {
     fn lines(&self) -> Lines<'_> {
@@ -234,6 +248,7 @@ fn any_lists(random: &mut Random) -> Listed {
 #[cfg(test)]
 mod tests {
     use super::*;
+    use crate::planted::found;
 
     #[test]
     fn many_lines_are_there_and_many_are_not() {
@@ -241,5 +256,22 @@ mod tests {
         let there = (0..10_000).filter(|_| any_lists(&mut random).span().is_ok());
         let there = there.count();
         assert!((2_000..8_000).contains(&there), "{there}");
+    }
+
+    /// A line that is there only if it is not empty.
+    #[test]
+    fn a_refused_empty_line_is_found() {
+        let strict = |listed: &Listed| match listed.span()? {
+            [start, end] if start == end => Err(Refusal::NotThere),
+            span => Ok(span),
+        };
+        let case = found(
+            |driver| driver.compare("planted", 1_000, any_lists, strict, Listed::span),
+            |driver| driver.compare("planted", 1_000, any_lists, Listed::line_span, Listed::span),
+        );
+        assert_eq!(
+            case,
+            "points [ ] starts [ 0 ] drawn points 0 lines 1 index 0"
+        );
     }
 }

@@ -1,10 +1,11 @@
 //! The trace of samples that are records: against the original's, and against the trace of flat samples.
 
+use crate::case::{Case, Smaller};
 use crate::driver::{Compared, Driver};
 use crate::grids::any_steps;
 use crate::random::Random;
-use crate::traces::library as flat;
-use crate::traces::{Input, Output, Scene, bent, called, faulty, original, scenes, spare, traced};
+use crate::text::{Text, Words};
+use crate::traces::{self, Output, Scene, Scenes, bent, called, faulty, spare, traced};
 use merlontrispa::{ParamPoint, Sample, trace_samples};
 use std::rc::Rc;
 
@@ -12,62 +13,82 @@ use std::rc::Rc;
 const COUNTS: [usize; 6] = [0, 1, 2, 65_536, 65_537, 65_538];
 
 pub fn compare(driver: &mut Driver) -> Compared {
-    for (beside, other) in [
-        ("the original", original as fn(&Input) -> Output),
-        ("trace_flat", flat),
-    ] {
-        driver.compare_each(
-            &format!("trace_samples beside {beside}, 0 to 65,538 samples"),
-            counted(),
-            library,
-            other,
-        )?;
-        let mut random = Random::new(driver.seed());
-        let few = scenes(&mut random, 200, |random| 1 + random.below(4) as usize);
-        driver.compare(
-            &format!("trace_samples beside {beside}, few cells"),
-            50_000,
-            |random| traced(random, &few),
-            library,
-            other,
-        )?;
-        let many = scenes(&mut random, 60, any_steps);
-        driver.compare(
-            &format!("trace_samples beside {beside}, up to 255 by 255 cells"),
-            10_000,
-            |random| traced(random, &many),
-            library,
-            other,
-        )?;
-        driver.compare(
-            &format!("trace_samples beside {beside}, refusals"),
-            50_000,
-            faulty_records,
-            library,
-            other,
-        )?;
+    compare_beside(driver, "the original", |input| traces::original(&input.0))?;
+    compare_beside(driver, "trace_flat", |input| traces::library(&input.0))
+}
+
+fn compare_beside(driver: &mut Driver, name: &str, other: fn(&Input) -> Output) -> Compared {
+    driver.compare_each(
+        &format!("trace_samples beside {name}, 0 to 65,538 samples"),
+        counted(),
+        library,
+        other,
+    )?;
+    let mut few = Scenes::new(200, |random| 1 + random.below(4) as usize);
+    driver.compare(
+        &format!("trace_samples beside {name}, few cells"),
+        50_000,
+        |random| Input(traced(random, &mut few)),
+        library,
+        other,
+    )?;
+    let mut many = Scenes::new(60, any_steps);
+    driver.compare(
+        &format!("trace_samples beside {name}, up to 255 by 255 cells"),
+        10_000,
+        |random| Input(traced(random, &mut many)),
+        library,
+        other,
+    )?;
+    driver.compare(
+        &format!("trace_samples beside {name}, refusals"),
+        50_000,
+        faulty_records,
+        library,
+        other,
+    )
+}
+
+/// An input of the flat trace that has as many pairs as marks.
+#[derive(Clone)]
+struct Input(traces::Input);
+
+impl Input {
+    fn of(flat: traces::Input) -> Option<Self> {
+        (flat.pairs.len() == 2 * flat.marks.len()).then_some(Self(flat))
     }
-    Ok(())
+
+    /// The pairs and marks as records.
+    fn records(&self) -> Vec<Sample> {
+        let samples = self.0.pairs.as_chunks().0.iter().zip(&self.0.marks);
+        samples
+            .map(|(&[u, v], &mark)| Sample {
+                mark,
+                point: ParamPoint { u, v },
+            })
+            .collect()
+    }
+}
+
+impl Case for Input {
+    fn write(&self, text: &mut Text) {
+        self.0.write(text);
+    }
+
+    fn read(words: &mut Words<'_>) -> Result<Self, String> {
+        Self::of(traces::Input::read(words)?).ok_or_else(|| "pairs are not twice the marks".into())
+    }
+
+    fn smaller(&self) -> Smaller<Self> {
+        Box::new(self.0.smaller().filter_map(Self::of))
+    }
 }
 
 fn library(input: &Input) -> Output {
-    let samples = records(input);
-    called(input, |grid, lists| {
+    let samples = input.records();
+    called(&input.0, |grid, lists| {
         trace_samples(&grid.numbers, grid.u_steps, grid.v_steps, &samples, lists)
     })
-}
-
-/// The pairs and marks as records.
-fn records(input: &Input) -> Vec<Sample> {
-    let (pairs, rest) = input.pairs.as_chunks();
-    assert!(rest.is_empty() && pairs.len() == input.marks.len());
-    let samples = pairs.iter().zip(&input.marks);
-    samples
-        .map(|(&[u, v], &mark)| Sample {
-            mark,
-            point: ParamPoint { u, v },
-        })
-        .collect()
 }
 
 /// Each of the counts on grids that are taken and on ones that are not, with lists of several lengths.
@@ -80,11 +101,8 @@ fn counted() -> impl Iterator<Item = Input> {
     let mut far = bent(2, 3);
     far.numbers[4] = f64::INFINITY;
     grids.extend([short, far]);
-    let scenes: Vec<_> = grids
-        .into_iter()
-        .map(|grid| Rc::new(Scene::new(grid)))
-        .collect();
-    scenes.into_iter().flat_map(|scene| {
+    let scenes = grids.into_iter().map(|grid| Rc::new(Scene::new(grid)));
+    scenes.flat_map(|scene| {
         COUNTS.into_iter().flat_map(move |count| {
             let scene = Rc::clone(&scene);
             (0..4).map(move |more| around(&scene, count, more))
@@ -92,28 +110,28 @@ fn counted() -> impl Iterator<Item = Input> {
     })
 }
 
-/// So many samples on a circle around the first cells, a break now and then; 3 of `more` are one list's
-/// lack of a place.
+/// So many samples on a circle around the first cells, with a break now and then. The lists have up to two
+/// places more than are needed; at 3 the fractions have one too few.
 fn around(scene: &Rc<Scene>, count: usize, more: usize) -> Input {
     let pairs = (0..count).flat_map(|i| {
         let angle = i as f64 * 0.7;
         [1.0 + angle.cos(), 1.0 + angle.sin()]
     });
     let marks = (0..count).map(|i| u8::from(i % 1_000 != 999));
-    Input::new(scene, pairs.collect(), marks.collect(), |need| {
+    let (pairs, marks) = (pairs.collect(), marks.collect());
+    Input(traces::Input::new(scene, pairs, marks, |need| {
         let mut room = spare(need, more % 3);
         if more == 3 {
             room.fractions = room.fractions.saturating_sub(1);
         }
         room
-    })
+    }))
 }
 
 /// Faults, but for a number of pairs that is not the number of marks, which records cannot have.
 fn faulty_records(random: &mut Random) -> Input {
     loop {
-        let input = faulty(random);
-        if input.pairs.len() == 2 * input.marks.len() {
+        if let Some(input) = Input::of(faulty(random)) {
             return input;
         }
     }

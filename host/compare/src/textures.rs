@@ -1,18 +1,20 @@
 //! Plans, angles and sample points of textures against the original's: its counts, and the lines of whole
 //! swirls and spirals, which the library draws alone but for the cosine and the sine.
 
+use crate::case::case;
 use crate::driver::{Compared, Driver};
 use crate::grids::{Grid, any_grid};
 use crate::inputs::{EPS, any, whole};
 use crate::lines::coordinates;
+use crate::lists::grid_refusal;
 use crate::random::Random;
 use crate::seams::vectors;
-use crate::value::Show;
-use merlontrispa::{Lines, Plan, Refusal, Texture, TraceLists, trace_flat};
+use merlontrispa::{Plan, Refusal, Texture};
 use original::{
-    ParametricSurfaceTexture, Paths, Surface, Vector, radial_sample_count, spiral_sample_count,
+    ParametricSurfaceTexture, Surface, Vector, radial_sample_count, spiral_sample_count,
     texture_spacing,
 };
+use std::cell::LazyCell;
 use std::f64::consts::TAU;
 
 const SPACINGS: [f64; 19] = [
@@ -59,41 +61,26 @@ const ARMS: [usize; 6] = [0, 1, 2, 64, 65, usize::MAX];
 const STEPS: [usize; 7] = [0, 1, 2, 3, 254, 255, 256];
 
 /// A texture on a surface of so many cells.
+#[derive(Clone)]
 struct Input {
     texture: Texture,
     m: usize,
     n: usize,
 }
 
-impl Show for Input {
-    fn show(&self) -> String {
-        let numbers = match self.texture {
-            Texture::Grid => "grid".into(),
-            Texture::Swirl { spacing, twist } => {
-                format!("swirl {}, {}", spacing.show(), twist.show())
-            }
-            Texture::Spiral { spacing, arms } => format!("spiral {}, {arms}", spacing.show()),
-        };
-        format!("{numbers}, M {}, N {}", self.m, self.n)
-    }
-}
+case!(Input { texture, m, n });
 
 /// A texture on a grid.
+#[derive(Clone)]
 struct Scene {
     texture: Texture,
     grid: Grid,
 }
 
-impl Show for Scene {
-    fn show(&self) -> String {
-        let texture = self.texture;
-        let (m, n) = (self.grid.u_steps, self.grid.v_steps);
-        format!("{}, {}", Input { texture, m, n }.show(), self.grid.show())
-    }
-}
+case!(Scene { texture, grid });
 
 pub fn compare(driver: &mut Driver) -> Compared {
-    let radii = radii();
+    let radii = LazyCell::new(radii);
     let library = |input: &Input| input.texture.plan(input.m, input.n);
     let original = |input: &Input| original_plan(&radii, input);
     driver.compare_each("plan, edges", edges(), library, original)?;
@@ -148,88 +135,33 @@ fn original_plan(radii: &[f64], input: &Input) -> Result<Plan, Refusal> {
     Ok(Plan { rays, samples })
 }
 
-fn surface(grid: &Grid) -> Surface {
-    Surface::from_grid(vectors(&grid.numbers), grid.u_steps, grid.v_steps)
-}
+/// The numbers of each line, or a refusal.
+type DrawnLines = Result<Vec<Vec<f64>>, Refusal>;
 
-/// The numbers of each line, or nothing where the original panics.
-fn numbers(paths: Option<Paths<Vector>>) -> Vec<Vec<f64>> {
-    paths.map_or_else(
-        || vec![vec![f64::NAN]],
-        |paths| {
-            paths
-                .iter_paths()
-                .map(|line| coordinates(line).collect())
-                .collect()
-        },
-    )
-}
-
-/// What the original draws.
-fn original_lines(scene: &Scene) -> Vec<Vec<f64>> {
+/// What the original draws; where it panics, 11 is due.
+fn original_lines(scene: &Scene) -> DrawnLines {
+    if let Some(refusal) = grid_refusal(&scene.grid, |_, _| true) {
+        return Err(refusal);
+    }
     let texture = match scene.texture {
         Texture::Grid => ParametricSurfaceTexture::Grid,
         Texture::Swirl { spacing, twist } => ParametricSurfaceTexture::Swirl { spacing, twist },
         Texture::Spiral { spacing, arms } => ParametricSurfaceTexture::Spiral { spacing, arms },
     };
-    numbers(surface(&scene.grid).paths(texture))
+    let grid = &scene.grid;
+    let mut surface = Surface::from_grid(vectors(&grid.numbers), grid.u_steps, grid.v_steps);
+    let paths = surface.paths(texture).ok_or(Refusal::NoStep)?;
+    let lines = paths.iter_paths().map(|line| coordinates(line).collect());
+    Ok(lines.collect())
 }
 
-/// What the library draws, ray by ray: its plan, angles, points and trace, with the host's cosine and sine.
-fn library_lines(scene: &Scene) -> Vec<Vec<f64>> {
-    let Scene { texture, ref grid } = *scene;
-    let (m, n) = (grid.u_steps, grid.v_steps);
-    let plan = texture.plan(m, n).expect("the scenes are planned");
-    let sample = |ray, i| {
-        let angle = texture.angle(m, n, ray, i).expect("the sample is there");
-        texture
-            .sample_point(m, n, ray, i, [angle.cos(), angle.sin()])
-            .expect("the sample is there")
-    };
-    let mut all = Vec::new();
-    for ray in 0..plan.rays {
-        let pairs: Vec<_> = (0..=plan.samples).flat_map(|i| sample(ray, i)).collect();
-        match traced(grid, &pairs) {
-            Ok(lines) => all.extend(lines),
-            Err(_) => return numbers(None),
-        }
-    }
-    all
-}
-
-/// The lines of a curve without breaks, in lists that grow until they hold it.
-fn traced(grid: &Grid, pairs: &[f64]) -> Result<Vec<Vec<f64>>, Refusal> {
-    let marks = vec![1; pairs.len() / 2];
-    let mut room = 1 << 12;
-    loop {
-        let (mut points, mut starts) = (vec![0.0; 3 * room], vec![0; room]);
-        let (mut sides, mut fractions) = (vec![0; 2 * room], vec![0.0; room]);
-        let lists = TraceLists {
-            points: &mut points,
-            starts: &mut starts,
-            sides: &mut sides,
-            fractions: &mut fractions,
-        };
-        match trace_flat(
-            &grid.numbers,
-            grid.u_steps,
-            grid.v_steps,
-            pairs,
-            &marks,
-            lists,
-        ) {
-            Err(Refusal::Full) => room *= 4,
-            Err(refusal) => return Err(refusal),
-            Ok(drawn) => {
-                let lines = Lines {
-                    points: &points,
-                    starts: &starts,
-                    drawn,
-                };
-                return Ok((0..drawn.lines).map(|i| lines.get(i).to_vec()).collect());
-            }
-        }
-    }
+/// What the library draws: its plan, angles, points and traces, with the host's cosine and sine.
+fn library_lines(scene: &Scene) -> DrawnLines {
+    let grid = &scene.grid;
+    let surface = merlontrispa::Surface::new(&grid.numbers, grid.u_steps, grid.v_steps)?;
+    let lines = surface.texture_lines(scene.texture)?;
+    let lines = lines.iter().map(|line| line.as_flattened().to_vec());
+    Ok(lines.collect())
 }
 
 /// Each edge of a spacing with each of a twist and of arms, on surfaces at the limits.

@@ -1,12 +1,14 @@
 //! The trace of flat samples against the original's, bit by bit, with the sides and fractions of its points.
 
+use crate::case::{Case, Smaller, case, stretches, without};
 use crate::driver::{Compared, Driver};
 use crate::grids::{Grid, any_grid, any_steps};
 use crate::inputs::{EPS, near};
 use crate::lines::{coordinates, firsts};
-use crate::lists::{fill, floats, grid_refusal, numbers, spoil};
+use crate::lists::{as_far, fill, floats, grid_refusal, numbers, spoil};
 use crate::random::Random;
 use crate::seams::vectors;
+use crate::text::{Text, Words};
 use crate::value::{Show, Value};
 use crate::walks::{Need, replay};
 use merlontrispa::{Drawn, Refusal, TraceLists, trace_flat};
@@ -26,28 +28,27 @@ pub fn compare(driver: &mut Driver) -> Compared {
             original,
         )?;
     }
-    let mut random = Random::new(driver.seed());
-    let few = scenes(&mut random, 200, |random| 1 + random.below(4) as usize);
+    let mut few = Scenes::new(200, |random| 1 + random.below(4) as usize);
     driver.compare(
         "trace_flat, few cells",
         2_000_000,
-        |random| traced(random, &few),
+        |random| traced(random, &mut few),
         library,
         original,
     )?;
-    let many = scenes(&mut random, 60, any_steps);
+    let mut many = Scenes::new(60, any_steps);
     driver.compare(
         "trace_flat, up to 255 by 255 cells",
         100_000,
-        |random| traced(random, &many),
+        |random| traced(random, &mut many),
         library,
         original,
     )?;
-    let most = scenes(&mut random, 2, |_| 255);
+    let mut most = Scenes::new(2, |_| 255);
     driver.compare(
         "trace_flat, 255 by 255 cells",
         3_000,
-        |random| traced(random, &most),
+        |random| traced(random, &mut most),
         library,
         original,
     )?;
@@ -83,11 +84,63 @@ pub struct Room {
     pub fractions: usize,
 }
 
+case!(Room {
+    points,
+    starts,
+    sides,
+    fractions
+});
+
+impl Room {
+    /// Room that is as far from what is needed `after` as this is from what was needed `before`.
+    fn as_far(self, before: Need, after: Need) -> Self {
+        Self {
+            points: as_far(self.points, 3 * before.points, 3 * after.points),
+            starts: as_far(self.starts, before.lines, after.lines),
+            sides: as_far(self.sides, 2 * before.points, 2 * after.points),
+            fractions: as_far(self.fractions, before.points, after.points),
+        }
+    }
+}
+
+/// What an input is made of.
+#[derive(Clone)]
+struct Curve {
+    grid: Grid,
+    pairs: Vec<f64>,
+    marks: Vec<u8>,
+    room: Room,
+}
+
+case!(Curve { grid, pairs, marks, room }, first Curve::fewer_samples);
+
+impl Curve {
+    fn fewer_samples(&self) -> Smaller<Self> {
+        let this = self.clone();
+        let samples = self.marks.len().min(self.pairs.len() / 2);
+        Box::new(stretches(samples).map(move |samples| Self {
+            pairs: without(&this.pairs, &(2 * samples.start..2 * samples.end)),
+            marks: without(&this.marks, &samples),
+            ..this.clone()
+        }))
+    }
+
+    fn input(self, room: impl FnOnce(Need) -> Room) -> Input {
+        Input::new(
+            &Rc::new(Scene::new(self.grid)),
+            self.pairs,
+            self.marks,
+            room,
+        )
+    }
+}
+
+#[derive(Clone)]
 pub struct Input {
-    pub scene: Rc<Scene>,
+    scene: Rc<Scene>,
     pub pairs: Vec<f64>,
     pub marks: Vec<u8>,
-    pub room: Room,
+    room: Room,
     /// What the original's walk makes, unless the call is refused before it.
     walk: Result<Vec<Made>, Refusal>,
 }
@@ -106,24 +159,47 @@ impl Input {
                 Ok(surface.walk(&samples(&pairs, &marks)))
             }
         };
-        let need = walk.as_deref().map_or_else(|_| Need::default(), Need::of);
         Self {
             scene: Rc::clone(scene),
             pairs,
             marks,
-            room: room(need),
+            room: room(need(&walk)),
             walk,
+        }
+    }
+
+    fn curve(&self) -> Curve {
+        Curve {
+            grid: self.scene.grid.clone(),
+            pairs: self.pairs.clone(),
+            marks: self.marks.clone(),
+            room: self.room,
         }
     }
 }
 
-impl Show for Input {
-    fn show(&self) -> String {
-        let (grid, pairs) = (self.scene.grid.show(), self.pairs.show());
-        format!(
-            "{grid}, pairs {pairs}, marks {:?}, {:?}",
-            self.marks, self.room
-        )
+fn need(walk: &Result<Vec<Made>, Refusal>) -> Need {
+    walk.as_deref().map_or_else(|_| Need::default(), Need::of)
+}
+
+impl Case for Input {
+    fn write(&self, text: &mut Text) {
+        self.curve().write(text);
+    }
+
+    fn read(words: &mut Words<'_>) -> Result<Self, String> {
+        let curve = Curve::read(words)?;
+        let room = curve.room;
+        Ok(curve.input(|_| room))
+    }
+
+    fn smaller(&self) -> Smaller<Self> {
+        let before = need(&self.walk);
+        Box::new(self.curve().smaller().flat_map(move |curve| {
+            let room = curve.room;
+            let moved = curve.clone().input(|after| room.as_far(before, after));
+            [moved, curve.input(|_| room)]
+        }))
     }
 }
 
@@ -306,22 +382,45 @@ pub fn bent(u_steps: usize, v_steps: usize) -> Grid {
     })
 }
 
-/// Grids of all kinds, now and then with coordinates at their limits.
-pub fn scenes(
-    random: &mut Random,
-    count: usize,
-    steps: impl Fn(&mut Random) -> usize,
-) -> Vec<Rc<Scene>> {
-    let mut scene = |_| {
-        let (m, n) = (steps(random), steps(random));
+/// Some grids of all kinds, now and then with coordinates at their limits. Another takes the place of one
+/// of them at every thousandth input or so.
+pub struct Scenes<S> {
+    scenes: Vec<Rc<Scene>>,
+    most: usize,
+    steps: S,
+}
+
+impl<S: Fn(&mut Random) -> usize> Scenes<S> {
+    pub fn new(most: usize, steps: S) -> Self {
+        Self {
+            scenes: Vec::new(),
+            most,
+            steps,
+        }
+    }
+
+    fn any(&mut self, random: &mut Random) -> &Rc<Scene> {
+        let count = self.scenes.len();
+        if count < self.most {
+            self.scenes.push(self.another(random));
+            return &self.scenes[count];
+        }
+        let place = random.below(count as u64) as usize;
+        if random.below(1_000) == 0 {
+            self.scenes[place] = self.another(random);
+        }
+        &self.scenes[place]
+    }
+
+    fn another(&self, random: &mut Random) -> Rc<Scene> {
+        let (m, n) = ((self.steps)(random), (self.steps)(random));
         let mut grid = any_grid(random, m, n);
         if random.below(8) == 0 {
             let scale = random.of(&[EPS, 1e-12, 4_294_967_296.0, 1e-300]);
             grid.numbers.iter_mut().for_each(|x| *x *= scale);
         }
         Rc::new(Scene::new(grid))
-    };
-    (0..count).map(&mut scene).collect()
+    }
 }
 
 /// The edges of an axis of so many steps.
@@ -372,8 +471,8 @@ pub fn spare(need: Need, more: usize) -> Room {
 }
 
 /// Samples on one of the scenes, and lists that just hold what is needed, just do not, or have more room.
-pub fn traced(random: &mut Random, scenes: &[Rc<Scene>]) -> Input {
-    let scene = &scenes[random.below(scenes.len() as u64) as usize];
+pub fn traced(random: &mut Random, scenes: &mut Scenes<impl Fn(&mut Random) -> usize>) -> Input {
+    let scene = scenes.any(random);
     let (pairs, marks) = any_samples(random, scene.grid.u_steps, scene.grid.v_steps);
     Input::new(scene, pairs, marks, |need| any_room(random, need))
 }
@@ -514,6 +613,7 @@ pub fn faulty(random: &mut Random) -> Input {
 #[cfg(test)]
 mod tests {
     use super::*;
+    use crate::planted::found;
 
     /// How often each refusal is told, and at 0 how often there is none.
     fn refusals(inputs: impl Iterator<Item = Input>) -> [u32; 13] {
@@ -528,8 +628,8 @@ mod tests {
     #[test]
     fn walks_end_in_each_way() {
         let mut random = Random::new(1);
-        let few = scenes(&mut random, 50, |random| 1 + random.below(4) as usize);
-        let counts = refusals((0..20_000).map(|_| traced(&mut random, &few)));
+        let mut few = Scenes::new(50, |random| 1 + random.below(4) as usize);
+        let counts = refusals((0..20_000).map(|_| traced(&mut random, &mut few)));
         let [drawn, no_step, full] = [0, 11, 12].map(|number| counts[number]);
         assert!(drawn > 5_000 && no_step > 50 && full > 1_000, "{counts:?}");
     }
@@ -540,5 +640,56 @@ mod tests {
         let counts = refusals((0..20_000).map(|_| faulty(&mut random)));
         let least = [0, 1, 2, 4, 9, 10].map(|number| counts[number]);
         assert!(least.iter().all(|&count| count > 500), "{counts:?}");
+    }
+
+    /// A trace that forgets the last point of the last line.
+    #[test]
+    fn a_lost_point_is_found() {
+        let short = |input: &Input| {
+            let mut output = original(input);
+            if let Ok(drawn) = &mut output.told {
+                drawn.points = drawn.points.saturating_sub(1);
+            }
+            output
+        };
+        let compare = |driver: &mut Driver, library: &dyn Fn(&Input) -> Output| {
+            let mut many = Scenes::new(60, |random| 1 + random.below(20) as usize);
+            let input = |random: &mut Random| traced(random, &mut many);
+            driver.compare("planted", 1_000, input, library, original)
+        };
+        let case = found(
+            |driver| compare(driver, &short),
+            |driver| compare(driver, &library),
+        );
+        let grid = "u_steps 1 v_steps 1 numbers [ o o o 0.0 0.0 1.0 ]";
+        let curve = "pairs [ 1.0 1.0 0.0 0.0 ] marks [ 1 1 ]";
+        let room = "points 6 starts 1 sides 4 fractions 2";
+        assert_eq!(case, format!("grid {grid} {curve} room {room}"));
+    }
+
+    /// A trace that says 12 where one list has just the room.
+    #[test]
+    fn a_full_list_told_too_early_is_found() {
+        let early = |input: &Input| {
+            let mut output = original(input);
+            if output.told.is_ok() && input.room.fractions == need(&input.walk).points {
+                output.told = Err(Refusal::Full);
+                output.clear();
+                output.remade.clear();
+            }
+            output
+        };
+        let compare = |driver: &mut Driver, library: &dyn Fn(&Input) -> Output| {
+            let mut few = Scenes::new(60, |random| 1 + random.below(4) as usize);
+            let input = |random: &mut Random| traced(random, &mut few);
+            driver.compare("planted", 1_000, input, library, original)
+        };
+        let case = found(
+            |driver| compare(driver, &early),
+            |driver| compare(driver, &library),
+        );
+        let grid = "u_steps 1 v_steps 1 numbers [ o o o o ]";
+        let room = "points 0 starts 0 sides 0 fractions 0";
+        assert_eq!(case, format!("grid {grid} pairs [ ] marks [ ] room {room}"));
     }
 }

@@ -2,6 +2,9 @@
 //!
 //! A `safe fn` takes and hands back numbers only, so that no argument can break it. A function that
 //! takes a slice takes its pointer and its length, and has its safe form below the declarations.
+//!
+//! `tests/declarations.rs` holds the structs and the functions to `crates`, from which the library is
+//! built, as it does `include/merlontrispa.h`.
 
 use crate::{Drawn, Lines, Refusal, Sample, TraceLists, Vector};
 
@@ -14,7 +17,7 @@ pub struct IndexAnswer {
 
 /// A seam's mapping, all zero where none was found, and the comparisons made.
 #[repr(C)]
-pub struct Seam {
+pub struct FoundSeam {
     pub found: bool,
     pub reverse: bool,
     pub offset: usize,
@@ -24,17 +27,17 @@ pub struct Seam {
 
 /// A seam, or the number of a refusal.
 #[repr(C)]
-pub struct SeamAnswer {
+pub struct RowsAnswer {
     pub refusal: u8,
-    pub seam: Seam,
+    pub seam: FoundSeam,
 }
 
 /// Both seams and the counts of triangles and flipped pairs, or the number of a refusal.
 #[repr(C)]
 pub struct MeshAnswer {
     pub refusal: u8,
-    pub u: Seam,
-    pub v: Seam,
+    pub u: FoundSeam,
+    pub v: FoundSeam,
     pub triangles: usize,
     pub pairs: usize,
 }
@@ -95,6 +98,20 @@ pub struct RayPoint {
     pub v: f64,
 }
 
+/// A Vector as C sees it.
+#[repr(C)]
+pub struct Components {
+    pub x: f64,
+    pub y: f64,
+    pub z: f64,
+}
+
+impl From<Components> for Vector {
+    fn from(Components { x, y, z }: Components) -> Self {
+        Self { x, y, z }
+    }
+}
+
 unsafe extern "C" {
     pub safe fn mt_plan(
         kind: u8,
@@ -140,9 +157,9 @@ unsafe extern "C" {
     pub safe fn mt_to_usize(x: f64) -> usize;
     pub safe fn mt_to_f64(n: usize) -> f64;
 
-    pub safe fn mt_vector_add(ax: f64, ay: f64, az: f64, bx: f64, by: f64, bz: f64) -> Vector;
-    pub safe fn mt_vector_sub(ax: f64, ay: f64, az: f64, bx: f64, by: f64, bz: f64) -> Vector;
-    pub safe fn mt_vector_mul_scalar(ax: f64, ay: f64, az: f64, s: f64) -> Vector;
+    pub safe fn mt_vector_add(ax: f64, ay: f64, az: f64, bx: f64, by: f64, bz: f64) -> Components;
+    pub safe fn mt_vector_sub(ax: f64, ay: f64, az: f64, bx: f64, by: f64, bz: f64) -> Components;
+    pub safe fn mt_vector_mul_scalar(ax: f64, ay: f64, az: f64, s: f64) -> Components;
     pub safe fn mt_vector_all_close(ax: f64, ay: f64, az: f64, bx: f64, by: f64, bz: f64) -> bool;
 
     pub safe fn mt_is_reverse(reverse: bool, offset: usize, steps: usize) -> bool;
@@ -158,7 +175,7 @@ unsafe extern "C" {
         steps: usize,
         b_idx: usize,
     ) -> IndexAnswer;
-    fn mt_new_vector(a: *const f64, a_len: usize, b: *const f64, b_len: usize) -> SeamAnswer;
+    fn mt_new_vector(a: *const f64, a_len: usize, b: *const f64, b_len: usize) -> RowsAnswer;
 
     fn mt_grid_paths(
         grid: *const f64,
@@ -237,7 +254,7 @@ unsafe extern "C" {
     ) -> PathsAnswer;
 }
 
-pub fn new_vector(a: &[f64], b: &[f64]) -> SeamAnswer {
+pub fn new_vector(a: &[f64], b: &[f64]) -> RowsAnswer {
     // SAFETY: each pointer and length are those of a slice that is lent for the call.
     unsafe { mt_new_vector(a.as_ptr(), a.len(), b.as_ptr(), b.len()) }
 }

@@ -1,4 +1,11 @@
 //! Rust's methods on `f64` with their IEEE 754 meanings, as the library uses them. All are total.
+//!
+//! ```
+//! use merlontrispa::float;
+//!
+//! assert_eq!(float::floor_i64(-0.25), -1);
+//! assert!(float::total_cmp(-0.0, 0.0).is_lt());
+//! ```
 
 use crate::boundary;
 use std::cmp::Ordering;

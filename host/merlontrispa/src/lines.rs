@@ -1,11 +1,29 @@
 use crate::boundary;
 use crate::refusal::Refusal;
+use std::iter::FusedIterator;
 use std::ops::Range;
 
 /// The lists that lines are drawn into, and read from.
 ///
 /// A line is a run of points, three numbers each: it goes from its start up to the next start or, for
 /// the last line, to the count of points.
+///
+/// ```
+/// use merlontrispa::{Drawn, Lines};
+///
+/// let points = [[0.0, 0.0, 0.0], [1.0, 0.0, 0.0], [2.0, 0.0, 0.0], [5.0, 5.0, 5.0], [6.0, 5.0, 5.0]];
+/// let lines = Lines {
+///     points: points.as_flattened(),
+///     starts: &[0, 3],
+///     drawn: Drawn { points: 5, lines: 2 },
+/// };
+/// for line in &lines {
+///     for [x, y, z] in line {
+///         println!("{x} {y} {z}");
+///     }
+/// }
+/// assert!(lines.iter().eq([&points[..3], &points[3..]]));
+/// ```
 #[derive(Debug, Clone, Copy)]
 pub struct Lines<'a> {
     /// x, y and z of each point.
@@ -26,7 +44,7 @@ pub struct Drawn {
 }
 
 impl<'a> Lines<'a> {
-    /// The numbers of the points of a line: none where it is not there.
+    /// x, y and z of each point of a line: nothing where the line is not there.
     ///
     /// It is there if its index is below the line count, both counts fit their lists, and its start is
     /// at most its end, its end at most the point count. A line that is there may be empty.
@@ -35,13 +53,121 @@ impl<'a> Lines<'a> {
         &self.points[part.offset..part.offset + part.length]
     }
 
-    /// The numbers of the points of a line.
+    /// The number of the point at which a line starts, and of the one before which it ends.
     ///
     /// # Errors
-    /// 8 where the line is not there.
+    /// 8 where the line is not there, by the rule of [`Lines::get`].
     pub fn line_span(self, index: usize) -> Result<Range<usize>, Refusal> {
         let answer = boundary::line_span(self, index);
         Refusal::check(answer.refusal).map(|()| answer.start..answer.end)
+    }
+
+    /// The lines in turn, each as its points, by [`Lines::get`].
+    pub fn iter(self) -> LinesIter<'a> {
+        LinesIter {
+            lines: self,
+            indices: 0..self.drawn.lines,
+        }
+    }
+}
+
+impl<'a> IntoIterator for Lines<'a> {
+    type Item = &'a [[f64; 3]];
+    type IntoIter = LinesIter<'a>;
+
+    fn into_iter(self) -> LinesIter<'a> {
+        self.iter()
+    }
+}
+
+impl<'a> IntoIterator for &Lines<'a> {
+    type Item = &'a [[f64; 3]];
+    type IntoIter = LinesIter<'a>;
+
+    fn into_iter(self) -> LinesIter<'a> {
+        self.iter()
+    }
+}
+
+/// The lines in turn, each as its points. Made by [`Lines::iter`].
+#[derive(Debug, Clone)]
+pub struct LinesIter<'a> {
+    lines: Lines<'a>,
+    indices: Range<usize>,
+}
+
+impl<'a> LinesIter<'a> {
+    fn line(&self, index: usize) -> &'a [[f64; 3]] {
+        self.lines.get(index).as_chunks().0
+    }
+}
+
+impl<'a> Iterator for LinesIter<'a> {
+    type Item = &'a [[f64; 3]];
+
+    fn next(&mut self) -> Option<Self::Item> {
+        self.indices.next().map(|index| self.line(index))
+    }
+
+    fn size_hint(&self) -> (usize, Option<usize>) {
+        self.indices.size_hint()
+    }
+}
+
+impl DoubleEndedIterator for LinesIter<'_> {
+    fn next_back(&mut self) -> Option<Self::Item> {
+        self.indices.next_back().map(|index| self.line(index))
+    }
+}
+
+impl ExactSizeIterator for LinesIter<'_> {}
+
+impl FusedIterator for LinesIter<'_> {}
+
+/// Lines in lists of their own, with no place past what is drawn.
+#[derive(Debug, Clone, PartialEq, Default)]
+pub struct OwnedLines {
+    /// The points of all lines.
+    pub points: Vec<[f64; 3]>,
+    /// The number of the first point of each line.
+    pub starts: Vec<usize>,
+}
+
+impl OwnedLines {
+    /// These lines, lent.
+    pub fn as_lines(&self) -> Lines<'_> {
+        Lines {
+            points: self.points.as_flattened(),
+            starts: &self.starts,
+            drawn: Drawn {
+                points: self.points.len(),
+                lines: self.starts.len(),
+            },
+        }
+    }
+
+    /// The lines in turn, each as its points.
+    pub fn iter(&self) -> LinesIter<'_> {
+        self.as_lines().iter()
+    }
+}
+
+impl<'a> IntoIterator for &'a OwnedLines {
+    type Item = &'a [[f64; 3]];
+    type IntoIter = LinesIter<'a>;
+
+    fn into_iter(self) -> LinesIter<'a> {
+        self.iter()
+    }
+}
+
+/// Adds lines after those that are there.
+impl<'a> Extend<&'a [[f64; 3]]> for OwnedLines {
+    fn extend<I: IntoIterator<Item = &'a [[f64; 3]]>>(&mut self, lines: I) {
+        for line in lines {
+            self.starts.push(self.points.len());
+            self.points.extend_from_slice(line);
+        }
     }
 }
 

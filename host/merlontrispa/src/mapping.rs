@@ -37,6 +37,17 @@ impl Mapping {
     /// # Errors
     /// 2 where a row is no multiple of 3 or has more than 65,536 points, 4 where a coordinate is not
     /// finite or over 2^40 in magnitude.
+    ///
+    /// ```
+    /// use merlontrispa::Mapping;
+    ///
+    /// let a = [0.0, 0.0, 0.0, 1.0, 0.0, 0.0, 2.0, 0.0, 0.0];
+    /// let b = [2.0, 0.0, 0.0, 1.0, 0.0, 0.0, 0.0, 0.0, 0.0];
+    /// let mapping = Mapping::new_vector(&a, &b)?.mapping.expect("b is a, turned round");
+    /// assert_eq!(mapping, Mapping::Reverse { offset: 0, steps: 2 });
+    /// assert_eq!(mapping.map_index(2)?, 0);
+    /// # Ok::<(), merlontrispa::Refusal>(())
+    /// ```
     pub fn new_vector(a: &[f64], b: &[f64]) -> Result<Seam, Refusal> {
         let answer = boundary::new_vector(a, b);
         Refusal::check(answer.refusal)?;
@@ -77,9 +88,9 @@ impl Mapping {
     }
 }
 
-impl From<boundary::Seam> for Seam {
-    fn from(seam: boundary::Seam) -> Self {
-        let boundary::Seam {
+impl From<boundary::FoundSeam> for Seam {
+    fn from(seam: boundary::FoundSeam) -> Self {
+        let boundary::FoundSeam {
             found,
             reverse,
             offset,

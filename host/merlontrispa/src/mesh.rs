@@ -35,8 +35,8 @@ pub struct Triangulation {
 /// ```
 /// let grid = [0.0, 0.0, 0.0, 0.0, 1.0, 0.0, 1.0, 0.0, 0.0, 1.0, 1.0, 5.0];
 /// let (mut triangles, mut flipped) = ([0; 6], [0; 4]);
-/// let told = merlontrispa::triangulate_grid(&grid, 1, 1, &mut triangles, &mut flipped)?;
-/// assert_eq!((told.triangles, told.flipped), (2, 0));
+/// let written = merlontrispa::triangulate_grid(&grid, 1, 1, &mut triangles, &mut flipped)?;
+/// assert_eq!((written.triangles, written.flipped), (2, 0));
 /// assert_eq!(triangles, [0, 2, 1, 2, 3, 1]);
 /// # Ok::<(), merlontrispa::Refusal>(())
 /// ```
@@ -78,12 +78,19 @@ impl Mesh {
     pub fn from_grid(grid: &[f64], u_steps: usize, v_steps: usize) -> Result<Self, Refusal> {
         // Steps that are refused get lists that are long enough for the largest grid.
         let (m, n) = (u_steps.min(255), v_steps.min(255));
-        let (mut triangles, mut flipped) = (vec![0; 6 * m * n], vec![0; 2 * (m + n)]);
-        let told = triangulate_grid(grid, u_steps, v_steps, &mut triangles, &mut flipped)?;
-        let triangles = triangles.as_chunks().0[..told.triangles].to_vec();
-        let flipped = flipped.as_chunks().0[..told.flipped].to_vec();
+        let mut triangles = vec![[0; 3]; 2 * m * n];
+        let mut flipped = vec![[0; 2]; m + n];
+        let written = triangulate_grid(
+            grid,
+            u_steps,
+            v_steps,
+            triangles.as_flattened_mut(),
+            flipped.as_flattened_mut(),
+        )?;
+        triangles.truncate(written.triangles);
+        flipped.truncate(written.flipped);
         Ok(Self {
-            seams: told.seams,
+            seams: written.seams,
             triangles,
             flipped,
         })

@@ -34,22 +34,23 @@ pub enum Refusal {
     Full,
 }
 
-const ALL: [Refusal; 12] = [
-    Refusal::Steps,
-    Refusal::Length,
-    Refusal::Room,
-    Refusal::Coordinate,
-    Refusal::Texture,
-    Refusal::Count,
-    Refusal::Direction,
-    Refusal::NotThere,
-    Refusal::Mark,
-    Refusal::Sample,
-    Refusal::NoStep,
-    Refusal::Full,
-];
-
 impl Refusal {
+    /// All refusals, in the order of their numbers.
+    pub const ALL: [Self; 12] = [
+        Self::Steps,
+        Self::Length,
+        Self::Room,
+        Self::Coordinate,
+        Self::Texture,
+        Self::Count,
+        Self::Direction,
+        Self::NotThere,
+        Self::Mark,
+        Self::Sample,
+        Self::NoStep,
+        Self::Full,
+    ];
+
     /// Its number, from 1 to 12.
     pub fn number(self) -> u8 {
         self as u8
@@ -59,7 +60,7 @@ impl Refusal {
     pub(crate) fn check(number: u8) -> Result<(), Self> {
         match number {
             0 => Ok(()),
-            _ => Err(ALL[usize::from(number) - 1]),
+            _ => Err(Self::ALL[usize::from(number) - 1]),
         }
     }
 }
@@ -86,7 +87,7 @@ impl fmt::Display for Refusal {
             }
             Self::Mark => "a mark neither 0 nor 1",
             Self::Sample => "a marked coordinate not finite or over 1,048,576 in magnitude",
-            Self::NoStep => "`step_index` has no answer for an event's point",
+            Self::NoStep => "`step_index` has no answer for an event's point; the Rust panics",
             Self::Full => {
                 "a point pushed past what any of points, sides or fractions can hold, pending points \
                  counted, or a kept line past the starts"

@@ -2,6 +2,23 @@ use crate::boundary;
 use crate::refusal::Refusal;
 
 /// What is drawn on a surface of M by N cells.
+///
+/// The cosine and the sine are the caller's, so that the answers do not rest on a mathematics library;
+/// [`Surface::texture_lines`](crate::Surface::texture_lines) takes Rust's.
+///
+/// ```
+/// use merlontrispa::Texture;
+///
+/// let swirl = Texture::Swirl { spacing: 1.0, twist: 0.5 };
+/// let plan = swirl.plan(4, 4)?;
+/// let mut ray = Vec::new();
+/// for sample in 0..=plan.samples {
+///     let (sine, cosine) = swirl.angle(4, 4, 0, sample)?.sin_cos();
+///     ray.push(swirl.sample_point(4, 4, 0, sample, [cosine, sine])?);
+/// }
+/// assert_eq!(ray[0], [2.0, 2.0]);
+/// # Ok::<(), merlontrispa::Refusal>(())
+/// ```
 #[derive(Debug, Clone, Copy, PartialEq)]
 pub enum Texture {
     /// The lines of the grid, which have no plan.

@@ -1,10 +1,10 @@
 use crate::boundary;
-use crate::lines::Drawn;
+use crate::lines::{Drawn, Lines, OwnedLines};
 use crate::refusal::Refusal;
 
 /// The lists that a trace is written to. A point takes three numbers of `points`, two of `sides` and one
 /// of `fractions`; a remainder too small for one holds none.
-#[derive(Debug)]
+#[derive(Debug, Default)]
 pub struct TraceLists<'a> {
     /// x, y and z of each point.
     pub points: &'a mut [f64],
@@ -14,6 +14,87 @@ pub struct TraceLists<'a> {
     pub sides: &'a mut [usize],
     /// How far each point lies from p to q: t in `(1 - t) * p + t * q`.
     pub fractions: &'a mut [f64],
+}
+
+impl TraceLists<'_> {
+    /// The same lists, lent for a shorter time.
+    pub fn reborrow(&mut self) -> TraceLists<'_> {
+        TraceLists {
+            points: self.points,
+            starts: self.starts,
+            sides: self.sides,
+            fractions: self.fractions,
+        }
+    }
+}
+
+/// What a trace drew into lists that were lent.
+#[derive(Debug, Clone, Copy)]
+pub struct Trace<'a> {
+    /// The lines.
+    pub lines: Lines<'a>,
+    /// The numbers of the two grid points p and q that each point was made from.
+    pub sides: &'a [[usize; 2]],
+    /// How far each point lies from p to q: t in `(1 - t) * p + t * q`.
+    pub fractions: &'a [f64],
+}
+
+impl<'a> Trace<'a> {
+    /// What was drawn into these lists.
+    pub(crate) fn new(lists: TraceLists<'a>, drawn: Drawn) -> Self {
+        Self {
+            lines: Lines {
+                points: lists.points,
+                starts: lists.starts,
+                drawn,
+            },
+            sides: &lists.sides.as_chunks().0[..drawn.points],
+            fractions: &lists.fractions[..drawn.points],
+        }
+    }
+}
+
+/// What a trace drew, in lists of its own, with no place past what is drawn.
+#[derive(Debug, Clone, PartialEq, Default)]
+pub struct OwnedTrace {
+    /// The lines.
+    pub lines: OwnedLines,
+    /// The numbers of the two grid points p and q that each point was made from.
+    pub sides: Vec<[usize; 2]>,
+    /// How far each point lies from p to q: t in `(1 - t) * p + t * q`.
+    pub fractions: Vec<f64>,
+}
+
+impl OwnedTrace {
+    /// Lists of zeros, for as many points and as many lines.
+    pub(crate) fn with_room(room: usize) -> Self {
+        Self {
+            lines: OwnedLines {
+                points: vec![[0.0; 3]; room],
+                starts: vec![0; room],
+            },
+            sides: vec![[0; 2]; room],
+            fractions: vec![0.0; room],
+        }
+    }
+
+    /// The lists, lent to a trace.
+    pub(crate) fn lists(&mut self) -> TraceLists<'_> {
+        TraceLists {
+            points: self.lines.points.as_flattened_mut(),
+            starts: &mut self.lines.starts,
+            sides: self.sides.as_flattened_mut(),
+            fractions: &mut self.fractions,
+        }
+    }
+
+    /// Gives up the places past what was drawn.
+    pub(crate) fn truncate(&mut self, drawn: Drawn) {
+        self.lines.points.truncate(drawn.points);
+        self.lines.starts.truncate(drawn.lines);
+        self.sides.truncate(drawn.points);
+        self.fractions.truncate(drawn.points);
+    }
 }
 
 /// The lines that a curve draws where it crosses the sides of a grid's triangles.

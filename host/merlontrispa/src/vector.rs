@@ -1,7 +1,13 @@
 use crate::boundary;
 
 /// A point or direction of three f64. The operations round once per component.
-#[repr(C)]
+///
+/// ```
+/// use merlontrispa::Vector;
+///
+/// let p = Vector::new(1.0, 2.0, 3.0);
+/// assert!(p.all_close(p.add(Vector::new(1e-10, 0.0, 0.0))));
+/// ```
 #[derive(Debug, Clone, Copy, PartialEq, Default)]
 pub struct Vector {
     /// The x component.
@@ -21,22 +27,34 @@ impl Vector {
     /// The sum.
     #[allow(clippy::should_implement_trait)]
     pub fn add(self, other: Self) -> Self {
-        boundary::mt_vector_add(self.x, self.y, self.z, other.x, other.y, other.z)
+        boundary::mt_vector_add(self.x, self.y, self.z, other.x, other.y, other.z).into()
     }
 
     /// The difference.
     #[allow(clippy::should_implement_trait)]
     pub fn sub(self, other: Self) -> Self {
-        boundary::mt_vector_sub(self.x, self.y, self.z, other.x, other.y, other.z)
+        boundary::mt_vector_sub(self.x, self.y, self.z, other.x, other.y, other.z).into()
     }
 
     /// The components times `s`.
     pub fn mul_scalar(self, s: f64) -> Self {
-        boundary::mt_vector_mul_scalar(self.x, self.y, self.z, s)
+        boundary::mt_vector_mul_scalar(self.x, self.y, self.z, s).into()
     }
 
     /// Whether the largest of the three absolute differences is below 10^-9.
     pub fn all_close(self, other: Self) -> bool {
         boundary::mt_vector_all_close(self.x, self.y, self.z, other.x, other.y, other.z)
+    }
+}
+
+impl From<[f64; 3]> for Vector {
+    fn from([x, y, z]: [f64; 3]) -> Self {
+        Self { x, y, z }
+    }
+}
+
+impl From<Vector> for [f64; 3] {
+    fn from(Vector { x, y, z }: Vector) -> Self {
+        [x, y, z]
     }
 }

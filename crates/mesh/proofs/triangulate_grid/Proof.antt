@@ -22,14 +22,14 @@ enum-told : tie.Need-enum-told
 enum-told c = search needs
 
 find-seams-requires : tie.Need-find-seams-requires
-find-seams-requires c κs = let-in c .shape
+find-seams-requires c κs = let-in c .accepted
 
 triangulate-requires : tie.Need-triangulate-requires
 triangulate-requires c κs =
     let t = c .before .before .before .before .before .before .before .before .before .before .before .before .before in
     let f = c .before .before .before .before .find-seams in
     let i = let-in (c .before .before .before .before .before) in
-    (found-bounded (t .args .grid .now) (t .args .m) (t .args .n) (i .shape) (f .ensures .0) (f .ensures .1), (i .triangle-room, i .pair-room))
+    (found-bounded (t .args .grid .now) (t .args .m) (t .args .n) (i .accepted) (f .ensures .0) (f .ensures .1), (i .triangle-room, i .pair-room))
 
 same-length : tie.Need-same-length
 same-length c = search needs

@@ -1,14 +1,18 @@
--- `path::grid_paths` meets its contract: the tests are those of `pathsCheck` in its order, and past them the two lists are drawn.
-use mathlib.Core.Path.{sym, _∙_}
+-- `path::grid_paths` meets its contract: the grid's tests with that of room between them are those of `pathsCheck`, and past them the two lists are drawn.
+use mathlib.Core.Path.{_≡_, sym, _∙_}
 use native.Mathlib.Omega.{arith}
-use borrow.Author.Tests.{not-true, not-false}
-use Rattle.path.proofs.Checks.{shape-sizes, shape-refused, points-refused, starts-refused, coordinates-refused, drawn}
 use borrow.Author.Needs.{needs}
+use Rattle.refusal.specs.declared.Check.the-variants.{Passed}
+use Rattle.path.specs.GridPaths.{pathsCheck}
+use Rattle.path.proofs.Checks.{checked, refused, drawn, passed-shape, passed-room}
 use Rattle.path.proofs.grid_paths.Statement.{statement}
 use Rattle.path.proofs.grid_paths.Tie as tie
 
-check-shape-requires : tie.Need-check-shape-requires
-check-shape-requires c κs = search needs
+check-room-requires : tie.Need-check-room-requires
+check-room-requires c κs = search needs
+
+check-grid-requires : tie.Need-check-grid-requires
+check-grid-requires c κs = search needs
 
 enum-known-k : tie.Need-enum-known-k
 enum-known-k c = search needs
@@ -16,84 +20,41 @@ enum-known-k c = search needs
 enum-told : tie.Need-enum-told
 enum-told c = search needs
 
+-- no refusal applies
+passed : (e : tie.After-enum-told) → let a = e .before .before .before .before .before .before .before .before .before .args in pathsCheck (a .grid .now) (a .m) (a .n) (a .points .now) (a .starts .now) ≡ Passed
+passed e =
+    let g = e .before .before in
+    let a = g .before .before .before .before .before .before .before .args in
+    sym (checked (a .grid .now) (a .m) (a .n) (a .points .now) (a .starts .now) (g .before .check-room .ensures) (g .check-grid .ensures)) ∙ e .enum-told .given .1
+
 add-count : tie.Need-add-count
-add-count c =
-    let a = c .before .before .before .before .before .before .args in
-    omega (arith, shape-sizes (a .grid .now) (a .m) (a .n) (c .before .before .check-shape .ensures) (c .enum-told .given .1))
+add-count c = omega (arith, passed-shape _ _ _ _ _ (passed c) .steps)
 
 add-count-2 : tie.Need-add-count-2
-add-count-2 c =
-    let a = c .before .before .before .before .before .before .args in
-    omega (arith, shape-sizes (a .grid .now) (a .m) (a .n) (c .before .before .check-shape .ensures) (c .enum-told .given .1))
+add-count-2 c = omega (arith, passed-shape _ _ _ _ _ (passed c) .steps)
 
 mul-count : tie.Need-mul-count
-mul-count c =
-    let a = c .before .before .before .before .before .before .args in
-    omega (arith, shape-sizes (a .grid .now) (a .m) (a .n) (c .before .before .check-shape .ensures) (c .enum-told .given .1))
+mul-count c = omega (arith, passed-shape _ _ _ _ _ (passed c) .steps)
 
 add-lines : tie.Need-add-lines
-add-lines c =
-    let a = c .before .before .before .before .before .before .args in
-    omega (arith, shape-sizes (a .grid .now) (a .m) (a .n) (c .before .before .check-shape .ensures) (c .enum-told .given .1))
+add-lines c = omega (arith, passed-shape _ _ _ _ _ (passed c) .steps)
 
 add-lines-2 : tie.Need-add-lines-2
-add-lines-2 c =
-    let a = c .before .before .before .before .before .before .args in
-    omega (arith, shape-sizes (a .grid .now) (a .m) (a .n) (c .before .before .check-shape .ensures) (c .enum-told .given .1))
-
-mul-if1 : tie.Need-mul-if1
-mul-if1 c =
-    let a = c .before .before .before .before .before .before .args in
-    omega (arith, shape-sizes (a .grid .now) (a .m) (a .n) (c .before .before .check-shape .ensures) (c .enum-told .given .1))
-
-returns : tie.Need-returns
-returns c =
-    let t = c .before in
-    let a = t .before .before .before .before .before .before .args in
-    let e = sym (t .before .before .check-shape .ensures) ∙ t .enum-told .given .1 in
-    points-refused (a .grid .now) (a .m) (a .n) (a .points .now) (a .starts .now) e (c .if1 .taken)
-
-returns-2 : tie.Need-returns-2
-returns-2 c =
-    let t = c .before .before in
-    let a = t .before .before .before .before .before .before .args in
-    let e = sym (t .before .before .check-shape .ensures) ∙ t .enum-told .given .1 in
-    starts-refused (a .grid .now) (a .m) (a .n) (a .points .now) (a .starts .now) e (c .before .if1 .left) (c .if2 .taken)
-
-coordinates-fit-requires : tie.Need-coordinates-fit-requires
-coordinates-fit-requires c κs = search needs
-
-returns-3 : tie.Need-returns-3
-returns-3 c =
-    let f = c .before in
-    let t = f .before .before .before in
-    let a = t .before .before .before .before .before .before .args in
-    let e = sym (t .before .before .check-shape .ensures) ∙ t .enum-told .given .1 in
-    coordinates-refused (a .grid .now) (a .m) (a .n) (a .points .now) (a .starts .now) e (f .before .before .if1 .left) (f .before .if2 .left) (sym (f .coordinates-fit .ensures) ∙ not-true _ (c .if3 .taken))
+add-lines-2 c = omega (arith, passed-shape _ _ _ _ _ (passed c) .steps)
 
 points-requires : tie.Need-points-requires
 points-requires c κs =
-    let e1 = c .before .before .before .before in
-    let t = e1 .before in
-    let a = t .before .before .before .before .before .before .args in
-    let h = shape-sizes (a .grid .now) (a .m) (a .n) (t .before .before .check-shape .ensures) (t .enum-told .given .1) in
-    (h .0, h .1, h .3, e1 .if1 .left)
+    let s = passed-shape _ _ _ _ _ (passed (c .before)) in
+    (s .steps .m-most, s .steps .n-most, s .size, passed-room _ _ _ _ _ (passed (c .before)) .0)
 
 starts-requires : tie.Need-starts-requires
 starts-requires c κs =
-    let e2 = c .before .before .before .before .before .before .before in
-    let t = e2 .before .before in
-    let a = t .before .before .before .before .before .before .args in
-    let h = shape-sizes (a .grid .now) (a .m) (a .n) (t .before .before .check-shape .ensures) (t .enum-told .given .1) in
-    (h .0, h .1, e2 .if2 .left)
+    let p = passed (c .before .before .before .before .before) in
+    let s = passed-shape _ _ _ _ _ p .steps in
+    (s .m-most, s .n-most, passed-room _ _ _ _ _ p .1)
 
-mul-t11 : tie.Need-mul-t11
-mul-t11 c = search needs
-
-returns-4 : tie.Need-returns-4
-returns-4 c =
-    let a = c .before .before .before .before .before .before .before .args in
-    shape-refused (a .grid .now) (a .m) (a .n) (a .points .now) (a .starts .now) (c .before .k .given .0 .0) (sym (c .before .before .before .check-shape .ensures) ∙ c .before .k .given .1)
+mul-t17 : tie.Need-mul-t17
+mul-t17 c = omega (arith, passed-shape _ _ _ _ _ (passed (c .before .before .before .before .before .before .before .before)) .steps)
 
 same-length : tie.Need-same-length
 same-length c = search needs
@@ -101,21 +62,30 @@ same-length c = search needs
 same-length-2 : tie.Need-same-length-2
 same-length-2 c = search needs
 
-returns-5 : tie.Need-returns-5
-returns-5 c =
+returns : tie.Need-returns
+returns c =
+    let g = c .before .before .before in
+    let a = g .before .before .before .before .before .before .before .args in
+    refused _ _ _ _ _ (checked (a .grid .now) (a .m) (a .n) (a .points .now) (a .starts .now) (g .before .check-room .ensures) (g .check-grid .ensures)) (c .before .k .given .1)
+
+same-length-3 : tie.Need-same-length-3
+same-length-3 c = search needs
+
+same-length-4 : tie.Need-same-length-4
+same-length-4 c = search needs
+
+returns-2 : tie.Need-returns-2
+returns-2 c =
     let s = c .before .before in
     let p = s .before .before .before .before in
-    let f = p .before .before .before in
-    let t = f .before .before .before in
-    let a = t .before .before .before .before .before .before .args in
-    let e = sym (t .before .before .check-shape .ensures) ∙ t .enum-told .given .1 in
-    drawn (a .grid .now) (a .m) (a .n) (a .points .now) (a .starts .now) e (f .before .before .if1 .left) (f .before .if2 .left) (sym (f .coordinates-fit .ensures) ∙ not-false _ (p .before .before .if3 .left)) (p .points .ensures) (s .starts .ensures)
+    drawn _ _ _ _ _ (passed (p .before .before)) (p .points .ensures) (s .starts .ensures)
 
 pub grid-paths-spec : {M : Type 1} → statement M
 grid-paths-spec =
     tie.close
     (tie.spec
-    check-shape-requires
+    check-room-requires
+    check-grid-requires
     enum-known-k
     enum-told
     add-count
@@ -123,15 +93,12 @@ grid-paths-spec =
     mul-count
     add-lines
     add-lines-2
-    mul-if1
-    returns
-    returns-2
-    coordinates-fit-requires
-    returns-3
     points-requires
     starts-requires
-    mul-t11
-    returns-4
+    mul-t17
     same-length
     same-length-2
-    returns-5)
+    returns
+    same-length-3
+    same-length-4
+    returns-2)

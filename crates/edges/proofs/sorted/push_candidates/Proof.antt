@@ -11,8 +11,8 @@ few : (c : tie.After-push-diagonals) → c .push-diagonals .result ≤ 1023
 few c =
     let s = c .before .before .before .before .before .before .before .before .before .before .before .before .before .before .before .before .before .before .before .before .before .before .before .before .before .before in
     let e = c .before .before .before .before .before .before .before .before .before .before .before .before .before .before .before .before .before .before .before .before .before .push-ends in
-    let u = c .before .before .before .before .before .before .before .before .before .before .before .before .before .before .push-u-lines in
-    let v = c .before .before .before .before .before .before .before .push-v-lines in
+    let u = c .before .before .before .before .before .before .before .before .before .before .before .before .before .before .push-lines in
+    let v = c .before .before .before .before .before .before .before .push-lines2 in
     sum (s .args .m) (s .args .n) (s .pre .u-steps) (s .pre .v-steps) (e .ensures .0) (u .ensures .0) (v .ensures .0) (c .push-diagonals .ensures .0)
   where
     sum : (m n : ℕ) {e u v d : ℕ} → m ≤ 255 → n ≤ 255 → e ≤ 2 → u ≤ e + (m + 1) → v ≤ u + (n + 1) → d ≤ v + (m + n - 1) → d ≤ 1023
@@ -21,11 +21,11 @@ few c =
 push-ends-requires : tie.Need-push-ends-requires
 push-ends-requires c κs = search needs
 
-push-u-lines-requires : tie.Need-push-u-lines-requires
-push-u-lines-requires c κs = search needs
+push-lines-requires : tie.Need-push-lines-requires
+push-lines-requires c κs = search needs
 
-push-v-lines-requires : tie.Need-push-v-lines-requires
-push-v-lines-requires c κs = search needs
+push-lines-requires-2 : tie.Need-push-lines-requires-2
+push-lines-requires-2 c κs = search needs
 
 push-diagonals-requires : tie.Need-push-diagonals-requires
 push-diagonals-requires c κs = search needs
@@ -40,15 +40,15 @@ returns : tie.Need-returns
 returns c =
     let d = c .before .before .before .before in
     let a = d .before .before .before .before .before .before .before .before .before .before .before .before .before .before .before .before .before .before .before .before .before .before .before .before .before .before .args in
-    (few d, groups-sorted (a .m) (a .n) (a .a) (a .b) (d .before .before .before .before .before .before .before .before .before .before .before .before .before .before .before .before .before .before .before .before .before .push-ends .ensures .1) (d .before .before .before .before .before .before .before .before .before .before .before .before .before .before .push-u-lines .ensures .1) (d .before .before .before .before .before .before .before .push-v-lines .ensures .1) (d .push-diagonals .ensures .1))
+    (few d, groups-sorted (a .m) (a .n) (a .a) (a .b) (d .before .before .before .before .before .before .before .before .before .before .before .before .before .before .before .before .before .before .before .before .before .push-ends .ensures .1) (d .before .before .before .before .before .before .before .before .before .before .before .before .before .before .push-lines .ensures .1) (d .before .before .before .before .before .before .before .push-lines2 .ensures .1) (d .push-diagonals .ensures .1))
 
 pub push-candidates-spec : {M : Type 1} → statement M
 push-candidates-spec =
     tie.close
     (tie.spec
     push-ends-requires
-    push-u-lines-requires
-    push-v-lines-requires
+    push-lines-requires
+    push-lines-requires-2
     push-diagonals-requires
     same-length
     same-length-2

@@ -1,4 +1,4 @@
--- `mesh_to_c` is given what `triangulate_grid` answers, and the lists are those that it leaves.
+-- `mesh_to_c` is given what `triangulate_grid` answers, the lists are those that it leaves, and what it says of the surface is passed on.
 use mathlib.Core.Path.{_∙_, ap}
 use Rattle.exports.specs.Meshes.{meshAnswer}
 use borrow.Author.Needs.{needs}
@@ -19,8 +19,9 @@ same-length-2 c = search needs
 
 returns : tie.Need-returns
 returns c =
-    let e = c .before .before .before .before .before .triangulate-grid .ensures .0 in
-    record { answer = c .mesh-to-c .ensures ∙ ap meshAnswer (e .answer); triangles = e .triangles; flipped = e .flipped }
+    let e = c .before .before .before .before .before .triangulate-grid .ensures in
+    let h = e .0 in
+    (record { answer = c .mesh-to-c .ensures ∙ ap meshAnswer (h .answer); triangles = h .triangles; flipped = h .flipped }, e .1)
 
 pub mt-triangulate-grid-spec : {M : Type 1} → statement M
 mt-triangulate-grid-spec =

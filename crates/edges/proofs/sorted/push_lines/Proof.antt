@@ -1,0 +1,151 @@
+-- `edges::sorted::push_lines` meets its contract: the lines from `step` on, sorted into the events so far, give what is asked. Assumes nothing.
+use mathlib.Core.Path.{_≡_, sym, ap, _∙_}
+use Prim.Native.Nat.{_≤_, _+_, _-_}
+use lib.ListN.{length}
+use lib.Ieee.{binary64, lt, sub}
+use borrow.Author.Tests.{not-true, not-false}
+use Rattle.float.specs.Consts.{eps}
+use Rattle.edges.specs.Events.{change, lineCandidate, lines, sortInto, OnGrid}
+use Rattle.edges.specs.Scratch.{eventsIn}
+use Rattle.edges.proofs.Grid.{line-small}
+use Rattle.edges.proofs.Gather.{if-event, push-yes, push-no, gathering, gather-turn, gather-ends, changes, lines-none, lines-start}
+use borrow.Author.Needs.{needs}
+use Rattle.edges.proofs.sorted.push_lines.Statement.{statement}
+use Rattle.edges.proofs.sorted.push_lines.Tie as tie
+
+abbrev Inv-loop : tie.InvT-loop
+Inv-loop lambdas₀ codes₀ count axis along across a b total₀ step₀ step-end lambdas codes total step =
+    (step ≤ step-end) × (total ≤ count + step) × (length lambdas ≡ 1023) × (length codes ≡ 1023)
+    × (sortInto (lines axis along across a b) (eventsIn lambdas₀ codes₀ count) ≡ gathering (lineCandidate axis across a b) step-end step (eventsIn lambdas codes total))
+
+abbrev μ-loop : tie.MeasureT-loop
+μ-loop lambdas₀ codes₀ count axis along across a b total₀ step₀ step-end lambdas codes total step = step-end - step
+
+along-requires : tie.Need-along-requires Inv-loop μ-loop
+along-requires c κs = search needs
+
+along-requires-2 : tie.Need-along-requires-2 Inv-loop μ-loop
+along-requires-2 c κs = search needs
+
+abs-requires : tie.Need-abs-requires Inv-loop μ-loop
+abs-requires c κs = search needs
+
+-- by how much the axis changes, as it was found
+changed : (c : tie.After-abs Inv-loop μ-loop) → let a = c .before .before .before .before .before .args in sub binary64 (c .before .before .along .result) (c .before .along2 .result) ≡ change (a .axis) (a .a) (a .b)
+changed c = let a = c .before .before .before .before .before .args in changes (a .axis) (a .a) (a .b) (c .before .before .along .ensures) (c .before .along2 .ensures)
+
+returns : tie.Need-returns Inv-loop μ-loop
+unfolding eps
+returns c =
+    let a = c .before .before .before .before .before .before .args in
+    (search needs, lines-none (a .axis) (a .along) (a .across) (a .a) (a .b) (eventsIn (a .lambdas .now) (a .codes .now) (a .count)) (changed (c .before)) (ap (lt eps) (sym (c .before .abs .ensures)) ∙ not-true _ (c .if1 .taken)))
+
+add-step-end : tie.Need-add-step-end Inv-loop μ-loop
+add-step-end c = search needs
+
+loop-holds : tie.Need-loop-holds Inv-loop μ-loop
+unfolding eps
+loop-holds c =
+    let a = c .before .before .before .before .before .before .args in
+    (search needs, search needs, search needs, search needs, lines-start (a .axis) (a .along) (a .across) (a .a) (a .b) (eventsIn (a .lambdas .now) (a .codes .now) (a .count)) (changed (c .before)) (ap (lt eps) (sym (c .before .abs .ensures)) ∙ not-false _ (c .if1 .left)))
+
+line-candidate-requires : tie.Need-line-candidate-requires Inv-loop μ-loop
+line-candidate-requires c κs = search needs
+
+enum-known-event : tie.Need-enum-known-event Inv-loop μ-loop
+enum-known-event c = search needs
+
+enum-told : tie.Need-enum-told Inv-loop μ-loop
+enum-told c = search needs
+
+add-step : tie.Need-add-step Inv-loop μ-loop
+add-step c = search needs
+
+loop-less : tie.Need-loop-less Inv-loop μ-loop
+loop-less c = search needs
+
+loop-again : tie.Need-loop-again Inv-loop μ-loop
+loop-again c =
+    let t = c .before .before .before in
+    let l = t .before .loop in
+    let a = c .before .before .before .before .before .before .before .before .before .before .before .args in (
+      search needs,
+      search needs,
+      search needs,
+      search needs,
+      gather-turn (lineCandidate (a .axis) (a .across) (a .a) (a .b)) (a .along + 1) (l .step) (eventsIn (l .lambdas) (l .codes) (l .total)) (l .inv .4) (t .loop-test .taken)
+          (c .before .before .line-candidate .ensures) (push-no _ (c .enum-told .given .1)),
+    )
+
+insert-event-requires : tie.Need-insert-event-requires Inv-loop μ-loop
+insert-event-requires c κs =
+    let e = c .before .before .before in
+    let t = e .before .before .before in
+    let s = c .before .before .before .before .before .before .before .before .before .before .before .before .before .before in (
+      search needs,
+      search needs,
+      if-event (OnGrid 255 255) (e .event .given .1)
+          (line-small (s .args .axis) (s .args .along) (s .args .across) (s .args .a) (s .args .b) (t .before .loop .step) (s .pre .u-steps) (t .loop-test .taken) (e .before .before .line-candidate .ensures)),
+    )
+
+add-total : tie.Need-add-total Inv-loop μ-loop
+add-total c = search needs
+
+add-step-2 : tie.Need-add-step-2 Inv-loop μ-loop
+add-step-2 c = search needs
+
+loop-less-2 : tie.Need-loop-less-2 Inv-loop μ-loop
+loop-less-2 c = search needs
+
+loop-again-2 : tie.Need-loop-again-2 Inv-loop μ-loop
+loop-again-2 c =
+    let e = c .before .before .before .before .before .before .before .before in
+    let t = e .before .before .before in
+    let l = t .before .loop in
+    let a = c .before .before .before .before .before .before .before .before .before .before .before .before .before .before .before .before .before .before .before .args in (
+      search needs,
+      search needs,
+      search needs,
+      search needs,
+      gather-turn (lineCandidate (a .axis) (a .across) (a .a) (a .b)) (a .along + 1) (l .step) (eventsIn (l .lambdas) (l .codes) (l .total)) (l .inv .4) (t .loop-test .taken)
+          (e .before .before .line-candidate .ensures) (push-yes _ (e .event .given .1) (c .before .before .before .before .insert-event .ensures)),
+    )
+
+same-length : tie.Need-same-length Inv-loop μ-loop
+same-length c = search needs
+
+same-length-2 : tie.Need-same-length-2 Inv-loop μ-loop
+same-length-2 c = search needs
+
+returns-2 : tie.Need-returns-2 Inv-loop μ-loop
+returns-2 c =
+    let l = c .before .loop in
+    let a = c .before .before .before .before .before .before .before .before .args in
+    (search needs, gather-ends (lineCandidate (a .axis) (a .across) (a .a) (a .b)) (a .along + 1) (l .step) (eventsIn (l .lambdas) (l .codes) (l .total)) (l .inv .4) (c .loop-test .left))
+
+pub push-lines-spec : {M : Type 1} → statement M
+push-lines-spec =
+    tie.close
+    (tie.spec
+    Inv-loop
+    μ-loop
+    along-requires
+    along-requires-2
+    abs-requires
+    returns
+    add-step-end
+    loop-holds
+    line-candidate-requires
+    enum-known-event
+    enum-told
+    add-step
+    loop-less
+    loop-again
+    insert-event-requires
+    add-total
+    add-step-2
+    loop-less-2
+    loop-again-2
+    same-length
+    same-length-2
+    returns-2)

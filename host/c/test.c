@@ -1,0 +1,219 @@
+/* Calls each function of merlontrispa.h from C, and checks an answer and, where it has any, a
+ * refusal. */
+#include "merlontrispa.h"
+
+#include "expect.h"
+
+#include <math.h>
+#include <string.h>
+
+unsigned passed, failed;
+
+#define LENGTH(list) (sizeof(list) / sizeof(list)[0])
+/* A list, as its pointer and its length. */
+#define LENT(list) (list), LENGTH(list)
+#define SAME(list, ...) \
+    (sizeof(list) == sizeof(__VA_ARGS__) && memcmp((list), (__VA_ARGS__), sizeof(list)) == 0)
+
+/* Whether two numbers have the same bits, so that -0 is not 0. */
+static bool same(double x, double y) {
+    return memcmp(&x, &y, sizeof x) == 0;
+}
+
+static bool same_seam(mt_found_seam a, mt_found_seam b) {
+    return a.found == b.found && a.reverse == b.reverse && a.offset == b.offset
+        && a.steps == b.steps && a.comparisons == b.comparisons;
+}
+
+/* One cell, bent so that no two of its sides meet. */
+static const double cell[] = {0, 0, 0, 0, 1, 0, 1, 0, 0, 1, 1, 5};
+
+static void seams(void) {
+    const double a[] = {0, 0, 0, 1, 0, 0, 2, 0, 0, 0, 0, 0};
+    const double b[] = {1, 0, 0, 2, 0, 0, 0, 0, 0, 1, 0, 0};
+    mt_rows_answer rows = mt_new_vector(LENT(a), LENT(b));
+    EXPECT(rows.refusal == MT_OK);
+    EXPECT(same_seam(rows.seam, (mt_found_seam){true, false, 2, 3, 10}));
+    rows = mt_new_vector(NULL, 0, NULL, 0);
+    EXPECT(rows.refusal == MT_OK && same_seam(rows.seam, (mt_found_seam){0}));
+    rows = mt_new_vector(a, 4, LENT(b));
+    EXPECT(rows.refusal == MT_LENGTH && same_seam(rows.seam, (mt_found_seam){0}));
+    const double far[] = {0, 0, 2e12};
+    EXPECT(mt_new_vector(LENT(a), LENT(far)).refusal == MT_COORDINATE);
+
+    EXPECT(mt_is_reverse(true, 0, 4) && !mt_is_reverse(false, 0, 4));
+
+    mt_index_answer index = mt_map_index(false, 1, 4, 4);
+    EXPECT(index.refusal == MT_OK && index.index == 1);
+    index = mt_map_index(false, 4, 4, 0);
+    EXPECT(index.refusal == MT_NOT_THERE && index.index == 0);
+
+    index = mt_map_index_inv(true, 1, 4, 2);
+    EXPECT(index.refusal == MT_OK && index.index == 3);
+    index = mt_map_index_inv(true, 1, 4, 5);
+    EXPECT(index.refusal == MT_NOT_THERE && index.index == 0);
+}
+
+/* A band of 3 by 3 cells whose last column is its first, turned over. */
+static void twisted_band(void) {
+    double grid[48];
+    for (size_t u = 0, at = 0; u <= 3; u++) {
+        for (size_t v = 0; v <= 3; v++) {
+            grid[at++] = (double)(u % 3);
+            grid[at++] = (double)(u == 3 ? 3 - v : v);
+            grid[at++] = 0;
+        }
+    }
+    size_t triangles[54], flipped[12];
+    mt_mesh_answer mesh = mt_triangulate_grid(LENT(grid), 3, 3, LENT(triangles), LENT(flipped));
+    EXPECT(mesh.refusal == MT_OK && mesh.triangles == 18 && mesh.pairs == 3);
+    EXPECT(same_seam(mesh.u, (mt_found_seam){true, true, 0, 3, 6}) && !mesh.v.found);
+    EXPECT(SAME(flipped, (size_t[]){0, 17, 2, 15, 4, 13, 0, 0, 0, 0, 0, 0}));
+}
+
+static void triangles(void) {
+    size_t triangles[7] = {9, 9, 9, 9, 9, 9, 9}, flipped[4] = {9, 9, 9, 9};
+    mt_mesh_answer mesh = mt_triangulate_grid(LENT(cell), 1, 1, triangles, 5, LENT(flipped));
+    EXPECT(mesh.refusal == MT_ROOM && mesh.triangles == 0 && mesh.pairs == 0);
+    EXPECT(SAME(triangles, (size_t[]){9, 9, 9, 9, 9, 9, 9}));
+    mesh = mt_triangulate_grid(LENT(cell), 1, 1, LENT(triangles), LENT(flipped));
+    EXPECT(mesh.refusal == MT_OK && mesh.triangles == 2 && mesh.pairs == 0);
+    EXPECT(same_seam(mesh.u, (mt_found_seam){.comparisons = 3}));
+    EXPECT(same_seam(mesh.v, (mt_found_seam){.comparisons = 3}));
+    EXPECT(SAME(triangles, (size_t[]){0, 2, 1, 2, 3, 1, 0}));
+    EXPECT(SAME(flipped, (size_t[]){0, 0, 0, 0}));
+    twisted_band();
+}
+
+static void lines(void) {
+    double points[25];
+    size_t starts[4];
+    mt_paths_answer paths = mt_grid_paths(LENT(cell), 1, 256, LENT(points), LENT(starts));
+    EXPECT(paths.refusal == MT_STEPS && paths.points == 0 && paths.lines == 0);
+    paths = mt_grid_paths(LENT(cell), 1, 1, LENT(points), LENT(starts));
+    EXPECT(paths.refusal == MT_OK && paths.points == 8 && paths.lines == 4);
+    EXPECT(SAME(starts, (size_t[]){0, 2, 4, 6}) && same(points[24], 0));
+
+    mt_span_answer span = mt_line_span(LENT(points), LENT(starts), paths.points, paths.lines, 3);
+    EXPECT(span.refusal == MT_OK && span.start == 6 && span.end == 8);
+    span = mt_line_span(LENT(points), LENT(starts), paths.points, paths.lines, 4);
+    EXPECT(span.refusal == MT_NOT_THERE && span.start == 0 && span.end == 0);
+
+    mt_part part = mt_get(LENT(points), LENT(starts), paths.points, paths.lines, 3);
+    EXPECT(part.offset == 18 && part.length == 6);
+    EXPECT(memcmp(points + part.offset, cell + 6, 6 * sizeof(double)) == 0);
+    part = mt_get(LENT(points), LENT(starts), paths.points, paths.lines, 4);
+    EXPECT(part.offset == 0 && part.length == 0);
+}
+
+static void traces(void) {
+    const double pairs[] = {0, 0.25, 0.75, 0.25};
+    const uint8_t marks[] = {1, 1}, wrong[] = {1, 2};
+    double points[7] = {9, 9, 9, 9, 9, 9, 9}, fractions[3] = {9, 9, 9};
+    size_t starts[2] = {9, 9}, sides[5] = {9, 9, 9, 9, 9};
+
+    mt_paths_answer drawn = mt_trace_flat(LENT(cell), 1, 1, LENT(pairs), LENT(wrong),
+                                          LENT(points), LENT(starts), LENT(sides), LENT(fractions));
+    EXPECT(drawn.refusal == MT_MARK && drawn.points == 0 && drawn.lines == 0);
+    EXPECT(SAME(sides, (size_t[]){9, 9, 9, 9, 9}) && SAME(fractions, (double[]){9, 9, 9}));
+
+    drawn = mt_trace_flat(LENT(cell), 1, 1, LENT(pairs), LENT(marks),
+                          LENT(points), LENT(starts), LENT(sides), LENT(fractions));
+    EXPECT(drawn.refusal == MT_OK && drawn.points == 2 && drawn.lines == 1);
+    EXPECT(SAME(points, (double[]){0, 0.25, 0, 0.75, 0.25, 0, 0}));
+    EXPECT(SAME(starts, (size_t[]){0, 0}) && SAME(sides, (size_t[]){0, 1, 2, 1, 0}));
+    EXPECT(SAME(fractions, (double[]){0.25, 0.25, 0}));
+
+    drawn = mt_trace_flat(LENT(cell), 1, 1, LENT(pairs), LENT(marks),
+                          points, 5, LENT(starts), LENT(sides), LENT(fractions));
+    EXPECT(drawn.refusal == MT_FULL && drawn.points == 0 && drawn.lines == 0);
+    EXPECT(SAME(sides, (size_t[]){0, 0, 0, 0, 0}) && SAME(fractions, (double[]){0, 0, 0}));
+
+    drawn = mt_trace_flat(LENT(cell), 1, 1, NULL, 0, NULL, 0, NULL, 0, NULL, 0, NULL, 0, NULL, 0);
+    EXPECT(drawn.refusal == MT_OK && drawn.points == 0 && drawn.lines == 0);
+}
+
+static void samples(void) {
+    const mt_sample curve[] = {{1, {0, 0.25}}, {1, {0.75, 0.25}}, {0, {NAN, NAN}}};
+    const mt_sample wrong[] = {{1, {0, 0.25}}, {2, {0.75, 0.25}}};
+    double points[7] = {9, 9, 9, 9, 9, 9, 9}, fractions[3] = {9, 9, 9};
+    size_t starts[2] = {9, 9}, sides[5] = {9, 9, 9, 9, 9};
+
+    mt_paths_answer drawn = mt_trace_samples(LENT(cell), 1, 1, LENT(wrong),
+                                             LENT(points), LENT(starts), LENT(sides), LENT(fractions));
+    EXPECT(drawn.refusal == MT_MARK && drawn.points == 0 && drawn.lines == 0);
+    EXPECT(SAME(sides, (size_t[]){9, 9, 9, 9, 9}) && SAME(fractions, (double[]){9, 9, 9}));
+
+    drawn = mt_trace_samples(LENT(cell), 1, 1, LENT(curve),
+                             LENT(points), LENT(starts), LENT(sides), LENT(fractions));
+    EXPECT(drawn.refusal == MT_OK && drawn.points == 2 && drawn.lines == 1);
+    EXPECT(SAME(points, (double[]){0, 0.25, 0, 0.75, 0.25, 0, 0}));
+    EXPECT(SAME(starts, (size_t[]){0, 0}) && SAME(sides, (size_t[]){0, 1, 2, 1, 0}));
+    EXPECT(SAME(fractions, (double[]){0.25, 0.25, 0}));
+
+    drawn = mt_trace_samples(LENT(cell), 1, 1, NULL, 0, NULL, 0, NULL, 0, NULL, 0, NULL, 0);
+    EXPECT(drawn.refusal == MT_OK && drawn.points == 0 && drawn.lines == 0);
+}
+
+static void textures(void) {
+    mt_ray_counts plan = mt_plan(MT_GRID, 0, 0, 0, 4, 4);
+    EXPECT(plan.refusal == MT_OK && plan.rays == 0 && plan.samples == 0);
+    plan = mt_plan(MT_SPIRAL, 1, 0, 3, 4, 4);
+    EXPECT(plan.refusal == MT_OK && plan.rays == 3 && plan.samples > 0);
+    plan = mt_plan(MT_SPIRAL, 1, 0, 65, 4, 4);
+    EXPECT(plan.refusal == MT_TEXTURE && plan.rays == 0 && plan.samples == 0);
+    EXPECT(mt_plan(MT_SWIRL, 1e-8, 0, 0, 255, 255).refusal == MT_COUNT);
+
+    plan = mt_plan(MT_SWIRL, 1, 0.5, 0, 4, 4);
+    mt_ray_angle angle = mt_angle(MT_SWIRL, 1, 0.5, 0, 4, 4, 0, plan.samples);
+    EXPECT(angle.refusal == MT_OK && same(angle.angle, 0x1.921fb54442d18p+1));
+    angle = mt_angle(MT_SWIRL, 1, 0.5, 0, 4, 4, plan.rays, 0);
+    EXPECT(angle.refusal == MT_NOT_THERE && same(angle.angle, 0));
+
+    mt_ray_point point = mt_sample_point(MT_SWIRL, 1, 0.5, 0, 4, 4, 0, 0, 1, 0);
+    EXPECT(point.refusal == MT_OK && same(point.u, 2) && same(point.v, 2));
+    point = mt_sample_point(MT_SWIRL, 1, 0.5, 0, 4, 4, 0, 0, 1.5, 0);
+    EXPECT(point.refusal == MT_DIRECTION && same(point.u, 0) && same(point.v, 0));
+}
+
+static void vectors(void) {
+    mt_components sum = mt_vector_add(1, 2, 3, 0.5, -2, 4);
+    EXPECT(same(sum.x, 1.5) && same(sum.y, 0) && same(sum.z, 7));
+    mt_components difference = mt_vector_sub(1, 2, 3, 0.5, -2, 4);
+    EXPECT(same(difference.x, 0.5) && same(difference.y, 4) && same(difference.z, -1));
+    mt_components product = mt_vector_mul_scalar(1, 2, -3, 0.5);
+    EXPECT(same(product.x, 0.5) && same(product.y, 1) && same(product.z, -1.5));
+    EXPECT(mt_vector_all_close(1, 2, 3, 1, 2, 3 + 1e-10));
+    EXPECT(!mt_vector_all_close(1, 2, 3, 1, 2, 3 + 1e-8));
+}
+
+static void numbers(void) {
+    EXPECT(same(mt_abs(-0.0), 0.0) && same(mt_abs(-2.5), 2.5));
+    EXPECT(mt_is_finite(1e300) && !mt_is_finite(INFINITY) && !mt_is_finite(NAN));
+    EXPECT(mt_at_most(-2, 2) && !mt_at_most(-2.5, 2) && !mt_at_most(NAN, 2));
+    EXPECT(same(mt_max(1, 2), 2) && same(mt_max(-0.0, 0.0), -0.0) && same(mt_max(NAN, 1), 1));
+    EXPECT(same(mt_clamp(-0.0, 0, 1), -0.0) && same(mt_clamp(-2, 0, 1), 0));
+    EXPECT(same(mt_clamp(2, 0, 1), 1) && same(mt_clamp(0.5, 0, 1), 0.5));
+    EXPECT(mt_total_cmp(-0.0, 0.0) == -1 && mt_total_cmp(2, 1) == 1 && mt_total_cmp(1, 1) == 0);
+    EXPECT(mt_floor_i64(-0.25) == -1 && mt_floor_i64(1e300) == INT64_MAX && mt_floor_i64(NAN) == 0);
+    EXPECT(mt_ceil_i64(0.25) == 1 && mt_ceil_i64(-1e300) == INT64_MIN && mt_ceil_i64(NAN) == 0);
+    EXPECT(same(mt_round(2.5), 3) && same(mt_round(-0.25), -0.0));
+    EXPECT(same(mt_ceil(0.25), 1) && same(mt_ceil(-0.25), -0.0));
+    EXPECT(mt_to_usize(2.75) == 2 && mt_to_usize(-1) == 0);
+    EXPECT(mt_to_usize(1e300) == SIZE_MAX && mt_to_usize(NAN) == 0);
+    EXPECT(same(mt_to_f64(3), 3) && same(mt_to_f64(SIZE_MAX), 0x1p64));
+}
+
+int main(void) {
+    seams();
+    triangles();
+    lines();
+    traces();
+    samples();
+    textures();
+    vectors();
+    numbers();
+    guarded_lists();
+    printf("%u passed, %u failed\n", passed, failed);
+    return failed == 0 ? 0 : 1;
+}

@@ -1,0 +1,134 @@
+//! What the library makes of a grid: its seams, its lines, its rim and its flipped triangles.
+
+use merlontrispa::{Mapping, OwnedLines, Refusal, Seam, Seams, Surface, Texture, Vector};
+
+pub type Point = [f64; 3];
+
+/// A drawing in space.
+#[derive(Debug, Clone)]
+pub struct Drawing {
+    pub seams: Seams,
+    /// The count of triangles.
+    pub triangles: usize,
+    /// The lines of the texture.
+    pub lines: OwnedLines,
+    /// The edges of the grid that no seam joins, but for those that are one point, as at a pole.
+    pub rim: OwnedLines,
+    /// The edges that a seam joins, and how.
+    pub joined: Vec<(Mapping, Vec<Point>)>,
+    /// The triangles of the flipped pairs, the two of a pair after each other.
+    pub flipped: Vec<[Point; 3]>,
+}
+
+impl Drawing {
+    /// # Errors
+    /// What the library refuses of the texture.
+    pub fn new(surface: Surface<'_>, texture: Texture) -> Result<Self, Refusal> {
+        let lines = surface.texture_lines(texture)?;
+        let mesh = surface.triangulate();
+        let grid_lines = surface.grid_lines();
+        let grid_lines: Vec<_> = grid_lines.iter().collect();
+        let (mut rim, mut joined) = (OwnedLines::default(), Vec::new());
+        for (seam, edges) in edges(surface, mesh.seams) {
+            let edges = edges.map(|index| grid_lines[index]);
+            match seam.mapping {
+                None => rim.extend(edges.into_iter().filter(|line| !is_dot(line))),
+                Some(mapping) => joined.push((mapping, edges[0].to_vec())),
+            }
+        }
+        let corner = |number: usize| surface.points()[number];
+        let flipped = mesh.flipped.iter().flatten();
+        let flipped = flipped.map(|triangle| mesh.triangles[*triangle].map(corner));
+        Ok(Self {
+            seams: mesh.seams,
+            triangles: mesh.triangles.len(),
+            lines,
+            rim,
+            joined,
+            flipped: flipped.collect(),
+        })
+    }
+}
+
+/// Whether all points of a line are close to its first.
+fn is_dot(line: &[Point]) -> bool {
+    let first = Vector::from(line[0]);
+    line.iter().all(|p| first.all_close(Vector::from(*p)))
+}
+
+/// Each seam with the indices of the two grid lines that it joins, or would join.
+fn edges(surface: Surface<'_>, seams: Seams) -> [(Seam, [usize; 2]); 2] {
+    let (m, n) = (surface.u_steps(), surface.v_steps());
+    // The lines along u come first, one for each v.
+    let along_v = n + 1;
+    [(seams.u, [along_v, along_v + m]), (seams.v, [0, n])]
+}
+
+#[cfg(test)]
+mod tests {
+    use super::*;
+    use crate::parametric::{NAMES, ParametricSurface};
+
+    fn grid(name: &str, steps: [usize; 2]) -> Vec<f64> {
+        ParametricSurface::named(name).expect("a name").grid(steps)
+    }
+
+    fn distance(a: Point, b: Point) -> f64 {
+        let square = |i: usize| (a[i] - b[i]) * (a[i] - b[i]);
+        (square(0) + square(1) + square(2)).sqrt()
+    }
+
+    fn longest<'a>(lines: impl Iterator<Item = &'a [Point]>) -> f64 {
+        let segments = lines.flat_map(|line| line.windows(2));
+        segments
+            .map(|ends| distance(ends[0], ends[1]))
+            .fold(0.0, f64::max)
+    }
+
+    /// The longest side of the two triangles of any cell.
+    fn longest_side(surface: Surface<'_>) -> f64 {
+        let (m, n) = (surface.u_steps(), surface.v_steps());
+        let at = |u: usize, v: usize| surface.points()[u * (n + 1) + v];
+        let cells = (0..m).flat_map(|u| (0..n).map(move |v| (u, v)));
+        let around = cells.map(|(u, v)| {
+            let [p10, p01] = [at(u + 1, v), at(u, v + 1)];
+            [p10, at(u, v), p01, p10, at(u + 1, v + 1), p01]
+        });
+        let around: Vec<_> = around.collect();
+        longest(around.iter().map(|points| points.as_slice()))
+    }
+
+    #[test]
+    fn no_line_makes_a_spike() {
+        for name in NAMES {
+            for [m, n] in [[30, 21], [7, 12], [1, 1]] {
+                let grid = grid(name, [m, n]);
+                let surface = Surface::new(&grid, m, n).expect("a surface");
+                let side = longest_side(surface);
+                for spacing in [0.7, 3.0, 50.0] {
+                    let twist = -1.5;
+                    let arms = 3;
+                    let swirl = Texture::Swirl { spacing, twist };
+                    let spiral = Texture::Spiral { spacing, arms };
+                    for texture in [Texture::Grid, swirl, spiral] {
+                        let drawing = Drawing::new(surface, texture).expect("a drawing");
+                        let segment = longest(drawing.lines.iter());
+                        assert!(segment <= side + 1e-8, "{name}, {m} × {n}, {texture:?}");
+                    }
+                }
+            }
+        }
+    }
+
+    #[test]
+    fn each_surface_has_its_rim() {
+        let rims = [4, 2, 2, 0, 1, 0, 0, 0, 0];
+        for (name, rim) in NAMES.into_iter().zip(rims) {
+            let grid = grid(name, [15, 12]);
+            let surface = Surface::new(&grid, 15, 12).expect("a surface");
+            let drawing = Drawing::new(surface, Texture::Grid).expect("a drawing");
+            assert_eq!(drawing.rim.iter().len(), rim, "{name}");
+            assert_eq!(drawing.lines.iter().len(), 15 + 12 + 2);
+        }
+    }
+}

@@ -1,0 +1,122 @@
+//! Draws a surface as a card: an SVG file. `draw --help` explains the options.
+//!
+//! The seams, the triangles, the grid lines, the textures and the traces are the proved library's; the
+//! surface's formula, cosine and sine, and the camera are this program's.
+
+mod camera;
+mod drawing;
+mod formula;
+mod options;
+mod parametric;
+mod svg;
+
+use camera::Camera;
+use drawing::Drawing;
+use merlontrispa::{Mapping, Refusal, Seam, Surface, Texture};
+use options::{Options, Request};
+use std::io::Write;
+use std::process::ExitCode;
+
+const HELP: &str = include_str!("help.txt");
+
+/// The output that is no file.
+const STDOUT: &str = "-";
+
+/// The most samples of a texture: they are drawn in seconds, and a card shows no more.
+const SAMPLES: usize = 1_000_000;
+
+fn main() -> ExitCode {
+    let words = std::env::args_os().skip(1);
+    let words: Result<Vec<_>, _> = words.map(|word| word.into_string()).collect();
+    let request = match words {
+        Ok(words) => Request::parse(words),
+        Err(_) => Err("the options are not all in UTF-8".to_string()),
+    };
+    match request {
+        Err(sentence) => failed(&sentence, 2),
+        Ok(Request::Help) => ended(write(STDOUT, HELP)),
+        Ok(Request::Card(options)) => ended(draw(&options)),
+    }
+}
+
+fn ended(result: Result<(), String>) -> ExitCode {
+    match result {
+        Ok(()) => ExitCode::SUCCESS,
+        Err(sentence) => failed(&sentence, 1),
+    }
+}
+
+fn failed(sentence: &str, status: u8) -> ExitCode {
+    eprintln!("draw: {sentence}");
+    ExitCode::from(status)
+}
+
+fn refused(refusal: Refusal) -> String {
+    format!("the library refuses this with {refusal}")
+}
+
+/// Draws the card, writes it, and says what is on it.
+fn draw(options: &Options) -> Result<(), String> {
+    let [m, n] = options.steps;
+    // The plan refuses bad steps before a grid of so many points is made.
+    let plan = options.texture.plan(m, n).map_err(refused)?;
+    let samples = plan.rays * plan.samples;
+    if samples > SAMPLES {
+        return Err(format!(
+            "this texture has {samples} samples, and a card takes {SAMPLES}: widen --spacing"
+        ));
+    }
+    let grid = options.surface.grid(options.steps);
+    let surface = Surface::new(&grid, m, n).map_err(|refusal| {
+        let first = options.surface.first_refused(options.steps);
+        let first = first.map(|first| format!("; the first is {first}"));
+        refused(refusal) + &first.unwrap_or_default()
+    })?;
+    let drawing = Drawing::new(surface, options.texture).map_err(refused)?;
+    let camera = Camera::fitting(surface.points())
+        .ok_or("all points of this surface are seen at one place, and there is nothing to draw")?;
+    let title = title(options);
+    let text = svg::card(&drawing, &camera, options.style, &title);
+    write(&options.output, &text)?;
+    eprintln!("{title}\n{}", summary(&drawing));
+    if options.output != STDOUT {
+        eprintln!("written to {}", options.output);
+    }
+    Ok(())
+}
+
+fn write(output: &str, text: &str) -> Result<(), String> {
+    let written = match output {
+        STDOUT => std::io::stdout().lock().write_all(text.as_bytes()),
+        _ => std::fs::write(output, text),
+    };
+    written.map_err(|error| format!("cannot write {output}: {error}"))
+}
+
+fn title(options: &Options) -> String {
+    let texture = match options.texture {
+        Texture::Grid => "grid".to_string(),
+        Texture::Swirl { spacing, twist } => format!("swirl, spacing {spacing}, twist {twist}"),
+        Texture::Spiral { spacing, arms } => format!("spiral, spacing {spacing}, arms {arms}"),
+    };
+    let [m, n] = options.steps;
+    format!("{}, {m} × {n} steps, {texture}", options.surface.name)
+}
+
+/// What the library found and drew.
+fn summary(drawing: &Drawing) -> String {
+    let seam = |seam: Seam| match seam.mapping {
+        None => "none".to_string(),
+        Some(Mapping::Forward { offset, .. }) => format!("forward, offset {offset}"),
+        Some(Mapping::Reverse { offset, .. }) => format!("reversed, offset {offset}"),
+    };
+    format!(
+        "seams: u {}; v {}\n{} lines, {} points; {} triangles, {} flipped pairs",
+        seam(drawing.seams.u),
+        seam(drawing.seams.v),
+        drawing.lines.iter().len(),
+        drawing.lines.points.len(),
+        drawing.triangles,
+        drawing.flipped.len() / 2,
+    )
+}

@@ -1,0 +1,361 @@
+//! The options of the command line. Each fault is one sentence.
+
+use crate::formula::{Formula, constant};
+use crate::parametric::{NAMES, ParametricSurface};
+use crate::svg::Style;
+use merlontrispa::Texture;
+use std::collections::BTreeMap;
+
+const WITH_VALUE: [&str; 9] = [
+    "--formula",
+    "--u",
+    "--v",
+    "--steps",
+    "--texture",
+    "--spacing",
+    "--twist",
+    "--arms",
+    "--output",
+];
+
+const WITHOUT_VALUE: [&str; 4] = ["--seams", "--flipped", "--plain", "--help"];
+
+/// The library takes 1 for a spacing that is not above this, or not finite.
+const LEAST_SPACING: f64 = 1e-9;
+
+const SPACING: f64 = 3.0;
+const TWIST: f64 = 0.5;
+const ARMS: usize = 2;
+
+/// What the user asks for.
+#[derive(Debug, Clone, PartialEq)]
+pub enum Request {
+    Help,
+    Card(Box<Options>),
+}
+
+/// What is to be drawn, and where to.
+#[derive(Debug, Clone, PartialEq)]
+pub struct Options {
+    pub surface: ParametricSurface,
+    pub steps: [usize; 2],
+    pub texture: Texture,
+    pub style: Style,
+    pub output: String,
+}
+
+impl Request {
+    /// # Errors
+    /// A sentence about the first fault; a fault in a formula is shown in two lines more.
+    pub fn parse(words: impl IntoIterator<Item = String>) -> Result<Self, String> {
+        let given = Given::new(words)?;
+        if given.has("--help") {
+            return Ok(Self::Help);
+        }
+        let surface = given.surface()?;
+        let options = Options {
+            steps: given.steps()?.unwrap_or(surface.steps),
+            texture: given.texture()?,
+            style: Style {
+                seams: given.has("--seams"),
+                flipped: given.has("--flipped"),
+                plain: given.has("--plain"),
+            },
+            output: given.value("--output").unwrap_or("card.svg").to_string(),
+            surface,
+        };
+        Ok(Self::Card(Box::new(options)))
+    }
+}
+
+/// The words as they were given: a surface, and options with their values.
+#[derive(Default)]
+struct Given {
+    surface: Option<String>,
+    options: BTreeMap<&'static str, String>,
+}
+
+impl Given {
+    fn new(words: impl IntoIterator<Item = String>) -> Result<Self, String> {
+        let mut given = Self::default();
+        let mut words = words.into_iter();
+        while let Some(word) = words.next() {
+            if word.starts_with('-') {
+                given.option(&word, &mut words)?;
+            } else if let Some(before) = &given.surface {
+                return Err(format!(
+                    "'{before}' and '{word}' are given, and a card has one surface"
+                ));
+            } else {
+                given.surface = Some(word);
+            }
+        }
+        Ok(given)
+    }
+
+    /// Takes an option, and its value from behind '=' or from the words that follow.
+    fn option(
+        &mut self,
+        word: &str,
+        rest: &mut impl Iterator<Item = String>,
+    ) -> Result<(), String> {
+        let (name, attached) = match word.split_once('=') {
+            Some((name, value)) => (name, Some(value.to_string())),
+            None => (word, None),
+        };
+        let name = match name {
+            "-o" => "--output",
+            "-h" => "--help",
+            _ => name,
+        };
+        let among = |names: &[&'static str]| names.iter().copied().find(|known| *known == name);
+        let (name, value) = if let Some(name) = among(&WITH_VALUE) {
+            let value = attached.or_else(|| rest.next().filter(|next| !next.starts_with("--")));
+            (name, value.ok_or_else(|| format!("{name} wants a value"))?)
+        } else if let Some(name) = among(&WITHOUT_VALUE) {
+            match attached {
+                None => (name, String::new()),
+                Some(_) => return Err(format!("{name} takes no value")),
+            }
+        } else {
+            return Err(format!("there is no option '{name}': --help lists all"));
+        };
+        match self.options.insert(name, value) {
+            None => Ok(()),
+            Some(_) => Err(format!("{name} is given twice")),
+        }
+    }
+
+    fn value(&self, name: &str) -> Option<&str> {
+        self.options.get(name).map(String::as_str)
+    }
+
+    fn has(&self, name: &str) -> bool {
+        self.options.contains_key(name)
+    }
+
+    fn surface(&self) -> Result<ParametricSurface, String> {
+        let mut surface = match (&self.surface, self.value("--formula")) {
+            (Some(name), Some(_)) => {
+                return Err(format!(
+                    "'{name}' and --formula are given, and a card has one surface"
+                ));
+            }
+            (None, Some(text)) => Formula::parse(text)
+                .map(ParametricSurface::own)
+                .map_err(|fault| format!("in the formula, {}", fault.show(text)))?,
+            (name, None) => named(name.as_deref().unwrap_or("torus"))?,
+        };
+        surface.u = self.range("--u")?.unwrap_or(surface.u);
+        surface.v = self.range("--v")?.unwrap_or(surface.v);
+        Ok(surface)
+    }
+
+    fn range(&self, name: &str) -> Result<Option<[f64; 2]>, String> {
+        let Some(text) = self.value(name) else {
+            return Ok(None);
+        };
+        let Some((from, to)) = text.split_once("..") else {
+            return Err(format!(
+                "{name} wants a range FROM..TO, such as 0..2*pi, not '{text}'"
+            ));
+        };
+        // A fault is shown in the whole range.
+        let end = |part: &str, start: usize| {
+            constant(part).map_err(|mut fault| {
+                fault.at += start;
+                format!("in {name}, {}", fault.show(text))
+            })
+        };
+        let to_start = from.chars().count() + "..".len();
+        Ok(Some([end(from, 0)?, end(to, to_start)?]))
+    }
+
+    fn steps(&self) -> Result<Option<[usize; 2]>, String> {
+        let Some(text) = self.value("--steps") else {
+            return Ok(None);
+        };
+        let steps = text.split_once(['x', '×']).and_then(|(m, n)| {
+            let (m, n) = (m.parse().ok()?, n.parse().ok()?);
+            Some([m, n])
+        });
+        match steps {
+            Some(_) => Ok(steps),
+            None => Err(format!(
+                "--steps wants two counts MxN, such as 40x20, not '{text}'"
+            )),
+        }
+    }
+
+    fn texture(&self) -> Result<Texture, String> {
+        let texture = match self.value("--texture").unwrap_or("grid") {
+            "grid" => Texture::Grid,
+            "swirl" => Texture::Swirl {
+                spacing: self.spacing()?,
+                twist: self.number("--twist")?.unwrap_or(TWIST),
+            },
+            "spiral" => Texture::Spiral {
+                spacing: self.spacing()?,
+                arms: self.arms()?,
+            },
+            other => return Err(format!("--texture is grid, swirl or spiral, not '{other}'")),
+        };
+        let (swirl, spiral) = match texture {
+            Texture::Grid => (false, false),
+            Texture::Swirl { .. } => (true, false),
+            Texture::Spiral { .. } => (false, true),
+        };
+        let uses = [
+            ("--spacing", swirl || spiral, "swirl or spiral"),
+            ("--twist", swirl, "swirl"),
+            ("--arms", spiral, "spiral"),
+        ];
+        match uses.iter().find(|(name, used, _)| self.has(name) && !used) {
+            None => Ok(texture),
+            Some((name, _, wanted)) => Err(format!("{name} goes with --texture {wanted}")),
+        }
+    }
+
+    fn spacing(&self) -> Result<f64, String> {
+        match self.number("--spacing")?.unwrap_or(SPACING) {
+            spacing if spacing.is_finite() && spacing > LEAST_SPACING => Ok(spacing),
+            _ => Err(format!(
+                "--spacing wants a finite number above {LEAST_SPACING:?}"
+            )),
+        }
+    }
+
+    fn arms(&self) -> Result<usize, String> {
+        let Some(text) = self.value("--arms") else {
+            return Ok(ARMS);
+        };
+        match text.parse() {
+            Ok(arms) if arms > 0 => Ok(arms),
+            _ => Err(format!("--arms wants a count from 1, not '{text}'")),
+        }
+    }
+
+    fn number(&self, name: &str) -> Result<Option<f64>, String> {
+        let number = self.value(name).map(|text| {
+            let fault = |_| format!("{name} wants a number, not '{text}'");
+            text.parse().map_err(fault)
+        });
+        number.transpose()
+    }
+}
+
+fn named(name: &str) -> Result<ParametricSurface, String> {
+    ParametricSurface::named(name).ok_or_else(|| {
+        let names = NAMES.join(", ");
+        format!("there is no surface '{name}': the names are {names}")
+    })
+}
+
+#[cfg(test)]
+mod tests {
+    use super::*;
+    use std::f64::consts::PI;
+
+    /// The words of a command, parted by spaces.
+    fn parse(words: &str) -> Result<Request, String> {
+        Request::parse(words.split_whitespace().map(String::from))
+    }
+
+    fn card(words: &str) -> Options {
+        match parse(words) {
+            Ok(Request::Card(options)) => *options,
+            other => panic!("{words}: {other:?}"),
+        }
+    }
+
+    #[test]
+    fn nothing_given_is_a_torus() {
+        let options = card("");
+        assert_eq!(Some(options.surface), ParametricSurface::named("torus"));
+        assert_eq!(options.texture, Texture::Grid);
+        assert_eq!(options.style, Style::default());
+        assert_eq!(options.output, "card.svg");
+    }
+
+    #[test]
+    fn each_option_is_taken() {
+        let words =
+            "sphere --texture swirl --spacing 2.5 --twist -1 --steps 30x20 --seams --plain -o -";
+        let options = card(words);
+        assert_eq!(options.surface.name, "sphere");
+        let (spacing, twist) = (2.5, -1.0);
+        assert_eq!(options.texture, Texture::Swirl { spacing, twist });
+        assert_eq!(options.steps, [30, 20]);
+        let style = Style {
+            seams: true,
+            plain: true,
+            flipped: false,
+        };
+        assert_eq!(options.style, style);
+        assert_eq!(options.output, "-");
+        let options = card("--texture=spiral --arms=5 shell --flipped --output=a=b.svg");
+        let (spacing, arms) = (SPACING, 5);
+        assert_eq!(options.texture, Texture::Spiral { spacing, arms });
+        assert!(options.style.flipped);
+        assert_eq!(options.output, "a=b.svg");
+        assert_eq!(parse("torus -h"), Ok(Request::Help));
+        assert_eq!(parse("--help"), Ok(Request::Help));
+    }
+
+    #[test]
+    fn ranges_are_constants() {
+        let options = card("--u -pi/2..pi --v 0...5 --formula x=u;y=v;z=0");
+        assert_eq!(options.surface.u, [-PI / 2.0, PI]);
+        assert_eq!(options.surface.v, [0.0, 0.5]);
+        assert_eq!(options.surface.formula.at(3.0, 5.0), [3.0, 5.0, 0.0]);
+    }
+
+    #[test]
+    fn faults_are_named() {
+        let cases = [
+            ("tours", "there is no surface 'tours'"),
+            ("torus sphere", "one surface"),
+            ("torus --formula x=u;y=v;z=0", "one surface"),
+            ("--size 3", "there is no option '--size'"),
+            ("-x", "there is no option '-x'"),
+            ("--steps", "--steps wants a value"),
+            ("--steps --seams", "--steps wants a value"),
+            ("--steps 40", "--steps wants two counts"),
+            ("--steps 40x-2", "--steps wants two counts"),
+            ("--steps 4x4 --steps 5x5", "--steps is given twice"),
+            ("--seams=yes", "--seams takes no value"),
+            ("--texture dots", "--texture is grid, swirl or spiral"),
+            ("--twist 1", "--twist goes with --texture swirl"),
+            (
+                "--texture spiral --twist 1",
+                "--twist goes with --texture swirl",
+            ),
+            (
+                "--texture swirl --arms 2",
+                "--arms goes with --texture spiral",
+            ),
+            (
+                "--spacing 1",
+                "--spacing goes with --texture swirl or spiral",
+            ),
+            ("--texture swirl --spacing 0", "above 1e-9"),
+            ("--texture swirl --spacing 1e-9", "above 1e-9"),
+            ("--texture swirl --spacing nan", "a finite number"),
+            ("--texture swirl --spacing inf", "a finite number"),
+            ("--texture swirl --twist much", "--twist wants a number"),
+            ("--texture spiral --arms 0", "--arms wants a count"),
+            ("--texture spiral --arms 1.5", "--arms wants a count"),
+            ("--u 3", "--u wants a range"),
+            ("--u 0..", "'(' belongs here\n    0..\n       ^"),
+            (
+                "--u 0..v",
+                "in --u, this is none of pi, sin, cos and sqrt\n    0..v\n       ^",
+            ),
+            ("--formula x=u", "in the formula, y is missing"),
+        ];
+        for (words, part) in cases {
+            let sentence = parse(words).expect_err(words);
+            assert!(sentence.contains(part), "{words}: {sentence}");
+        }
+    }
+}

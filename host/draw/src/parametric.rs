@@ -1,0 +1,241 @@
+//! Surfaces: a formula, the ranges that u and v run through, and the grid of points that is taken of them.
+
+use crate::formula::Formula;
+use merlontrispa::float;
+use std::f64::consts::{PI, TAU};
+
+/// The largest magnitude of a coordinate that the library takes: beyond it is refusal 4.
+const LARGEST: f64 = (1_u64 << 40) as f64;
+
+/// A surface and how many steps show it well.
+#[derive(Debug, Clone, PartialEq)]
+pub struct ParametricSurface {
+    pub name: &'static str,
+    pub formula: Formula,
+    pub u: [f64; 2],
+    pub v: [f64; 2],
+    pub steps: [usize; 2],
+}
+
+/// The names of the surfaces that need no formula of the user's, in the order of the help.
+pub const NAMES: [&str; 9] = [
+    "plane",
+    "cylinder",
+    "moebius-band",
+    "sphere",
+    "shell",
+    "torus",
+    "twisted-torus",
+    "klein-bottle",
+    "klein-eight",
+];
+
+impl ParametricSurface {
+    /// A surface of the user's own: u and v run through a whole turn.
+    pub fn own(formula: Formula) -> Self {
+        Self {
+            name: "formula",
+            formula,
+            u: [0.0, TAU],
+            v: [0.0, TAU],
+            steps: [48, 48],
+        }
+    }
+
+    /// The surface of one of the names.
+    pub fn named(name: &str) -> Option<Self> {
+        let name = NAMES.into_iter().find(|known| *known == name)?;
+        let (formula, u, v, steps) = match name {
+            "plane" => (PLANE, [-1.5, 1.5], [-1.0, 1.0], [36, 24]),
+            "cylinder" => (CYLINDER, [0.0, TAU], [-0.8, 0.8], [60, 16]),
+            "moebius-band" => (MOEBIUS_BAND, [0.0, TAU], [-0.5, 0.5], [96, 12]),
+            "sphere" => (SPHERE, [0.0, TAU], [0.0, PI], [48, 24]),
+            "shell" => (SHELL, [0.0, 3.0 * TAU], [0.0, TAU], [120, 30]),
+            "torus" => (TORUS, [0.0, TAU], [0.0, TAU], [72, 30]),
+            "twisted-torus" => (TWISTED_TORUS, [0.0, TAU], [0.0, TAU], [96, 36]),
+            "klein-bottle" => (KLEIN_BOTTLE, [0.0, PI], [0.0, TAU], [72, 24]),
+            _ => (KLEIN_EIGHT, [0.0, TAU], [0.0, TAU], [84, 36]),
+        };
+        let formula = Formula::parse(formula).expect("the tests parse each");
+        Some(Self {
+            name,
+            formula,
+            u,
+            v,
+            steps,
+        })
+    }
+
+    /// u and v of each point of a grid with so many steps, in the order of the points' numbers.
+    fn parameters(&self, [u_steps, v_steps]: [usize; 2]) -> impl Iterator<Item = [f64; 2]> {
+        let step = |[from, to]: [f64; 2], i: usize, steps: usize| {
+            from + i as f64 * ((to - from) / steps as f64)
+        };
+        let column = move |i| {
+            let u = step(self.u, i, u_steps);
+            (0..=v_steps).map(move |j| [u, step(self.v, j, v_steps)])
+        };
+        (0..=u_steps).flat_map(column)
+    }
+
+    /// The grid with so many steps, as the library takes it: x, y and z of each point.
+    pub fn grid(&self, steps: [usize; 2]) -> Vec<f64> {
+        let points = self
+            .parameters(steps)
+            .flat_map(|[u, v]| self.formula.at(u, v));
+        points.collect()
+    }
+
+    /// Which coordinate of a grid is the first that is not finite or too large for the library, and where.
+    pub fn first_refused(&self, steps: [usize; 2]) -> Option<String> {
+        self.parameters(steps).find_map(|[u, v]| {
+            let mut coordinates = std::iter::zip(["x", "y", "z"], self.formula.at(u, v));
+            let (name, value) = coordinates.find(|(_, value)| !float::at_most(*value, LARGEST))?;
+            Some(format!("{name} = {value:?} at u = {u:?}, v = {v:?}"))
+        })
+    }
+}
+
+const PLANE: &str = "x = u; y = v; z = 0";
+
+const CYLINDER: &str = "x = cos(u); y = sin(u); z = v";
+
+const MOEBIUS_BAND: &str = "
+    x = (1 + v*cos(u/2))*cos(u);
+    y = (1 + v*cos(u/2))*sin(u);
+    z = v*sin(u/2)";
+
+const SPHERE: &str = "x = sin(v)*cos(u); y = sin(v)*sin(u); z = cos(v)";
+
+/// A tube that winds down round the z axis and widens from a point.
+const SHELL: &str = "
+    x = (2^(u/(4*pi)) - 1)*cos(u)*(1 + cos(v));
+    y = (2^(u/(4*pi)) - 1)*sin(u)*(1 + cos(v));
+    z = (2^(u/(4*pi)) - 1)*sin(v) - 4^(u/(4*pi))";
+
+const TORUS: &str = "
+    x = (2 + cos(v))*cos(u);
+    y = (2 + cos(v))*sin(u);
+    z = sin(v)";
+
+/// A tube of three lobes that makes a third of a turn on its way: lobe meets lobe where N is a multiple of 3.
+const TWISTED_TORUS: &str = "
+    x = (3 + (1 + cos(3*v)/4)*cos(v + u/3))*cos(u);
+    y = (3 + (1 + cos(3*v)/4)*cos(v + u/3))*sin(u);
+    z = (1 + cos(3*v)/4)*sin(v + u/3)";
+
+/// A tube, as wide as 3 + 5 cos u sin u, that passes through its side and meets its start from the inside.
+const KLEIN_BOTTLE: &str = "
+    x = 2/15*cos(u)*(3 + 5*cos(u)*sin(u))*sin(v) - 4*cos(u)*sin(u)^5*(1 + 2*cos(u)^2);
+    y = 2/15*(3 + 5*cos(u)*sin(u))*cos(v);
+    z = 4*sin(u)^2 - 1/15*sin(u)^3*(3 + 5*cos(u)*sin(u))*(1 - 16*cos(u)^4)*sin(v)";
+
+/// A tube whose section is an eight that makes half a turn on its way.
+const KLEIN_EIGHT: &str = "
+    x = (2 + cos(u/2)*sin(v) - sin(u/2)*sin(2*v))*cos(u);
+    y = (2 + cos(u/2)*sin(v) - sin(u/2)*sin(2*v))*sin(u);
+    z = sin(u/2)*sin(v) + cos(u/2)*sin(2*v)";
+
+#[cfg(test)]
+mod tests {
+    use super::*;
+    use merlontrispa::{Mapping, Refusal, Surface};
+
+    /// The seams of a named surface, and the count of its flipped pairs.
+    fn seams(name: &str, [m, n]: [usize; 2]) -> (Option<Mapping>, Option<Mapping>, usize) {
+        let grid = ParametricSurface::named(name).expect("a name").grid([m, n]);
+        let mesh = Surface::new(&grid, m, n).expect("a surface").triangulate();
+        (
+            mesh.seams.u.mapping,
+            mesh.seams.v.mapping,
+            mesh.flipped.len(),
+        )
+    }
+
+    fn forward(offset: usize, steps: usize) -> Option<Mapping> {
+        Some(Mapping::Forward { offset, steps })
+    }
+
+    fn reverse(offset: usize, steps: usize) -> Option<Mapping> {
+        Some(Mapping::Reverse { offset, steps })
+    }
+
+    #[test]
+    fn each_surface_has_its_seams() {
+        for [m, n] in [[12, 9], [25, 30], [90, 33]] {
+            let cases = [
+                ("plane", (None, None, 0)),
+                ("cylinder", (forward(0, n), None, 0)),
+                ("moebius-band", (reverse(0, n), None, n)),
+                ("sphere", (forward(0, n), None, 0)),
+                ("shell", (None, forward(0, m), 0)),
+                ("torus", (forward(0, n), forward(0, m), 0)),
+                ("twisted-torus", (forward(2 * n / 3, n), forward(0, m), 0)),
+                ("klein-bottle", (reverse(0, n), forward(0, m), n)),
+                ("klein-eight", (reverse(0, n), forward(0, m), n)),
+            ];
+            assert_eq!(cases.map(|(name, _)| name), NAMES);
+            for (name, expected) in cases {
+                assert_eq!(seams(name, [m, n]), expected, "{name}, {m} × {n}");
+            }
+        }
+    }
+
+    #[test]
+    fn a_lobe_that_meets_no_lobe_leaves_the_twisted_torus_open() {
+        assert_eq!(seams("twisted-torus", [12, 10]), (None, forward(0, 12), 0));
+    }
+
+    #[test]
+    fn a_grid_has_its_points_in_the_order_of_the_library() {
+        let plane = ParametricSurface {
+            u: [0.0, 2.0],
+            v: [0.0, 1.0],
+            ..ParametricSurface::named("plane").expect("a name")
+        };
+        let expected = [
+            [0.0, 0.0],
+            [0.0, 1.0],
+            [1.0, 0.0],
+            [1.0, 1.0],
+            [2.0, 0.0],
+            [2.0, 1.0],
+        ];
+        let expected = expected.map(|[x, y]| [x, y, 0.0]);
+        assert_eq!(plane.grid([2, 1]), expected.as_flattened());
+    }
+
+    #[test]
+    fn the_first_coordinate_that_the_library_refuses_is_found() {
+        let steps @ [m, n] = [4, 2];
+        let cases = [
+            ("x = u; y = v; z = 2^40*u", None),
+            (
+                "x = u; y = v; z = -2^40*(1 + 2^-52)*u",
+                Some("z = -1099511627776.0002 at u = 1.0, v = 0.0"),
+            ),
+            (
+                "x = 1/(v - 1); y = sqrt(-1); z = 0",
+                Some("y = NaN at u = 0.0, v = 0.0"),
+            ),
+            (
+                "x = 1/(v - 1); y = sqrt(u); z = 1/u",
+                Some("z = inf at u = 0.0, v = 0.0"),
+            ),
+            (
+                "x = 1/(v - 1) + u; y = sqrt(-u); z = 0",
+                Some("x = inf at u = 0.0, v = 1.0"),
+            ),
+        ];
+        for (formula, expected) in cases {
+            let surface = ParametricSurface {
+                u: [0.0, 1.0],
+                v: [0.0, 2.0],
+                ..ParametricSurface::own(Formula::parse(formula).expect("a formula"))
+            };
+            let refused = Surface::new(&surface.grid(steps), m, n).err();
+            assert_eq!(refused, expected.map(|_| Refusal::Coordinate), "{formula}");
+            assert_eq!(surface.first_refused(steps).as_deref(), expected);
+        }
+    }
+}

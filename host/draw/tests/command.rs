@@ -1,0 +1,224 @@
+//! The program as a user meets it: what it writes, what it says, and how it ends.
+
+use std::path::Path;
+use std::process::{Command, Output};
+
+fn draw(words: &[&str]) -> Output {
+    Command::new(env!("CARGO_BIN_EXE_draw"))
+        .args(words)
+        .output()
+        .expect("the program runs")
+}
+
+fn stdout(words: &[&str]) -> String {
+    let output = draw(words);
+    assert!(output.status.success(), "{words:?}: {output:?}");
+    String::from_utf8(output.stdout).expect("UTF-8")
+}
+
+/// The exit status and what was said of a command that must fail and write nothing.
+fn failure(words: &[&str]) -> (i32, String) {
+    let output = draw(words);
+    assert!(output.stdout.is_empty(), "{words:?}");
+    let said = String::from_utf8(output.stderr).expect("UTF-8");
+    (output.status.code().expect("a status"), said)
+}
+
+#[test]
+fn a_bad_option_ends_with_2_and_one_sentence() {
+    let cases: [&[&str]; 6] = [
+        &["tours"],
+        &["--size", "3"],
+        &["--steps", "forty"],
+        &["torus", "--arms", "3"],
+        &["--texture", "swirl", "--twist", "much"],
+        &["--u", "0-1"],
+    ];
+    for words in cases {
+        let (status, said) = failure(&[words, &["-o", "-"]].concat());
+        assert_eq!(status, 2, "{words:?}");
+        assert!(said.starts_with("draw: "), "{said}");
+        assert_eq!(said.lines().count(), 1, "{said}");
+    }
+}
+
+#[test]
+fn a_fault_in_a_formula_is_pointed_at() {
+    let (status, said) = failure(&["--formula", "x = u; y = 2v; z = 0"]);
+    assert_eq!(status, 2);
+    let expected = "draw: in the formula, an operator or ';' belongs here
+    x = u; y = 2v; z = 0
+                ^
+";
+    assert_eq!(said, expected);
+}
+
+#[test]
+fn a_refusal_has_its_number_and_its_sentence() {
+    let cases: [(&[&str], &str); 5] = [
+        (&["--steps", "256x3"], "1: M or N outside 1 to 255"),
+        (&["--steps", "3x0"], "1: M or N outside 1 to 255"),
+        (
+            &["--texture", "swirl", "--twist", "65"],
+            "5: twist not finite or over 64 in magnitude, or arms over 64",
+        ),
+        (
+            &["--texture", "spiral", "--arms", "65"],
+            "5: twist not finite or over 64 in magnitude, or arms over 64",
+        ),
+        (
+            &["--texture", "swirl", "--spacing", "0.001"],
+            "6: rays or samples per ray above 65,536",
+        ),
+    ];
+    for (words, refusal) in cases {
+        let (status, said) = failure(&[words, &["-o", "-"]].concat());
+        assert_eq!(status, 1, "{words:?}");
+        assert_eq!(
+            said,
+            format!("draw: the library refuses this with {refusal}\n")
+        );
+    }
+}
+
+#[test]
+fn a_formula_that_is_refused_is_told_where() {
+    let sqrt = "x = u; y = sqrt(1 - v); z = 0";
+    let cases: [(&[&str], &str); 3] = [
+        (&["x = 1/u; y = v; z = 0"], "x = inf at u = 0.0, v = 0.0"),
+        (
+            &[sqrt, "--v", "0..2", "--steps", "3x4"],
+            "y = NaN at u = 0.0, v = 1.5",
+        ),
+        (
+            &["x = u; y = v; z = 2^u", "--u", "0..50", "--steps", "50x2"],
+            "z = 2199023255552.0 at u = 41.0, v = 0.0",
+        ),
+    ];
+    for (words, first) in cases {
+        let (status, said) = failure(&[&["-o", "-", "--formula"], words].concat());
+        assert_eq!(status, 1, "{words:?}");
+        let refusal = "4: a grid or row coordinate not finite or over 2^40 in magnitude";
+        let expected =
+            format!("draw: the library refuses this with {refusal}; the first is {first}\n");
+        assert_eq!(said, expected);
+    }
+}
+
+#[test]
+fn what_cannot_be_drawn_or_written_is_said() {
+    let (status, said) = failure(&["--formula", "x = 1; y = 2; z = 3", "-o", "-"]);
+    assert_eq!((status, said.lines().count()), (1, 1));
+    assert!(said.contains("seen at one place"), "{said}");
+    let huge = ["--texture", "swirl", "--spacing", "0.01", "-o", "-"];
+    let (status, said) = failure(&huge);
+    assert_eq!((status, said.lines().count()), (1, 1));
+    assert!(said.contains("widen --spacing"), "{said}");
+    let (status, said) = failure(&["-o", "no such folder/card.svg"]);
+    assert_eq!((status, said.lines().count()), (1, 1));
+    assert!(
+        said.contains("cannot write no such folder/card.svg"),
+        "{said}"
+    );
+}
+
+#[test]
+fn the_help_names_every_surface_and_option() {
+    let help = stdout(&["--help"]);
+    let words = [
+        "plane",
+        "cylinder",
+        "moebius-band",
+        "sphere",
+        "shell",
+        "torus",
+        "twisted-torus",
+        "klein-bottle",
+        "klein-eight",
+        "--formula",
+        "--u ",
+        "--v ",
+        "--steps",
+        "--texture",
+        "--spacing",
+        "--twist",
+        "--arms",
+        "--seams",
+        "--flipped",
+        "--plain",
+        "--output",
+        "--help",
+    ];
+    for word in words {
+        assert!(help.contains(word), "{word}");
+    }
+}
+
+/// The words of a command line in which values with spaces stand in single quotes.
+fn words(command: &str) -> Vec<String> {
+    let parts = command.split('\'').enumerate();
+    let words = parts.flat_map(|(i, part)| match i % 2 {
+        0 => part.split_whitespace().map(String::from).collect(),
+        _ => vec![part.to_string()],
+    });
+    words.collect()
+}
+
+/// The examples of a text: the words after `./draw` of each line that starts with it.
+fn examples(text: &str) -> Vec<Vec<String>> {
+    let commands = text
+        .lines()
+        .filter_map(|line| line.trim().strip_prefix("./draw "));
+    commands
+        .filter(|rest| !rest.starts_with(['[', ' ']))
+        .map(words)
+        .collect()
+}
+
+#[test]
+fn every_example_of_the_help_draws() {
+    let examples = examples(&stdout(&["--help"]));
+    assert!(examples.len() >= 13);
+    for mut example in examples {
+        if let Some(at) = example.iter().position(|word| word == "-o") {
+            example.truncate(at);
+        }
+        let card: Vec<_> = example
+            .iter()
+            .map(String::as_str)
+            .chain(["-o", "-"])
+            .collect();
+        assert!(stdout(&card).starts_with("<svg "), "{example:?}");
+    }
+}
+
+/// Whether two cards are equal but for a hundredth of a mm, which another machine's cosine may make.
+fn same(a: &str, b: &str) -> bool {
+    let parts =
+        |text: &str| -> Vec<String> { text.split([' ', ',', '"']).map(String::from).collect() };
+    let (a, b) = (parts(a), parts(b));
+    let near = |a: &str, b: &str| match (a.parse::<f64>(), b.parse::<f64>()) {
+        (Ok(a), Ok(b)) => (a - b).abs() < 0.011,
+        _ => a == b,
+    };
+    a.len() == b.len() && a.iter().zip(&b).all(|(a, b)| near(a, b))
+}
+
+#[test]
+fn each_picture_of_the_readme_is_what_its_command_draws() {
+    let root = Path::new(env!("CARGO_MANIFEST_DIR")).join("../..");
+    let read = |path: &str| std::fs::read_to_string(root.join(path)).expect(path);
+    let mut pictures = 0;
+    for mut example in examples(&read("README.md")) {
+        let picture = example.last().cloned().unwrap_or_default();
+        if !picture.starts_with("docs/pictures/") {
+            continue;
+        }
+        pictures += 1;
+        *example.last_mut().expect("a picture") = "-".into();
+        let card: Vec<_> = example.iter().map(String::as_str).collect();
+        assert!(same(&stdout(&card), &read(&picture)), "{picture}");
+    }
+    let files = std::fs::read_dir(root.join("docs/pictures")).expect("pictures");
+    assert_eq!(pictures, files.count());
+}

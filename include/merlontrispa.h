@@ -1,0 +1,390 @@
+/*
+ * Merlontrispa: verified surfaces, seams and pen lines for pen plotters.
+ *
+ * The functions of target/staticlib/libexports.a, which `rt staticlib exports` writes. Each is
+ * proved to end with an answer for every input, to read and write nothing past a list, and to
+ * answer what its definition in crates/exports/specs says, to the last bit.
+ *
+ * Grid. A surface is sampled in m steps of u and n steps of v, each 1 to 255. Point (u, v), u from
+ * 0 to m and v from 0 to n, has the number u * (n + 1) + v. The grid is one list of 3 * (m + 1) *
+ * (n + 1) doubles: x, y and z of each point, in the order of their numbers.
+ *
+ * Lists. A list is lent as its pointer and its length, which counts numbers, not points: a point
+ * takes three. `const` lists are only read. A list must be aligned as its type asks. A list that is
+ * written must overlap no other list of the call; two lists that are read may. A list of length 0
+ * is never looked at, so its pointer may be NULL.
+ *
+ * Answers. `refusal` is MT_OK, which is 0, or the number of a refusal. A refused answer has 0 in
+ * all other fields. Refusals 1 to 10 leave the written lists as they were, 11 and 12 leave them all
+ * zero. After success each place of a written list past what the answer's counts name is zero.
+ * Where more than one refusal applies, the lowest number is answered; 11 and 12 come as the walk
+ * along the curve meets them.
+ *
+ * The library allocates nothing and keeps nothing between calls: it calls no function but C's
+ * memset, memcpy and memmove, and has no data that it writes. So any number of threads may call it
+ * at once, if none touches a list that another's call writes. The numbers are IEEE 754 binary64
+ * under the default environment: round to nearest, subnormal numbers kept.
+ *
+ * Link: cc program.c target/staticlib/libexports.a
+ */
+#ifndef MERLONTRISPA_H
+#define MERLONTRISPA_H
+
+#include <stdbool.h>
+#include <stddef.h>
+#include <stdint.h>
+
+#ifdef __cplusplus
+extern "C" {
+#endif
+
+/* ---- Refusals -------------------------------------------------------------------------------- */
+
+/* Why a call is refused. Above each function stand the numbers that it can answer, in the order
+ * in which they are tested. M and N are the parameters m and n; the Rust is the original that
+ * the library is a port of. */
+enum mt_refusal {
+    /* No refusal. */
+    MT_OK = 0,
+    /* M or N outside 1 to 255. */
+    MT_STEPS = 1,
+    /* A grid not of 3 * (M+1) * (N+1) numbers; pairs not twice the marks; over 65,537 marks; a
+     * seam row not a multiple of 3 or over 65,536 points. */
+    MT_LENGTH = 2,
+    /* Triangles list under 6 * M * N, flipped list under 2 * (M+N), grid-line points under 6 *
+     * (M+1) * (N+1) or their starts under M+N+2, all counted in numbers. */
+    MT_ROOM = 3,
+    /* A grid or row coordinate not finite or over 2^40 in magnitude. */
+    MT_COORDINATE = 4,
+    /* Twist not finite or over 64 in magnitude, or arms over 64. */
+    MT_TEXTURE = 5,
+    /* Rays or samples per ray above 65,536. */
+    MT_COUNT = 6,
+    /* A cosine or sine not finite or outside -1 to 1. */
+    MT_DIRECTION = 7,
+    /* A mapping with steps 0 or over 65,535, offset not below steps, or index over steps; a ray,
+     * sample or line that is not there. */
+    MT_NOT_THERE = 8,
+    /* A mark neither 0 nor 1. */
+    MT_MARK = 9,
+    /* A marked coordinate not finite or over 1,048,576 in magnitude. */
+    MT_SAMPLE = 10,
+    /* `step_index` has no answer for an event's point; the Rust panics. */
+    MT_NO_STEP = 11,
+    /* A point pushed past what any of points, sides or fractions can hold, pending points
+     * counted, or a kept line past the starts. */
+    MT_FULL = 12
+};
+
+/* ---- Seams ----------------------------------------------------------------------------------- */
+
+/*
+ * A mapping says how the points of a row a meet those of a row b, each of steps + 1 points. It goes
+ * in as three numbers: `reverse`, whether the rows run against each other; `offset`, where in b the
+ * first point of a lies; `steps`.
+ */
+
+/* An index, or a refusal. */
+typedef struct mt_index_answer {
+    uint8_t refusal;
+    size_t index;
+} mt_index_answer;
+
+/* What a search found between two rows. */
+typedef struct mt_found_seam {
+    /* Whether the rows meet. If not, `reverse`, `offset` and `steps` are 0. */
+    bool found;
+    bool reverse;
+    size_t offset;
+    size_t steps;
+    /* How often the search asked whether two points are close, found or not. */
+    uint64_t comparisons;
+} mt_found_seam;
+
+/* A seam, or a refusal. */
+typedef struct mt_rows_answer {
+    uint8_t refusal;
+    mt_found_seam seam;
+} mt_rows_answer;
+
+/*
+ * Searches the seam between two rows of points, three numbers each: the first offset at which a
+ * fits b, forward before reverse. Rows whose ends are close (mt_vector_all_close) are tried at all
+ * offsets, others at 0 alone. Rows of different lengths, or of fewer than two points, do not meet,
+ * after 0 comparisons.
+ * Refusals: 2 (a row not a multiple of 3 or over 65,536 points), 4.
+ */
+mt_rows_answer mt_new_vector(const double *a, size_t a_len, const double *b, size_t b_len);
+
+/* Whether the rows of a mapping run against each other: `reverse`, whatever the other two are. */
+bool mt_is_reverse(bool reverse, size_t offset, size_t steps);
+
+/*
+ * The index of b that index a_idx of a meets: forward (offset + a_idx) mod steps, for offset 0
+ * a_idx itself; reverse (offset + steps - (a_idx mod steps)) mod steps, for offset 0 steps - a_idx.
+ * Refusals: 8 (steps 0 or over 65,535, offset not below steps, a_idx over steps).
+ */
+mt_index_answer mt_map_index(bool reverse, size_t offset, size_t steps, size_t a_idx);
+
+/*
+ * The index of a that index b_idx of b meets: forward (b_idx + steps - offset) mod steps, for
+ * offset 0 b_idx itself; reverse as mt_map_index.
+ * Refusals: 8 (steps 0 or over 65,535, offset not below steps, b_idx over steps).
+ */
+mt_index_answer mt_map_index_inv(bool reverse, size_t offset, size_t steps, size_t b_idx);
+
+/* ---- Triangles ------------------------------------------------------------------------------- */
+
+/* Both seams and the counts of triangles and of flipped pairs, or a refusal. */
+typedef struct mt_mesh_answer {
+    uint8_t refusal;
+    /* Between column u = 0 and column u = m. */
+    mt_found_seam u;
+    /* Between row v = 0 and row v = n. */
+    mt_found_seam v;
+    size_t triangles;
+    size_t pairs;
+} mt_mesh_answer;
+
+/*
+ * Finds the seams of a grid, joins them, and writes its triangles, three point numbers each, and
+ * the pairs of triangles that meet along a reversed seam, two triangle numbers each, (smaller,
+ * larger), ascending.
+ * Leaves 3 * triangles numbers in `triangles`, 2 * pairs in `flipped`, and zeros after them.
+ * Refusals: 1, 2, 3 (`triangles` under 6 * m * n or `flipped` under 2 * (m + n)), 4.
+ */
+mt_mesh_answer mt_triangulate_grid(const double *grid, size_t grid_len, size_t m, size_t n,
+                                   size_t *triangles, size_t triangles_len,
+                                   size_t *flipped, size_t flipped_len);
+
+/* ---- Lines ----------------------------------------------------------------------------------- */
+
+/*
+ * Lines stand in two lists: `points`, x, y and z of each point, and `starts`, the number of the
+ * first point of each line. A line goes up to the next start or, for the last line, to the count of
+ * points.
+ */
+
+/* The counts of points and of lines, or a refusal. */
+typedef struct mt_paths_answer {
+    uint8_t refusal;
+    size_t points;
+    size_t lines;
+} mt_paths_answer;
+
+/* The numbers of the point at which a line starts and of the one past its end, or a refusal. */
+typedef struct mt_span_answer {
+    uint8_t refusal;
+    size_t start;
+    size_t end;
+} mt_span_answer;
+
+/* A part of a list: where it begins and how long it is, both in numbers. */
+typedef struct mt_part {
+    size_t offset;
+    size_t length;
+} mt_part;
+
+/*
+ * Writes the lines of a grid: n + 1 along u, then m + 1 along v.
+ * Leaves 2 * (m + 1) * (n + 1) points in `points`, m + n + 2 starts, and zeros after them.
+ * Refusals: 1, 2, 3 (`points` under 6 * (m + 1) * (n + 1) or `starts` under m + n + 2), 4.
+ */
+mt_paths_answer mt_grid_paths(const double *grid, size_t grid_len, size_t m, size_t n,
+                              double *points, size_t points_len,
+                              size_t *starts, size_t starts_len);
+
+/*
+ * Where a line starts and ends, from the lists and the counts that mt_grid_paths or mt_trace_flat
+ * gave. The line is there if its index is below line_count, both counts fit their lists, and its
+ * start is at most its end, its end at most point_count. A line that is there may be empty.
+ * Refusals: 8 (the line is not there).
+ */
+mt_span_answer mt_line_span(const double *points, size_t points_len,
+                            const size_t *starts, size_t starts_len,
+                            size_t point_count, size_t line_count, size_t index);
+
+/*
+ * The part of `points` that a line occupies: `length` numbers from points + offset on, three for
+ * each point. A line that is not there (see mt_line_span) is the empty part, { 0, 0 }.
+ * Refusals: none.
+ */
+mt_part mt_get(const double *points, size_t points_len,
+               const size_t *starts, size_t starts_len,
+               size_t point_count, size_t line_count, size_t index);
+
+/* ---- Trace ----------------------------------------------------------------------------------- */
+
+/*
+ * Draws the lines of a curve where it crosses the sides of a grid's triangles. The curve is a list
+ * of samples: `pairs` has u and v of each, and `marks` is 1 for a point and 0 for a break, whose
+ * pair is not looked at. A line has at least two points.
+ * Each drawn point is (1 - t) * p + t * q for two grid points p and q. It takes three numbers of
+ * `points`, two of `sides` (the numbers of p and q) and one of `fractions` (t); a remainder too
+ * small for one holds none. Each line takes one of `starts`.
+ * Leaves so many numbers for each point and line of the answer in the lists, and zeros after them.
+ * Refusals: 1, 2 (a grid not of 3 * (m + 1) * (n + 1) numbers, pairs not twice the marks, over
+ * 65,537 marks), 4, 9, 10; 11 and 12, which leave all four lists zero.
+ */
+mt_paths_answer mt_trace_flat(const double *grid, size_t grid_len, size_t m, size_t n,
+                              const double *pairs, size_t pairs_len,
+                              const uint8_t *marks, size_t marks_len,
+                              double *points, size_t points_len,
+                              size_t *starts, size_t starts_len,
+                              size_t *sides, size_t sides_len,
+                              double *fractions, size_t fractions_len);
+
+/* A point of the parameter plane. */
+typedef struct mt_param_point {
+    double u;
+    double v;
+} mt_param_point;
+
+/* A sample of a curve: the mark 1 and a point, or the mark 0 of a break, whose point is not looked
+ * at. */
+typedef struct mt_sample {
+    uint8_t mark;
+    mt_param_point point;
+} mt_sample;
+
+/*
+ * What mt_trace_flat does, with the samples as records. It takes 1,114,129 bytes of stack for lists
+ * of its own, whatever the number of samples.
+ * Refusals: those of mt_trace_flat; 2 where there are over 65,537 samples.
+ */
+mt_paths_answer mt_trace_samples(const double *grid, size_t grid_len, size_t m, size_t n,
+                                 const mt_sample *samples, size_t samples_len,
+                                 double *points, size_t points_len,
+                                 size_t *starts, size_t starts_len,
+                                 size_t *sides, size_t sides_len,
+                                 double *fractions, size_t fractions_len);
+
+/* ---- Textures -------------------------------------------------------------------------------- */
+
+/*
+ * A texture goes in as its kind, spacing, twist and arms. MT_GRID has no rays and looks at none of
+ * the three; MT_SWIRL looks at spacing and twist; MT_SPIRAL, and any other kind, at spacing and
+ * arms. A spacing that is not finite, or at most 10^-9, becomes 1; 0 arms becomes 1.
+ */
+enum mt_texture {
+    /* The lines of the grid (mt_grid_paths). */
+    MT_GRID = 0,
+    /* Rays from the centre outward, turned as they go. */
+    MT_SWIRL = 1,
+    /* Arms from the edge inward. */
+    MT_SPIRAL = 2
+};
+
+/* How many rays a texture has, and samples on each, or a refusal. Samples are numbered 0 to the
+ * count, both included. */
+typedef struct mt_ray_counts {
+    uint8_t refusal;
+    size_t rays;
+    size_t samples;
+} mt_ray_counts;
+
+/* The angle of a sample, or a refusal. */
+typedef struct mt_ray_angle {
+    uint8_t refusal;
+    double angle;
+} mt_ray_angle;
+
+/* The u and v of a sample, or a refusal. */
+typedef struct mt_ray_point {
+    uint8_t refusal;
+    double u;
+    double v;
+} mt_ray_point;
+
+/*
+ * Rays and samples per ray on a surface of m by n cells: 0 and 0 for MT_GRID.
+ * Refusals: 1, 5, 6.
+ */
+mt_ray_counts mt_plan(uint8_t kind, double spacing, double twist, size_t arms, size_t m, size_t n);
+
+/*
+ * The angle of a sample of a ray, rays numbered from 0.
+ * Refusals: 1, 5, 6, 8 (a ray or sample that is not there; MT_GRID has none).
+ */
+mt_ray_angle mt_angle(uint8_t kind, double spacing, double twist, size_t arms,
+                      size_t m, size_t n, size_t ray, size_t sample);
+
+/*
+ * The u and v of a sample of a ray, from the cosine and the sine of its angle.
+ * Refusals: 1, 5, 6, 7, 8 (a ray or sample that is not there; MT_GRID has none).
+ */
+mt_ray_point mt_sample_point(uint8_t kind, double spacing, double twist, size_t arms,
+                             size_t m, size_t n, size_t ray, size_t sample,
+                             double cosine, double sine);
+
+/* ---- Vectors --------------------------------------------------------------------------------- */
+
+/* The functions from here on have no refusals. */
+
+/* A point or direction of three numbers. It goes in as its three components. */
+typedef struct mt_components {
+    double x;
+    double y;
+    double z;
+} mt_components;
+
+/* The sum of a and b, rounded once per component. */
+mt_components mt_vector_add(double ax, double ay, double az, double bx, double by, double bz);
+
+/* The difference of a and b, rounded once per component. */
+mt_components mt_vector_sub(double ax, double ay, double az, double bx, double by, double bz);
+
+/* The components of a times s, rounded once each. */
+mt_components mt_vector_mul_scalar(double ax, double ay, double az, double s);
+
+/* Whether the largest of the three absolute differences of a and b is below 10^-9. */
+bool mt_vector_all_close(double ax, double ay, double az, double bx, double by, double bz);
+
+/* ---- Numbers --------------------------------------------------------------------------------- */
+
+/* The magnitude of x. */
+double mt_abs(double x);
+
+/* Whether x is neither infinite nor a NaN. */
+bool mt_is_finite(double x);
+
+/* Whether the magnitude of x is at most top: never so for a NaN. */
+bool mt_at_most(double x, double top);
+
+/* The larger of x and y; x where they are equal, zeros of either sign too; the other one where
+ * one is a NaN. */
+double mt_max(double x, double y);
+
+/* x, or the end of lo to hi that it lies beyond; -0 lies between 0 and 1. Where hi is below lo
+ * the answer is hi. An end that is a NaN does not bound. */
+double mt_clamp(double x, double lo, double hi);
+
+/* -1 where x precedes y in the total order of IEEE 754, 1 where y precedes x, 0 where they are
+ * equal: -0 precedes 0. Of a NaN the answer means nothing. */
+int32_t mt_total_cmp(double x, double y);
+
+/* The greatest whole number at most x, at the nearest end of int64_t where it does not fit; 0
+ * for a NaN. */
+int64_t mt_floor_i64(double x);
+
+/* The least whole number at least x, at the nearest end of int64_t where it does not fit; 0 for
+ * a NaN. */
+int64_t mt_ceil_i64(double x);
+
+/* The whole number nearest to x, halves away from 0; -0.25 gives -0. */
+double mt_round(double x);
+
+/* The least whole number at least x; -0.25 gives -0. */
+double mt_ceil(double x);
+
+/* x without its fraction, at the nearest end of size_t where it does not fit; 0 for a NaN. */
+size_t mt_to_usize(double x);
+
+/* The double nearest to n, ties to even. */
+double mt_to_f64(size_t n);
+
+#ifdef __cplusplus
+}
+#endif
+
+#endif
