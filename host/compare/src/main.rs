@@ -46,6 +46,8 @@ mod random;
 #[cfg(larnt)]
 mod record;
 #[cfg(larnt)]
+mod records;
+#[cfg(larnt)]
 mod request;
 #[cfg(larnt)]
 mod run;

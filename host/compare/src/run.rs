@@ -4,7 +4,7 @@ use crate::difference::{Difference, Saved};
 use crate::driver::{Amount, Compared, Driver, Ended, FEW, Task};
 use crate::record::Record;
 use crate::request::{Asked, Request};
-use crate::{floats, lines, meshes, seams, textures, traces, vectors};
+use crate::{floats, lines, meshes, records, seams, textures, traces, vectors};
 use std::fs;
 use std::io::{self, Read};
 use std::panic;
@@ -21,7 +21,7 @@ pub struct Layer {
     pub compare: fn(&mut Driver) -> Compared,
 }
 
-pub const LAYERS: [Layer; 7] = [
+pub const LAYERS: [Layer; 8] = [
     Layer {
         name: "float",
         share: 15,
@@ -49,8 +49,13 @@ pub const LAYERS: [Layer; 7] = [
     },
     Layer {
         name: "trace",
-        share: 20,
+        share: 18,
         compare: traces::compare,
+    },
+    Layer {
+        name: "records",
+        share: 2,
+        compare: records::compare,
     },
     Layer {
         name: "texture",
@@ -226,7 +231,7 @@ mod tests {
         let Amount::Share { part, whole } = share(&request, &trace(), 20_000) else {
             panic!("a share");
         };
-        assert_eq!((part, whole), (4_000, 2_303_000));
+        assert_eq!((part, whole), (3_600, 2_303_000));
     }
 
     /// A written case finds its comparison by the name alone.

@@ -57,14 +57,14 @@ pub fn compare(driver: &mut Driver) -> Compared {
 }
 
 /// A grid in the library's form and, where it is taken, in the original's.
-struct Scene {
-    grid: Grid,
+pub struct Scene {
+    pub grid: Grid,
     points: Vec<Vector>,
     surface: Option<Surface>,
 }
 
 impl Scene {
-    fn new(grid: Grid) -> Self {
+    pub fn new(grid: Grid) -> Self {
         let points = vectors(&grid.numbers);
         let taken = grid_refusal(&grid, |_, _| true).is_none();
         let surface = taken.then(|| Surface::from_grid(points.clone(), grid.u_steps, grid.v_steps));
@@ -78,11 +78,11 @@ impl Scene {
 
 /// How long the lists are that are lent.
 #[derive(Debug, Clone, Copy)]
-struct Room {
+pub struct Room {
     points: usize,
     starts: usize,
     sides: usize,
-    fractions: usize,
+    pub fractions: usize,
 }
 
 case!(Room {
@@ -137,17 +137,17 @@ impl Curve {
 }
 
 #[derive(Clone)]
-struct Input {
+pub struct Input {
     scene: Rc<Scene>,
-    pairs: Vec<f64>,
-    marks: Vec<u8>,
+    pub pairs: Vec<f64>,
+    pub marks: Vec<u8>,
     room: Room,
     /// What the original's walk makes, unless the call is refused before it.
     walk: Result<Vec<Made>, Refusal>,
 }
 
 impl Input {
-    fn new(
+    pub fn new(
         scene: &Rc<Scene>,
         pairs: Vec<f64>,
         marks: Vec<u8>,
@@ -235,7 +235,7 @@ fn refusal(scene: &Scene, pairs: &[f64], marks: &[u8]) -> Option<Refusal> {
 }
 
 /// An answer, the four lists after the call, and the points made again from p, q and t.
-struct Output {
+pub struct Output {
     told: Result<Drawn, Refusal>,
     points: Vec<f64>,
     starts: Vec<usize>,
@@ -288,22 +288,34 @@ impl Value for Output {
     }
 }
 
-fn library(input: &Input) -> Output {
+pub fn library(input: &Input) -> Output {
+    let (pairs, marks) = (&input.pairs, &input.marks);
+    called(input, |grid, lists| {
+        trace_flat(
+            &grid.numbers,
+            grid.u_steps,
+            grid.v_steps,
+            pairs,
+            marks,
+            lists,
+        )
+    })
+}
+
+/// What a call of the library leaves.
+pub fn called(
+    input: &Input,
+    call: impl FnOnce(&Grid, TraceLists<'_>) -> Result<Drawn, Refusal>,
+) -> Output {
     let Scene { grid, points, .. } = &*input.scene;
     let mut output = Output::before(input.room);
-    output.told = trace_flat(
-        &grid.numbers,
-        grid.u_steps,
-        grid.v_steps,
-        &input.pairs,
-        &input.marks,
-        TraceLists {
-            points: &mut output.points,
-            starts: &mut output.starts,
-            sides: &mut output.sides,
-            fractions: &mut output.fractions,
-        },
-    );
+    let lists = TraceLists {
+        points: &mut output.points,
+        starts: &mut output.starts,
+        sides: &mut output.sides,
+        fractions: &mut output.fractions,
+    };
+    output.told = call(grid, lists);
     if let Ok(drawn) = output.told {
         let made = output.sides.as_chunks().0.iter().zip(&output.fractions);
         let made = made.take(drawn.points).map(|(&[p, q], &t)| {
@@ -316,7 +328,7 @@ fn library(input: &Input) -> Output {
     output
 }
 
-fn original(input: &Input) -> Output {
+pub fn original(input: &Input) -> Output {
     let mut output = Output::before(input.room);
     let walk = match &input.walk {
         Ok(walk) => walk,
@@ -364,7 +376,7 @@ fn original(input: &Input) -> Output {
 }
 
 /// A grid that nothing joins.
-fn bent(u_steps: usize, v_steps: usize) -> Grid {
+pub fn bent(u_steps: usize, v_steps: usize) -> Grid {
     Grid::new(u_steps, v_steps, |i| {
         let (u, v) = (i / (v_steps + 1), i % (v_steps + 1));
         [u as f64 + 0.1, v as f64 * 1.7, (3 * u + v * v) as f64]
@@ -373,14 +385,14 @@ fn bent(u_steps: usize, v_steps: usize) -> Grid {
 
 /// Some grids of all kinds, now and then with coordinates at their limits. Another takes the place of one
 /// of them at every thousandth input or so.
-struct Scenes<S> {
+pub struct Scenes<S> {
     scenes: Vec<Rc<Scene>>,
     most: usize,
     steps: S,
 }
 
 impl<S: Fn(&mut Random) -> usize> Scenes<S> {
-    fn new(most: usize, steps: S) -> Self {
+    pub fn new(most: usize, steps: S) -> Self {
         Self {
             scenes: Vec::new(),
             most,
@@ -450,7 +462,7 @@ fn steps_between_edges(scene: &Rc<Scene>) -> impl Iterator<Item = Input> {
 }
 
 /// Lists that hold what is needed and a little more.
-fn spare(need: Need, more: usize) -> Room {
+pub fn spare(need: Need, more: usize) -> Room {
     Room {
         points: 3 * need.points + more,
         starts: need.lines + more,
@@ -460,7 +472,7 @@ fn spare(need: Need, more: usize) -> Room {
 }
 
 /// Samples on one of the scenes, and lists that just hold what is needed, just do not, or have more room.
-fn traced(random: &mut Random, scenes: &mut Scenes<impl Fn(&mut Random) -> usize>) -> Input {
+pub fn traced(random: &mut Random, scenes: &mut Scenes<impl Fn(&mut Random) -> usize>) -> Input {
     let scene = scenes.any(random);
     let (pairs, marks) = any_samples(random, scene.grid.u_steps, scene.grid.v_steps);
     Input::new(scene, pairs, marks, |need| any_room(random, need))
@@ -563,7 +575,7 @@ fn any_coordinate(random: &mut Random, steps: usize, far: f64) -> f64 {
 }
 
 /// Any set of the faults that are refused before the walk, or none.
-fn faulty(random: &mut Random) -> Input {
+pub fn faulty(random: &mut Random) -> Input {
     let (m, n) = (1 + random.below(3) as usize, 1 + random.below(3) as usize);
     let mut grid = any_grid(random, m, n);
     if random.below(2) == 0 {
