@@ -213,7 +213,8 @@ fn grid(point: impl Fn(f64, f64) -> [f64; 3]) -> Vec<f64> {
     us.flat_map(|(u, v)| point(u as f64, v as f64)).collect()
 }
 
-fn vectors(numbers: &[f64]) -> Vec<Vector> {
+/// Points of three numbers each in the original's type.
+pub fn vectors(numbers: &[f64]) -> Vec<Vector> {
     let points = numbers.as_chunks().0.iter();
     points.map(|&[x, y, z]| Vector::new(x, y, z)).collect()
 }

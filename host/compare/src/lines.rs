@@ -6,6 +6,7 @@ use crate::grids::{Grid, any_grid, any_steps};
 use crate::inputs::whole;
 use crate::lists::{fewer_cells, fill, floats, grid_refusal, length, numbers, spoil};
 use crate::random::Random;
+use crate::record::{Call, Record, Recorded};
 use crate::seams::vectors;
 use merlontrispa::{Drawn, Lines, Refusal, grid_paths};
 use original::{ParametricSurfaceTexture, Paths, Surface, Vector};
@@ -242,6 +243,62 @@ fn any_lists(random: &mut Random) -> Listed {
         starts,
         drawn: Drawn { points, lines },
         index,
+    }
+}
+
+/// Grids, and lines of any lists, for the record.
+pub fn record(record: &mut Record) {
+    let mut random = record.random();
+    for _ in 0..4_000 {
+        record.offer(drawable(&mut random).recorded());
+        record.offer(faulty(&mut random).recorded());
+    }
+    let grid = any_grid(&mut random, 12, 9);
+    let many = Input {
+        grid,
+        points: 6 * 13 * 10 + 2,
+        starts: 24,
+    };
+    record.keep(many.recorded().reaching("many cells"));
+    for _ in 0..40 {
+        record.keep(any_lists(&mut random).recorded());
+    }
+}
+
+impl Input {
+    fn recorded(&self) -> Recorded {
+        let Grid {
+            u_steps,
+            v_steps,
+            ref numbers,
+        } = self.grid;
+        let (told, (points, starts)) = original(self);
+        Recorded::new(
+            Call::GridPaths,
+            told.err(),
+            &[u_steps as u64, v_steps as u64],
+        )
+        .floats(numbers)
+        .told(told.map(|drawn| [drawn.points, drawn.lines]))
+        .floats(&points)
+        .numbers(&starts)
+    }
+}
+
+impl Listed {
+    fn recorded(&self) -> Recorded {
+        let Drawn { points, lines } = self.drawn;
+        let numbers = [points, lines, self.index].map(|n| n as u64);
+        let told = self.span();
+        let last = told.is_ok() && self.index + 1 == lines;
+        Recorded::new(Call::Line, told.err(), &numbers)
+            .held_to_scope()
+            .floats(&self.points)
+            .numbers(&self.starts)
+            .told(told)
+            .floats(&self.part())
+            .reaching_if(last, "the last line")
+            .reaching_if(told.is_ok_and(|[start, end]| start == end), "an empty line")
     }
 }
 

@@ -3,6 +3,7 @@
 //!     compare [--seed NUMBER] [--cases NUMBER | --total NUMBER] [--shrink SECONDS] [--write FILE] [LAYER..]
 //!     compare --replay FILE
 //!     compare --bytes FILE [LAYER..]
+//!     compare [--seed NUMBER] --record FILE
 //!
 //! Without a number each comparison takes a number of random inputs of its own. `--cases` says how many
 //! each takes; one on large grids takes its share of them. `--total` says how many all take together: the
@@ -13,6 +14,7 @@
 //! `--shrink` says, printed by its bits, and written to difference.txt or the file that `--write` names.
 //! `--replay` runs the written case alone: status 1 while it differs, 0 when it does no longer. `--bytes`
 //! runs one case that the bytes of a file choose (`-` is stdin), as a fuzzer wants it.
+//! `--record` writes the cases that `crates/replay` runs, and says what they reach.
 //! Where the sources of the original are absent nothing is compared, and the status is 2.
 
 use std::process::ExitCode;
@@ -41,6 +43,8 @@ mod planted;
 mod progress;
 #[cfg(larnt)]
 mod random;
+#[cfg(larnt)]
+mod record;
 #[cfg(larnt)]
 mod records;
 #[cfg(larnt)]

@@ -5,7 +5,8 @@ use crate::driver::{Compared, Driver};
 use crate::grids::{Grid, Joining, any_grid, any_steps};
 use crate::lists::{fewer_cells, fill, grid_refusal, length, numbers, spoil};
 use crate::random::Random;
-use crate::seams::{found, mapping, vectors};
+use crate::record::{Call, Record, Recorded};
+use crate::seams::{found, kind, mapping, seam_words, vectors};
 use merlontrispa::{Mapping, Refusal, Seams, Triangulation, triangulate_grid};
 use original::{Surface, Vector};
 
@@ -229,6 +230,52 @@ fn faulty(random: &mut Random) -> Input {
     input.flipped = length(random, input.flipped);
     spoil(random, &mut input.grid);
     input
+}
+
+/// Grids for the record.
+pub fn record(record: &mut Record) {
+    for input in joinings() {
+        record.offer(input.recorded());
+    }
+    let mut random = record.random();
+    for _ in 0..4_000 {
+        record.offer(planted(&mut random).recorded());
+        record.offer(faulty(&mut random).recorded());
+    }
+    for _ in 0..2 {
+        let many = exact(any_grid(&mut random, 12, 9));
+        record.keep(many.recorded().reaching("many cells"));
+    }
+}
+
+impl Input {
+    fn recorded(&self) -> Recorded {
+        let Grid {
+            u_steps,
+            v_steps,
+            ref numbers,
+        } = self.grid;
+        let (told, [triangles, flipped]) = original(self);
+        let steps = [u_steps as u64, v_steps as u64];
+        let case = Recorded::new(Call::TriangulateGrid, told.err(), &steps).floats(numbers);
+        let case = match told {
+            Err(refusal) => case.told(Err(refusal)).words(&[]).words(&[]),
+            Ok(told) => {
+                let Seams { u, v } = told.seams;
+                let joined = format!("u {}, v {}", kind(u.mapping), kind(v.mapping));
+                case.told(Ok([told.triangles, told.flipped]))
+                    .words(&seam_words(&u))
+                    .words(&seam_words(&v))
+                    .reaching(&joined)
+                    .reaching_if(
+                        told.triangles < 2 * u_steps * v_steps,
+                        "a triangle left out",
+                    )
+                    .reaching_if(told.flipped > 0, "flipped pairs")
+            }
+        };
+        case.numbers(&triangles).numbers(&flipped)
+    }
 }
 
 #[cfg(test)]

@@ -3,7 +3,8 @@
 use crate::run::{LAYERS, Layer};
 use std::time::Duration;
 
-const SEED: u64 = 20_260_526;
+/// The seed where none is asked for.
+pub const SEED: u64 = 20_260_526;
 
 /// Which inputs are compared.
 pub enum Asked {
@@ -17,6 +18,8 @@ pub enum Asked {
     Replay(String),
     /// The one that the bytes of this file choose.
     Bytes(String),
+    /// None: those of `crates/replay` are written to this file.
+    Record(String),
 }
 
 pub struct Request {
@@ -61,6 +64,7 @@ impl Request {
             "--write" => self.file = value()?,
             "--replay" => self.asked = Asked::Replay(value()?),
             "--bytes" => self.asked = Asked::Bytes(value()?),
+            "--record" => self.asked = Asked::Record(value()?),
             _ => match LAYERS.into_iter().find(|layer| layer.name == word) {
                 Some(layer) => self.layers.push(layer),
                 None => return Err(format!("there is no layer {word}; {}", usage())),
@@ -78,7 +82,7 @@ fn number(flag: &str, word: String) -> Result<u64, String> {
 fn usage() -> String {
     let layers = LAYERS.map(|layer| layer.name).join(" ");
     format!(
-        "usage: compare [--seed NUMBER] [--cases NUMBER | --total NUMBER | --replay FILE | --bytes FILE] \
-         [--shrink SECONDS] [--write FILE] [LAYER..], of {layers}"
+        "usage: compare [--seed NUMBER] [--cases NUMBER | --total NUMBER | --replay FILE | --bytes FILE | \
+         --record FILE] [--shrink SECONDS] [--write FILE] [LAYER..], of {layers}"
     )
 }

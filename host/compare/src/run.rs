@@ -2,6 +2,7 @@
 
 use crate::difference::{Difference, Saved};
 use crate::driver::{Amount, Compared, Driver, Ended, FEW, Task};
+use crate::record::Record;
 use crate::request::{Asked, Request};
 use crate::{floats, lines, meshes, records, seams, textures, traces, vectors};
 use std::fs;
@@ -75,6 +76,9 @@ pub fn run(words: impl Iterator<Item = String>) -> ExitCode {
 }
 
 fn perform(request: &Request) -> Result<ExitCode, String> {
+    if let Asked::Record(file) = &request.asked {
+        return record(request.seed, file);
+    }
     let mut driver = Driver::new(task(request)?, request.seed, request.shrinking);
     println!("compare: seed {}", request.seed);
     for layer in &request.layers {
@@ -101,6 +105,19 @@ fn perform(request: &Request) -> Result<ExitCode, String> {
     Ok(ExitCode::SUCCESS)
 }
 
+/// Writes the recorded answers of a seed, and says what they reach.
+fn record(seed: u64, file: &str) -> Result<ExitCode, String> {
+    let record = Record::new(seed);
+    print!("compare: seed {seed}\n{}", record.summary());
+    let missing = record.missing();
+    if !missing.is_empty() {
+        return Err(format!("no case reaches {}", missing.join("; ")));
+    }
+    fs::write(file, record.text()).map_err(|fault| format!("{file}: {fault}"))?;
+    println!("compare: {} cases recorded", record.len());
+    Ok(ExitCode::SUCCESS)
+}
+
 /// A fault of the file that has a written case.
 fn of_file(request: &Request, fault: String) -> String {
     match &request.asked {
@@ -111,7 +128,7 @@ fn of_file(request: &Request, fault: String) -> String {
 
 fn task(request: &Request) -> Result<Task, String> {
     Ok(match &request.asked {
-        Asked::Own | Asked::Total(_) => Task::Run(Amount::Own),
+        Asked::Own | Asked::Total(_) | Asked::Record(_) => Task::Run(Amount::Own),
         Asked::Cases(cases) => Task::Run(Amount::Each(*cases)),
         Asked::Replay(file) => {
             let text = fs::read_to_string(file).map_err(|fault| format!("{file}: {fault}"))?;

@@ -4,6 +4,7 @@ use crate::case::{Smaller, case, plainer_everywhere, stretches, without};
 use crate::driver::{Compared, Driver};
 use crate::inputs::{COORDINATE_EDGES, COORDINATE_FAULTS, EPS, coordinates_fit, near, whole};
 use crate::random::Random;
+use crate::record::{Call, Record, Recorded};
 use merlontrispa::{Mapping, Refusal, Seam};
 use original::{CyclicMapping, Vector};
 use std::collections::HashSet;
@@ -387,6 +388,100 @@ fn faulty(random: &mut Random) -> Rows {
         }
     }
     rows
+}
+
+/// Mappings and rows for the record.
+pub fn record(record: &mut Record) {
+    for direction in [Direction::AToB, Direction::BToA] {
+        let mut random = record.random();
+        for _ in 0..40 {
+            let (mapping, index) = any_mapping(&mut random);
+            record.keep(direction.recorded(mapping, index));
+        }
+    }
+    let x = |xs: &[f64]| xs.iter().flat_map(|&x| [x, 0.0, 0.0]).collect();
+    let zeros = |a, b| Rows {
+        a: vec![0.0; a],
+        b: vec![0.0; b],
+    };
+    for rows in [
+        Rows {
+            a: x(&[0.0, 1.0, 2.0, 3.0]),
+            b: x(&[3.0, 2.0, 1.0, 0.0]),
+        },
+        Rows {
+            a: x(&[0.0, 1.0, 2.0, 0.0]),
+            b: x(&[1.0, 2.0, 0.0, 1.0]),
+        },
+        Rows {
+            a: x(&[0.0, 1.0, 2.0]),
+            b: x(&[1.0, 2.0, 3.0]),
+        },
+        zeros(196_608, 3),
+        zeros(196_611, 0),
+        zeros(0, 0),
+        zeros(3, 3),
+        zeros(6, 9),
+    ] {
+        record.keep(rows.recorded());
+    }
+    let mut random = record.random();
+    for _ in 0..10_000 {
+        record.offer(planted(&mut random).recorded());
+        record.offer(faulty(&mut random).recorded());
+    }
+}
+
+/// How a mapping is recorded: its direction, 0 where there is none, offset and steps.
+fn words(mapping: Option<Mapping>) -> [u64; 3] {
+    match mapping {
+        None => [0; 3],
+        Some(Mapping::Forward { offset, steps }) => [1, offset as u64, steps as u64],
+        Some(Mapping::Reverse { offset, steps }) => [2, offset as u64, steps as u64],
+    }
+}
+
+/// The name of a direction and an offset.
+pub fn kind(mapping: Option<Mapping>) -> &'static str {
+    match mapping {
+        None => "none",
+        Some(Mapping::Forward { offset: 0, .. }) => "forward at 0",
+        Some(Mapping::Forward { .. }) => "forward at an offset",
+        Some(Mapping::Reverse { offset: 0, .. }) => "reverse at 0",
+        Some(Mapping::Reverse { .. }) => "reverse at an offset",
+    }
+}
+
+/// How a seam is recorded: its mapping and the comparisons.
+pub fn seam_words(seam: &Seam) -> Vec<u64> {
+    [&words(seam.mapping)[..], &[seam.comparisons]].concat()
+}
+
+impl Direction {
+    fn recorded(self, mapping: Mapping, index: usize) -> Recorded {
+        let call = match self {
+            Self::AToB => Call::MapIndex,
+            Self::BToA => Call::MapIndexInv,
+        };
+        let told = self.original(mapping, index);
+        let [direction, offset, steps] = words(Some(mapping));
+        let numbers = [direction - 1, offset, steps, index as u64];
+        Recorded::new(call, told.err(), &numbers).told(told.map(|index| [index, 0]))
+    }
+}
+
+impl Rows {
+    fn recorded(&self) -> Recorded {
+        let told = original_search(self);
+        let case = Recorded::new(Call::NewVector, told.err(), &[])
+            .floats(&self.a)
+            .floats(&self.b)
+            .told(told.map(|_| [0, 0]));
+        match told {
+            Ok(seam) => case.words(&seam_words(&seam)).reaching(kind(seam.mapping)),
+            Err(_) => case,
+        }
+    }
 }
 
 #[cfg(test)]

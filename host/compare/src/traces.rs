@@ -7,6 +7,7 @@ use crate::inputs::{EPS, near};
 use crate::lines::{coordinates, firsts};
 use crate::lists::{as_far, fill, floats, grid_refusal, numbers, spoil};
 use crate::random::Random;
+use crate::record::{Call, Record, Recorded};
 use crate::seams::vectors;
 use crate::text::{Text, Words};
 use crate::value::{Show, Value};
@@ -608,6 +609,115 @@ pub fn faulty(random: &mut Random) -> Input {
     Input::new(&Rc::new(Scene::new(grid)), pairs, marks, |need| {
         any_room(random, need)
     })
+}
+
+/// Traces for the record.
+pub fn record(record: &mut Record) {
+    let cell = Rc::new(Scene::new(bent(1, 1)));
+    for [from, to] in [
+        [[0.0, 0.25], [0.75, 0.25]],
+        [[0.0, 0.0], [0.5, -0.5]],
+        [[0.25, 0.25], [0.75, 0.75]],
+        [[1.0, FAR], [1.0, 1.0 + EPS]],
+    ] {
+        let input = Input::new(&cell, [from, to].concat(), vec![1, 1], |need| {
+            spare(need, 1)
+        });
+        record.keep(input.recorded());
+    }
+    for count in [65_537, 65_538] {
+        let breaks = Input::new(&cell, vec![0.0; 2 * count], vec![0; count], |need| {
+            spare(need, 1)
+        });
+        record.keep(breaks.recorded());
+    }
+    let mut random = record.random();
+    let mut few = Scenes::new(60, |random: &mut Random| 1 + random.below(4) as usize);
+    for _ in 0..20_000 {
+        record.offer(traced(&mut random, &mut few).recorded());
+        record.offer(faulty(&mut random).recorded());
+    }
+    let mut many = Scenes::new(2, |random: &mut Random| 8 + random.below(4) as usize);
+    for _ in 0..3 {
+        record.keep(
+            traced(&mut random, &mut many)
+                .recorded()
+                .reaching("many cells"),
+        );
+    }
+}
+
+impl Input {
+    fn recorded(&self) -> Recorded {
+        let Grid {
+            u_steps,
+            v_steps,
+            ref numbers,
+        } = self.scene.grid;
+        let output = original(self);
+        let told = output.told;
+        let case = Recorded::new(
+            Call::TraceFlat,
+            told.err(),
+            &[u_steps as u64, v_steps as u64],
+        )
+        .floats(numbers)
+        .floats(&self.pairs)
+        .bytes(&self.marks)
+        .told(told.map(|drawn| [drawn.points, drawn.lines]))
+        .floats(&output.points)
+        .numbers(&output.starts)
+        .numbers(&output.sides)
+        .floats(&output.fractions);
+        match told {
+            Ok(drawn) => self.reached(case, drawn),
+            Err(_) => case,
+        }
+    }
+
+    /// What a trace that is drawn reaches: the kinds of its events, by their sides, and how its lines end.
+    fn reached(&self, case: Recorded, drawn: Drawn) -> Recorded {
+        let walk = self.walk.as_deref().unwrap_or_default();
+        let v_steps = self.scene.grid.v_steps;
+        let sides: Vec<_> = walk.iter().filter_map(|made| Some(made.point?.1)).collect();
+        let steps = samples(&self.pairs, &self.marks);
+        let steps: Vec<_> = steps
+            .windows(2)
+            .filter_map(|pair| Some([pair[0]?, pair[1]?]))
+            .collect();
+        let whole = |x: f64| x == x.trunc();
+        let at_end = |&[from, to]: &[(f64, f64); 2]| {
+            [from, to]
+                .iter()
+                .any(|&(u, v)| whole(u) || whole(v) || whole(u + v))
+        };
+        // From a line down: the numerator is 0 and the denominator negative.
+        let at_minus_zero = |&[from, to]: &[(f64, f64); 2]| {
+            whole(from.0) && to.0 < from.0 || whole(from.1) && to.1 < from.1
+        };
+        let kept = walk.iter().filter(|made| made.close != Some(true)).count();
+        case.reaching_if(sides.iter().any(|side| side.q == side.p + 1), "a U event")
+            .reaching_if(
+                sides.iter().any(|side| side.q == side.p + v_steps + 1),
+                "a V event",
+            )
+            .reaching_if(
+                sides.iter().any(|side| side.p == side.q + v_steps),
+                "a diagonal event",
+            )
+            .reaching_if(
+                drawn.points > 0 && steps.iter().any(at_end),
+                "an event at an end",
+            )
+            .reaching_if(
+                drawn.points > 0 && steps.iter().any(at_minus_zero),
+                "an event at -0",
+            )
+            .reaching_if(kept < walk.len(), "a point close to the last one")
+            .reaching_if(drawn.points < kept, "a line of one point")
+            .reaching_if(drawn.lines > 1, "several lines")
+            .reaching_if(drawn.lines > 0 && self.marks.contains(&0), "a break")
+    }
 }
 
 #[cfg(test)]
