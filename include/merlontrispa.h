@@ -234,6 +234,31 @@ mt_paths_answer mt_trace_flat(const double *grid, size_t grid_len, size_t m, siz
                               size_t *sides, size_t sides_len,
                               double *fractions, size_t fractions_len);
 
+/* A point of the parameter plane. */
+typedef struct mt_param_point {
+    double u;
+    double v;
+} mt_param_point;
+
+/* A sample of a curve: the mark 1 and a point, or the mark 0 of a break, whose point is not looked
+ * at. */
+typedef struct mt_sample {
+    uint8_t mark;
+    mt_param_point point;
+} mt_sample;
+
+/*
+ * What mt_trace_flat does, with the samples as records. It takes 1,114,129 bytes of stack for lists
+ * of its own, whatever the number of samples.
+ * Refusals: those of mt_trace_flat; 2 where there are over 65,537 samples.
+ */
+mt_paths_answer mt_trace_samples(const double *grid, size_t grid_len, size_t m, size_t n,
+                                 const mt_sample *samples, size_t samples_len,
+                                 double *points, size_t points_len,
+                                 size_t *starts, size_t starts_len,
+                                 size_t *sides, size_t sides_len,
+                                 double *fractions, size_t fractions_len);
+
 /* ---- Textures -------------------------------------------------------------------------------- */
 
 /*

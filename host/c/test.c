@@ -133,6 +133,28 @@ static void traces(void) {
     EXPECT(drawn.refusal == MT_OK && drawn.points == 0 && drawn.lines == 0);
 }
 
+static void samples(void) {
+    const mt_sample curve[] = {{1, {0, 0.25}}, {1, {0.75, 0.25}}, {0, {NAN, NAN}}};
+    const mt_sample wrong[] = {{1, {0, 0.25}}, {2, {0.75, 0.25}}};
+    double points[7] = {9, 9, 9, 9, 9, 9, 9}, fractions[3] = {9, 9, 9};
+    size_t starts[2] = {9, 9}, sides[5] = {9, 9, 9, 9, 9};
+
+    mt_paths_answer drawn = mt_trace_samples(LENT(cell), 1, 1, LENT(wrong),
+                                             LENT(points), LENT(starts), LENT(sides), LENT(fractions));
+    EXPECT(drawn.refusal == MT_MARK && drawn.points == 0 && drawn.lines == 0);
+    EXPECT(SAME(sides, (size_t[]){9, 9, 9, 9, 9}) && SAME(fractions, (double[]){9, 9, 9}));
+
+    drawn = mt_trace_samples(LENT(cell), 1, 1, LENT(curve),
+                             LENT(points), LENT(starts), LENT(sides), LENT(fractions));
+    EXPECT(drawn.refusal == MT_OK && drawn.points == 2 && drawn.lines == 1);
+    EXPECT(SAME(points, (double[]){0, 0.25, 0, 0.75, 0.25, 0, 0}));
+    EXPECT(SAME(starts, (size_t[]){0, 0}) && SAME(sides, (size_t[]){0, 1, 2, 1, 0}));
+    EXPECT(SAME(fractions, (double[]){0.25, 0.25, 0}));
+
+    drawn = mt_trace_samples(LENT(cell), 1, 1, NULL, 0, NULL, 0, NULL, 0, NULL, 0, NULL, 0);
+    EXPECT(drawn.refusal == MT_OK && drawn.points == 0 && drawn.lines == 0);
+}
+
 static void textures(void) {
     mt_ray_counts plan = mt_plan(MT_GRID, 0, 0, 0, 4, 4);
     EXPECT(plan.refusal == MT_OK && plan.rays == 0 && plan.samples == 0);
@@ -187,6 +209,7 @@ int main(void) {
     triangles();
     lines();
     traces();
+    samples();
     textures();
     vectors();
     numbers();

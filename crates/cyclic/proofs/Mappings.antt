@@ -263,6 +263,23 @@ reverse-next o n j k h b e = go (reverse-step o n j (image (Reverse o n) j) (ima
     go (inl w) = inr (omega arith, omega arith)
     go (inr w) = inl (omega arith, omega arith)
 
+-- the image of index 0, where the offset is not 0
+pub forward-first : (o n : ℕ) → o < n → (o ≡ 0 → ⊥) → o ≡ image (Forward o n) 0
+forward-first o n h f = go (forward-at o n 0 h (omega arith))
+  where
+    go : ForwardAt o n 0 (image (Forward o n) 0) → o ≡ image (Forward o n) 0
+    go (inl w) = absurd (f (w .0))
+    go (inr (inl w)) = omega arith
+    go (inr (inr w)) = absurd (omega arith)
+
+pub reverse-first : (o n : ℕ) → o < n → (o ≡ 0 → ⊥) → o ≡ image (Reverse o n) 0
+reverse-first o n h f = go (reverse-at o n 0 h (omega arith))
+  where
+    go : ReverseAt o n 0 (image (Reverse o n) 0) → o ≡ image (Reverse o n) 0
+    go (inl w) = absurd (f (w .0))
+    go (inr (inl w)) = omega arith
+    go (inr (inr w)) = absurd (omega arith)
+
 -- What the test of an index shows
 
 pub and-both : (a b : Bool) → a && b ≡ true → (a ≡ true) × (b ≡ true)

@@ -1,16 +1,17 @@
 -- What is left of a search after a comparison, an offset or the last offset: the loops' invariants say that the whole answer is the answer of what is left.
 -- Assumes nothing.
-use Prim.Native.Nat.{ℕ, suc, _+_, _-_, _*_, _≤_}
+use Prim.Native.Nat.{ℕ, zero, suc, _+_, _-_, _*_, _≤_, _<_}
 use native.Mathlib.Omega.{arith}
-use mathlib.Core.Path.{_≡_, refl, sym, ap, _∙_}
+use mathlib.Core.Path.{_≡_, refl, sym, ap, subst, _∙_}
 use mathlib.Core.Bool.{Bool, true, false, not}
-use borrow.Author.Tests.{not-true, not-false}
+use lib.Dec.{ltb}
+use borrow.Author.Tests.{not-true, not-false, ltb-true, ltb-false}
 use Rattle.cyclic.specs.declared.mapping.CyclicMapping.{CyclicMapping}
 use Rattle.cyclic.specs.declared.mapping.CyclicMapping.the-variants.{Forward, Reverse}
 use Rattle.cyclic.specs.declared.seam.Seam.the-variants.{Joined, Unjoined}
 use Rattle.cyclic.specs.declared.seam.Tried.{Tried}
-use Rattle.cyclic.specs.Mapping.{image, stepsOf, Usable}
-use Rattle.cyclic.proofs.Mappings.{image-within}
+use Rattle.cyclic.specs.Mapping.{pick, image, stepsOf, Usable}
+use Rattle.cyclic.proofs.Mappings.{image-within, forward-zero, reverse-zero}
 use Rattle.cyclic.specs.Search.{Row, Closeness, tried, searched, tryFrom, closed, searchFrom, searchRows}
 
 -- a comparison whose answer is tested by `!`
@@ -20,13 +21,16 @@ held e h = sym e ∙ not-false _ h
 pub failed : {r x : Bool} → r ≡ x → not r ≡ true → x ≡ false
 failed e h = sym e ∙ not-true _ h
 
--- Point j of a is next, with point k of b, and c comparisons were made of which c₀ before the first point
-pub record Trying (close : Closeness) (a b : Row) (m : CyclicMapping) (c₀ c j k : ℕ) : Type 0 where
+-- The first r points of a are close to their images at offset 0
+abbrev pub Run : Closeness → Row → Row → ℕ → Bool → ℕ → Type 0
+Run close a b n reverse r = (j : ℕ) → j < r → close (a j) (b (pick reverse (n - j) j)) ≡ true
+
+-- Point j of a is next, with point k of b; c comparisons were made before the first point
+pub record Trying (close : Closeness) (a b : Row) (m : CyclicMapping) (c j k : ℕ) : Type 0 where
   pub point : j ≤ stepsOf m
   pub other : k ≤ stepsOf m
   pub mapped : k ≡ image m j
-  pub counted : c ≡ c₀ + j
-  pub rest : tryFrom close a b m (stepsOf m + 1) 0 c₀ ≡ tryFrom close a b m (stepsOf m + 1 - j) j c
+  pub rest : tryFrom close a b m (stepsOf m + 1) 0 c ≡ tryFrom close a b m (stepsOf m + 1 - j) j (c + j)
 
 -- Offset o of those below e is next, after c comparisons
 pub record Searching (close : Closeness) (a b : Row) (n e c o : ℕ) : Type 0 where
@@ -53,36 +57,73 @@ module _ (close : Closeness) (a b : Row) where
       go true h = let g : t .made ≡ 2 = ap (λ (y : Tried). y .made) (e ∙ second-tried n h) in omega arith
       go false h = let g : t .made ≡ 1 = ap (λ (y : Tried). y .made) (e ∙ first-only n h) in omega arith
 
+  -- Points that are known to be close
+
+  pub no-run : (n : ℕ) (reverse : Bool) → Run close a b n reverse 0
+  no-run n reverse j l = absurd (omega arith)
+
+  longer-run : (n : ℕ) (reverse : Bool) (r : ℕ) → Run close a b n reverse r → close (a r) (b (pick reverse (n - r) r)) ≡ true → Run close a b n reverse (r + 1)
+  longer-run n reverse r f h j l = go (ltb j r) refl
+    where
+      go : (t : Bool) → ltb j r ≡ t → close (a j) (b (pick reverse (n - j) j)) ≡ true
+      go true e = f j (ltb-true j r e)
+      go false e = let g = ltb-false j r e in subst (λ (i : ℕ). close (a i) (b (pick reverse (n - i) i)) ≡ true) (omega arith) h
+
+  pub two-longer : (n : ℕ) (reverse : Bool) (r : ℕ) → Run close a b n reverse r → close (a r) (b (pick reverse (n - r) r)) ≡ true → close (a (r + 1)) (b (pick reverse (n - (r + 1)) (r + 1))) ≡ true → Run close a b n reverse (r + 2)
+  two-longer n reverse r f h g j l = longer-run n reverse (r + 1) (longer-run n reverse r f h) g j (omega arith)
+
+  known-tried : (m : CyclicMapping) (c r : ℕ) → r ≤ stepsOf m → ((j : ℕ) → j < r → close (a j) (b (image m j)) ≡ true) → tryFrom close a b m (stepsOf m + 1) 0 c ≡ tryFrom close a b m (stepsOf m + 1 - r) r (c + r)
+  unfolding tryFrom
+  known-tried m c zero l f =
+      let x : stepsOf m + 1 - 0 ≡ stepsOf m + 1 = omega arith in
+      let y : c + 0 ≡ c = omega arith in
+      rw (x, y)
+  known-tried m c (suc r) l f =
+      let x : stepsOf m + 1 - r ≡ suc (stepsOf m + 1 - suc r) = omega arith in
+      let y : c + r + 1 ≡ c + suc r = omega arith in
+      let z : r + 1 ≡ suc r = omega arith in
+      known-tried m c r (omega arith) (λ j h. f j (omega arith)) ∙ rw (x, f r (omega arith), y, z)
+
   -- Points
 
-  pub first-point : (m : CyclicMapping) (c : ℕ) {k : ℕ} → Usable m 0 → k ≡ image m 0 → Trying close a b m c c 0 k
-  first-point m c u e =
-      let w = image-within m 0 u in
-      let z : stepsOf m + 1 - 0 ≡ stepsOf m + 1 = omega arith in
-      record { point = omega arith; other = omega arith; mapped = e; counted = omega arith; rest = rw z }
+  known-points : (m : CyclicMapping) (c r : ℕ) {k : ℕ} → Usable m r → ((j : ℕ) → j < r → close (a j) (b (image m j)) ≡ true) → k ≡ image m r → Trying close a b m c r k
+  known-points m c r u f e =
+      let w = image-within m r u in
+      record { point = omega arith; other = omega arith; mapped = e; rest = known-tried m c r (omega arith) f }
 
-  pub next-point : (m : CyclicMapping) {c₀ : ℕ} (c j k : ℕ) {l : ℕ} → Usable m j → (j ≡ stepsOf m → ⊥) → Trying close a b m c₀ c j k → close (a j) (b k) ≡ true → l ≡ image m (j + 1) → Trying close a b m c₀ (c + 1) (j + 1) l
+  pub forward-known : (o n c r : ℕ) {k : ℕ} → o ≡ 0 → Usable (Forward o n) r → Run close a b n false r → k ≡ r → Trying close a b (Forward o n) c r k
+  forward-known o n c r z u f e = known-points (Forward o n) c r u (λ j l. rw (forward-zero o n j z) (f j l)) (e ∙ sym (forward-zero o n r z))
+
+  pub reverse-known : (o n c r : ℕ) {k : ℕ} → o ≡ 0 → Usable (Reverse o n) r → Run close a b n true r → k ≡ n - r → Trying close a b (Reverse o n) c r k
+  reverse-known o n c r z u f e = known-points (Reverse o n) c r u (λ j l. rw (reverse-zero o n j z) (f j l)) (e ∙ sym (reverse-zero o n r z))
+
+  pub first-point : (m : CyclicMapping) (c : ℕ) {k : ℕ} → Usable m 0 → k ≡ image m 0 → Trying close a b m c 0 k
+  first-point m c u e = known-points m c 0 u (λ j l. absurd (omega arith)) e
+
+  pub next-point : (m : CyclicMapping) (c j k : ℕ) {l : ℕ} → Usable m j → (j ≡ stepsOf m → ⊥) → Trying close a b m c j k → close (a j) (b k) ≡ true → l ≡ image m (j + 1) → Trying close a b m c (j + 1) l
   unfolding tryFrom
   next-point m c j k u f t h e =
       let w = image-within m (j + 1) (u .0, u .1, omega arith) in
       let x : stepsOf m + 1 - j ≡ suc (stepsOf m - j) = omega arith in
       let y : stepsOf m + 1 - (j + 1) ≡ stepsOf m - j = omega arith in
+      let z : c + (j + 1) ≡ c + j + 1 = omega arith in
       let g : close (a j) (b (image m j)) ≡ true = rw (t .mapped) at h in
-      record { point = omega arith; other = omega arith; mapped = e; counted = omega arith; rest = t .rest ∙ rw (x, g, y) }
+      record { point = omega arith; other = omega arith; mapped = e; rest = t .rest ∙ rw (x, g, y, z) }
 
-  pub last-point : (m : CyclicMapping) {c₀ : ℕ} (c j k : ℕ) → j ≡ stepsOf m → Trying close a b m c₀ c j k → close (a j) (b k) ≡ true → tryFrom close a b m (stepsOf m + 1) 0 c₀ ≡ tried true (c + 1)
+  pub last-point : (m : CyclicMapping) (c j k : ℕ) → j ≡ stepsOf m → Trying close a b m c j k → close (a j) (b k) ≡ true → tryFrom close a b m (stepsOf m + 1) 0 c ≡ tried true (c + j + 1)
   unfolding tryFrom
   last-point m c j k l t h =
       let x : stepsOf m + 1 - j ≡ 1 = omega arith in
       let g : close (a j) (b (image m j)) ≡ true = rw (t .mapped) at h in
       t .rest ∙ rw (x, g)
 
-  pub far-point : (m : CyclicMapping) {c₀ : ℕ} (c j k : ℕ) → Trying close a b m c₀ c j k → close (a j) (b k) ≡ false → tryFrom close a b m (stepsOf m + 1) 0 c₀ ≡ tried false (c + 1)
+  pub far-point : (m : CyclicMapping) (c j k : ℕ) → Trying close a b m c j k → close (a j) (b k) ≡ false → tryFrom close a b m (stepsOf m + 1) 0 c ≡ tried false (c + (j + 1))
   unfolding tryFrom
   far-point m c j k t h =
       let x : stepsOf m + 1 - j ≡ suc (stepsOf m - j) = omega arith in
+      let z : c + (j + 1) ≡ c + j + 1 = omega arith in
       let g : close (a j) (b (image m j)) ≡ false = rw (t .mapped) at h in
-      t .rest ∙ rw (x, g)
+      t .rest ∙ rw (x, g, z)
 
   -- Offsets
 

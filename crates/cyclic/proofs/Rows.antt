@@ -20,6 +20,7 @@ use Rattle.refusal.specs.declared.Refusal.the-variants.{Length, Coordinate}
 use Rattle.refusal.specs.Refusals.{ok, refused, numberOf, unless}
 use Rattle.cyclic.specs.declared.seam.Seam.the-variants.{Unjoined}
 use Rattle.cyclic.specs.declared.seam.SeamSearch.{SeamSearch}
+use Rattle.cyclic.specs.Mapping.{pick}
 use Rattle.cyclic.proofs.Mappings.{and-both}
 use Rattle.cyclic.specs.Search.{Row, Closeness, rowOf, searched, searchRows, search, rowFits, rowsCheck, newVector}
 
@@ -33,6 +34,21 @@ first-point l start stride = ap (pointAt l) (omega arith)
 
 pub whole-row : (l : List Float) → rowOf l 0 1 ≡ pointAt l
 whole-row l = fun-ext (λ j. ap (pointAt l) (omega arith))
+
+-- Rows whose points follow each other in their lists
+
+pub close-in-rows : (a : List Float) (aStart : ℕ) (b : List Float) (bStart stride j : ℕ) {i k l : ℕ} → stride ≡ 1 → i ≡ aStart + j → k ≡ l → allClose (pointAt a i) (pointAt b (bStart + k)) ≡ true → allClose (rowOf a aStart stride j) (rowOf b bStart stride l) ≡ true
+close-in-rows a aStart b bStart stride j {i} {k} {l} e f g h =
+    let x : aStart + j * stride ≡ i = rw e (omega arith) in
+    let y : bStart + l * stride ≡ bStart + k = rw e (omega arith) in
+    rw (x, y) h
+
+pub inside-next : (start steps stride j : ℕ) {size : ℕ} → stride ≡ 1 → 3 * (start + steps * stride) + 3 ≤ size → j ≤ steps → 3 * (start + j) + 3 ≤ size
+inside-next start steps stride j e h l = let g : steps * stride ≡ steps = rw e (omega arith) in omega arith
+
+pub opposite-within : (n j : ℕ) (reverse : Bool) → j ≤ n → pick reverse (n - j) j ≤ n
+opposite-within n j true l = omega arith
+opposite-within n j false l = l
 
 -- Lengths
 

@@ -43,12 +43,15 @@ inRows o n i = (leb 1 n && leb n 65535) && (ltb o n && leb i n)
 abbrev pub usable : CyclicMapping → ℕ → Bool
 usable m i = inRows (offsetOf m) (stepsOf m) i
 
+-- the same as a fact, which inner functions require; that there are steps follows from the offset
 abbrev pub Usable : CyclicMapping → ℕ → Type 0
 Usable m i = (stepsOf m ≤ 65535) × (offsetOf m < stepsOf m) × (i ≤ stepsOf m)
 
+-- the open call `map_index`: 8, or the image
 unfoldable pub mapIndex : CyclicMapping → ℕ → Answer ℕ
 mapIndex m i = passing (unless (usable m i) NotThere Passed) (ok (image m i))
 
+-- the open call `map_index_inv`: 8, or the inverse image
 unfoldable pub mapIndexInv : CyclicMapping → ℕ → Answer ℕ
 mapIndexInv m i = passing (unless (usable m i) NotThere Passed) (ok (inverse m i))
 

@@ -20,49 +20,49 @@ unfolding mapIndex mapIndexInv image inverse newVector rowsCheck search searchRo
 computed = true
 
 -- "Forward(1,4): image of 4 is 1, inverse of 0 is 3"
-forward-image : mapIndex (Forward 1 4) 4 ≡ ok 1
+pub forward-image : mapIndex (Forward 1 4) 4 ≡ ok 1
 unfolding computed
 forward-image = refl
 
-forward-inverse : mapIndexInv (Forward 1 4) 0 ≡ ok 3
+pub forward-inverse : mapIndexInv (Forward 1 4) 0 ≡ ok 3
 unfolding computed
 forward-inverse = refl
 
 -- "Reverse(0,4): inverse of 1 is 3. Reverse(1,4): of 2 is 3, of 4 is 1."
-reverse-zero : mapIndexInv (Reverse 0 4) 1 ≡ ok 3
+pub reverse-zero : mapIndexInv (Reverse 0 4) 1 ≡ ok 3
 unfolding computed
 reverse-zero = refl
 
-reverse-two : mapIndexInv (Reverse 1 4) 2 ≡ ok 3
+pub reverse-two : mapIndexInv (Reverse 1 4) 2 ≡ ok 3
 unfolding computed
 reverse-two = refl
 
-reverse-four : mapIndexInv (Reverse 1 4) 4 ≡ ok 1
+pub reverse-four : mapIndexInv (Reverse 1 4) 4 ≡ ok 1
 unfolding computed
 reverse-four = refl
 
-abbrev two64 : Float
+abbrev pub two64 : Float
 two64 = ofBits binary64 0x4000000000000000
 
-abbrev three64 : Float
+abbrev pub three64 : Float
 three64 = ofBits binary64 0x4008000000000000
 
 -- the points with the given x and y = z = 0
-abbrev along : List Float → List Float
+abbrev pub along : List Float → List Float
 along [] = []
 along (x ∷ xs) = x ∷ zero64 ∷ zero64 ∷ along xs
 
 -- "Rows with x = 0,1,2,3 and 3,2,1,0 (y = z = 0): Reverse(0,3)"
-turned : newVector (along (zero64 ∷ one64 ∷ two64 ∷ three64 ∷ [])) (along (three64 ∷ two64 ∷ one64 ∷ zero64 ∷ [])) ≡ ok (searched (Joined (Reverse 0 3)) 6)
+pub turned : newVector (along (zero64 ∷ one64 ∷ two64 ∷ three64 ∷ [])) (along (three64 ∷ two64 ∷ one64 ∷ zero64 ∷ [])) ≡ ok (searched (Joined (Reverse 0 3)) 6)
 unfolding computed
 turned = refl
 
 -- "x = 0,1,2,0 and 1,2,0,1: Forward(2,3), 10 comparisons"
-shifted : newVector (along (zero64 ∷ one64 ∷ two64 ∷ zero64 ∷ [])) (along (one64 ∷ two64 ∷ zero64 ∷ one64 ∷ [])) ≡ ok (searched (Joined (Forward 2 3)) 10)
+pub shifted : newVector (along (zero64 ∷ one64 ∷ two64 ∷ zero64 ∷ [])) (along (one64 ∷ two64 ∷ zero64 ∷ one64 ∷ [])) ≡ ok (searched (Joined (Forward 2 3)) 10)
 unfolding computed
 shifted = refl
 
 -- "x = 0,1,2 and 1,2,3: None, 3 comparisons"
-apart : newVector (along (zero64 ∷ one64 ∷ two64 ∷ [])) (along (one64 ∷ two64 ∷ three64 ∷ [])) ≡ ok (searched Unjoined 3)
+pub apart : newVector (along (zero64 ∷ one64 ∷ two64 ∷ [])) (along (one64 ∷ two64 ∷ three64 ∷ [])) ≡ ok (searched Unjoined 3)
 unfolding computed
 apart = refl

@@ -1,13 +1,15 @@
 // The search for a seam between two rows of points.
 use crate::mapping::CyclicMapping;
+use float::consts::EPS;
 use refusal::Check;
 use refusal::Refusal;
 ghost use mathlib.Core.Path.{_≡_};
-ghost use Prim.Native.Nat.{ℕ, _+_, _*_, _/_, _≤_, _<_};
+ghost use mathlib.Core.Bool.{true};
+ghost use Prim.Native.Nat.{ℕ, _+_, _-_, _*_, _/_, _≤_, _<_};
 ghost use lib.ListN.{length};
 ghost use Rattle.grid.specs.Grid.{pointAt};
 ghost use Rattle.vector.specs.Vectors.{allClose};
-ghost use Rattle.cyclic.specs.Mapping.{image, Usable};
+ghost use Rattle.cyclic.specs.Mapping.{pick, image, Usable};
 ghost use Rattle.cyclic.specs.Search.{rowOf, Rows, searched, closed, searchRows, search, rowFits, rowsCheck, newVector, statedSeam};
 
 // A row has at most 65,536 points.
@@ -63,6 +65,15 @@ fn points_close(a: &[f64], i: usize, b: &[f64], k: usize) -> bool
     grid::point_at(a, i).all_close(grid::point_at(b, k))
 }
 
+// Whether two points differ by less than EPS in each coordinate, and so are close. No branch, which is what makes it fast.
+fn points_near(a: &[f64], i: usize, b: &[f64], k: usize) -> bool
+    requires { ⌜ (3 * i + 3 ≤ length (now a)) × (3 * k + 3 ≤ length (now b)) ⌝ }
+    ensures { λ r. ⌜ (r ≡ true → allClose (pointAt (now (a .entry)) i) (pointAt (now (b .entry)) k) ≡ true) ⌝ }
+{
+    let d = grid::point_at(a, i).sub(grid::point_at(b, k));
+    ((-EPS < d.x) & (d.x < EPS)) & ((-EPS < d.y) & (d.y < EPS)) & ((-EPS < d.z) & (d.z < EPS))
+}
+
 // Rows are closed if a's ends are close and then b's ends are.
 fn rows_closed(
     a: &[f64],
@@ -109,6 +120,44 @@ fn back(k: usize, offset: usize, steps: usize) -> usize
     k - 1
 }
 
+// The index of b that index j of a meets at offset 0.
+fn opposite(j: usize, steps: usize, reverse: bool) -> usize
+    requires { ⌜ j ≤ steps ⌝ }
+    ensures { λ r. ⌜ r ≡ pick reverse («steps» - j) j ⌝ }
+{
+    if reverse { steps - j } else { j }
+}
+
+// How many points of a, from the first on, are known to be close to their images at offset 0. Contiguous
+// rows are compared two points at a time; of others nothing is known.
+fn close_run(
+    a: &[f64],
+    a_start: usize,
+    b: &[f64],
+    b_start: usize,
+    stride: usize,
+    steps: usize,
+    reverse: bool,
+) -> usize
+    requires { ⌜ Rows (now a) «a_start» (now b) «b_start» stride steps ⌝ }
+    ensures { λ r. ⌜ (r ≤ steps) × ((j : ℕ) → j < r → allClose (rowOf (now (a .entry)) «a_start» stride j) (rowOf (now (b .entry)) «b_start» stride (pick reverse («steps» - j) j)) ≡ true) ⌝ }
+{
+    let mut run: usize = 0;
+    if stride != 1 {
+        return run;
+    }
+    while run + 2 <= steps {
+        let k = opposite(run, steps, reverse);
+        let next = opposite(run + 1, steps, reverse);
+        if !(points_near(a, a_start + run, b, b_start + k)
+            & points_near(a, a_start + run + 1, b, b_start + next)) {
+            return run;
+        }
+        run += 2;
+    }
+    run
+}
+
 // The first offset at which row a fits row b, forward before reverse. Point j of a row is point
 // start + j * stride of its list.
 pub fn search_rows(
@@ -130,32 +179,43 @@ pub fn search_rows(
         if offset == end {
             break 'offsets unjoined(comparisons);
         }
+        // Point 0 meets point `offset`, but at offset 0 the points known to be close are passed over.
         let mut j: usize = 0;
-        let mut k = CyclicMapping::Forward(offset, steps).image(0);
+        let mut k = offset;
+        if offset == 0 {
+            j = close_run(a, a_start, b, b_start, stride, steps, false);
+            k = opposite(j, steps, false);
+        }
         loop {
-            comparisons += 1;
             if !points_close(a, a_start + j * stride, b, b_start + k * stride) {
                 break;
             }
             if j == steps {
-                break 'offsets joined(CyclicMapping::Forward(offset, steps), comparisons);
+                let made = comparisons + j as u64 + 1;
+                break 'offsets joined(CyclicMapping::Forward(offset, steps), made);
             }
             k = ahead(k, offset, steps);
             j += 1;
         }
+        comparisons += j as u64 + 1;
         let mut j: usize = 0;
-        let mut k = CyclicMapping::Reverse(offset, steps).image(0);
+        let mut k = offset;
+        if offset == 0 {
+            j = close_run(a, a_start, b, b_start, stride, steps, true);
+            k = opposite(j, steps, true);
+        }
         loop {
-            comparisons += 1;
             if !points_close(a, a_start + j * stride, b, b_start + k * stride) {
                 break;
             }
             if j == steps {
-                break 'offsets joined(CyclicMapping::Reverse(offset, steps), comparisons);
+                let made = comparisons + j as u64 + 1;
+                break 'offsets joined(CyclicMapping::Reverse(offset, steps), made);
             }
             k = back(k, offset, steps);
             j += 1;
         }
+        comparisons += j as u64 + 1;
         offset += 1;
     }
 }

@@ -28,7 +28,7 @@ use Rattle.edges.specs.declared.event.NormalizedLambda.the-variants.{Lam
 use Rattle.edges.specs.declared.event.Candidate.the-variants.{NoEvent}
 use Rattle.edges.specs.Param.{pick, lerp, across, within, paramInBounds, normalizeLambda}
 use Rattle.edges.specs.Cell.{diagonalCellAt}
-use Rattle.edges.specs.Events.{event, edgeAtPoint, endCandidate, lambdaAt, lineAt, lineCrossing, change, diagonalEvent, diagonalCrossing, sumOf, changeOfSum, candidates, precedes, insert, sortInto, closeBy, uniqueAfter, unique, sortedEdgeEvents, Inside, IfEvent, Each, OnGrid, OnStep, AscendFrom, Ascend, ApartFrom, Apart}
+use Rattle.edges.specs.Events.{event, edgeAtPoint, endCandidate, lambdaAt, lineAt, lineCrossing, change, diagonalEvent, diagonalCrossing, sumOf, changeOfSum, candidates, precedes, insert, sortInto, closeBy, uniqueAfter, unique, sortedEdgeEvents, Inside, IfEvent, Each, OnGrid}
 use Rattle.edges.specs.Scratch.{edgeOf, eventOf, eventsIn}
 use Rattle.edges.proofs.Places.{event-in, events-length}
 use Rattle.edges.proofs.Grid.{on-line, end-on-grid, line-on-grid, diagonal-on-grid}
@@ -44,6 +44,9 @@ module _ (m n : ℕ) (a b : ParamPoint) where
       (λ j. diagonal-on-grid m n a b (lambdaAt j (sumOf a) (changeOfSum a b)))
 
 -- ---- lambdas are from 0 to 1
+abbrev pub OnStep : EdgeEvent → Type 0
+OnStep e = (le zero64 (e .lambda) ≡ true) × (le (e .lambda) one64 ≡ true)
+
 abbrev LambdaOnStep : NormalizedLambda → Type 0
 LambdaOnStep (Lambda l) = (le zero64 l ≡ true) × (le l one64 ≡ true)
 LambdaOnStep Outside = Unit
@@ -117,6 +120,24 @@ is-less : (o : Ordering) → precedes o ≡ true → o ≡ Less
 is-less Less h = refl
 is-less Equal h = absurd (true≢false (sym h))
 is-less Greater h = absurd (true≢false (sym h))
+
+-- events whose lambdas ascend in the total order, the first not before x
+abbrev pub AscendFrom : Float → List EdgeEvent → Type 0
+AscendFrom x [] = Unit
+AscendFrom x (e ∷ es) = (precedes (totalOrder (e .lambda) x) ≡ false) × AscendFrom (e .lambda) es
+
+abbrev pub Ascend : List EdgeEvent → Type 0
+Ascend [] = Unit
+Ascend (e ∷ es) = AscendFrom (e .lambda) es
+
+-- events of which none is closer than EPS to the one before it, the first not to x
+abbrev pub ApartFrom : Float → List EdgeEvent → Type 0
+ApartFrom x [] = Unit
+ApartFrom x (e ∷ es) = (closeBy x (e .lambda) ≡ false) × ApartFrom (e .lambda) es
+
+abbrev pub Apart : List EdgeEvent → Type 0
+Apart [] = Unit
+Apart (e ∷ es) = ApartFrom (e .lambda) es
 
 not-less : (o : Ordering) → precedes o ≡ false → o ≡ Less → ⊥
 not-less o h q = true≢false (sym (ap precedes q) ∙ h)

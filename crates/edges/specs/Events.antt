@@ -1,10 +1,9 @@
 -- Events (01, "An event is a lambda and the side it falls on: U(u), V(v) or Diagonal(u,v)"). `sorted_edge_events` "fixes the candidates and their order: end
 -- events first, then U, V, diagonals; a stable sort by IEEE 754 totalOrder, so −0 precedes +0; an event closer than EPS to the last one kept is dropped". Assumes nothing.
-use mathlib.Core.Path.{_≡_}
 use mathlib.Core.Bool.{Bool, true, false}
 use mathlib.Core.List.{List, [], _∷_, _++_}
 use Prim.Native.Nat.{ℕ, zero, suc, _+_, _-_, _≤_, _<_, min, max}
-use lib.Ieee.{Float, binary64, lt, le, add, sub, div}
+use lib.Ieee.{Float, binary64, lt, add, sub, div}
 use Rattle.float.specs.Consts.{eps, zero64, one64}
 use Rattle.float.specs.Sign.{absolute}
 use Rattle.float.specs.Order.{totalOrder}
@@ -202,25 +201,3 @@ Each P (e ∷ es) = P e × Each P es
 
 abbrev pub OnGrid : ℕ → ℕ → EdgeEvent → Type 0
 OnGrid m n e = Inside m n (e .edge)
-
--- a lambda from 0 to 1
-abbrev pub OnStep : EdgeEvent → Type 0
-OnStep e = (le zero64 (e .lambda) ≡ true) × (le (e .lambda) one64 ≡ true)
-
--- events whose lambdas ascend in the total order, the first not before x
-abbrev pub AscendFrom : Float → List EdgeEvent → Type 0
-AscendFrom x [] = Unit
-AscendFrom x (e ∷ es) = (precedes (totalOrder (e .lambda) x) ≡ false) × AscendFrom (e .lambda) es
-
-abbrev pub Ascend : List EdgeEvent → Type 0
-Ascend [] = Unit
-Ascend (e ∷ es) = AscendFrom (e .lambda) es
-
--- events of which none is closer than EPS to the one before it, the first not to x
-abbrev pub ApartFrom : Float → List EdgeEvent → Type 0
-ApartFrom x [] = Unit
-ApartFrom x (e ∷ es) = (closeBy x (e .lambda) ≡ false) × ApartFrom (e .lambda) es
-
-abbrev pub Apart : List EdgeEvent → Type 0
-Apart [] = Unit
-Apart (e ∷ es) = ApartFrom (e .lambda) es

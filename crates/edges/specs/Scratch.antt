@@ -40,7 +40,7 @@ place l [] = 0
 place l (x ∷ xs) = pick (precedes (totalOrder l x)) 0 (suc (place l xs))
 
 -- for M and N up to 255, two lists of 1,023 that hold `count` events and have room for so many more: ends, U, V and diagonals are at most 2 + (M+1) + (N+1) + (M+N−1)
-pub record Room (m n : ℕ) (lambdas : List Float) (codes : List ℕ) (count more : ℕ) : Type 0 where
+pub record ScratchRoom (m n : ℕ) (lambdas : List Float) (codes : List ℕ) (count more : ℕ) : Type 0 where
   pub u-steps : m ≤ 255
   pub v-steps : n ≤ 255
   pub lambdas-length : length lambdas ≡ 1023

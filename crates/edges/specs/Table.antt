@@ -18,28 +18,28 @@ unfoldable pub computed : Bool
 unfolding within paramInBounds integerStep normalizeLambda indexOf onDiagonal tryCell diagonalCellAt edgeAtPoint lineCrossing diagonalCrossing listFrom ends lines diagonals candidates insert sortInto uniqueAfter unique sortedEdgeEvents eps negative absolute clamped totalOrder floorZ ceilZ rounded natFloat ofBits ofInt neg lt le eq add sub mul div round toUnsigned
 computed = true
 
-abbrev quarter : Float
+abbrev pub quarter : Float
 quarter = ofBits binary64 0x3FD0000000000000
 
-abbrev half : Float
+abbrev pub half : Float
 half = ofBits binary64 0x3FE0000000000000
 
-abbrev three-quarters : Float
+abbrev pub three-quarters : Float
 three-quarters = ofBits binary64 0x3FE8000000000000
 
-abbrev minus-half : Float
+abbrev pub minus-half : Float
 minus-half = ofBits binary64 0xBFE0000000000000
 
-abbrev minus-zero : Float
+abbrev pub minus-zero : Float
 minus-zero = ofBits binary64 0x8000000000000000
 
 -- "(0, 0.25) to (0.75, 0.25): events U(0) at 0, Diagonal(0,0) at 1"
-along-u : sortedEdgeEvents 1 1 (param zero64 quarter) (param three-quarters quarter) ≡ event zero64 (U 0) ∷ (event one64 (Diagonal 0 0) ∷ [])
+pub along-u : sortedEdgeEvents 1 1 (param zero64 quarter) (param three-quarters quarter) ≡ event zero64 (U 0) ∷ (event one64 (Diagonal 0 0) ∷ [])
 unfolding computed
 along-u = refl
 
 -- "(0, 0) to (0.5, −0.5): first event V(0) at −0, not U(0)": U(0) at 0 is close to it, and dropped
-minus-zero-first : sortedEdgeEvents 1 1 (param zero64 zero64) (param half minus-half) ≡ event minus-zero («V» 0) ∷ []
+pub minus-zero-first : sortedEdgeEvents 1 1 (param zero64 zero64) (param half minus-half) ≡ event minus-zero («V» 0) ∷ []
 unfolding computed
 minus-zero-first = refl
 

@@ -7,6 +7,7 @@ use float::whole::round;
 ghost use mathlib.Core.Path.{_≡_};
 ghost use Rattle.edges.specs.Param.{lerp, along, across, within, paramInBounds, integerStep};
 
+#[repr(C)]
 pub struct ParamPoint {
     pub u: f64,
     pub v: f64,

@@ -19,7 +19,7 @@ ghost use mathlib.Core.List.{[]};
 ghost use Prim.Native.Nat.{_+_, _-_, _<_, _≤_};
 ghost use Rattle.float.specs.Cast.{count};
 ghost use Rattle.edges.specs.Events.{lowSum, highSum, firstSum, pastSum, ends, lines, diagonals, candidates, sortInto, sortedEdgeEvents};
-ghost use Rattle.edges.specs.Scratch.{eventsIn, Room};
+ghost use Rattle.edges.specs.Scratch.{eventsIn, ScratchRoom};
 
 fn push_ends(
     lambdas: &mut [f64],
@@ -29,7 +29,7 @@ fn push_ends(
     a: ParamPoint,
     b: ParamPoint,
 ) -> usize
-    requires { ⌜ Room m n (now lambdas) (now codes) 0 2 ⌝ }
+    requires { ⌜ ScratchRoom m n (now lambdas) (now codes) 0 2 ⌝ }
     ensures { λ r. ⌜ (r ≤ 2) × (eventsIn (now (lambdas .exit)) (now (codes .exit)) r ≡ sortInto (ends m n a b) []) ⌝ }
 {
     let start = end_candidate(0.0, edge_at_point(m, n, a));
@@ -49,7 +49,7 @@ fn push_lines(
     a: ParamPoint,
     b: ParamPoint,
 ) -> usize
-    requires { ⌜ Room along across (now lambdas) (now codes) count (along + 1) ⌝ }
+    requires { ⌜ ScratchRoom along across (now lambdas) (now codes) count (along + 1) ⌝ }
     ensures { λ r. ⌜ (r ≤ count + (along + 1)) × (eventsIn (now (lambdas .exit)) (now (codes .exit)) r
         ≡ sortInto (lines axis along across a b) (eventsIn (now (lambdas .entry)) (now (codes .entry)) count)) ⌝ }
 {
@@ -117,7 +117,7 @@ fn push_diagonals(
     a: ParamPoint,
     b: ParamPoint,
 ) -> usize
-    requires { ⌜ Room m n (now lambdas) (now codes) count (m + n - 1) ⌝ }
+    requires { ⌜ ScratchRoom m n (now lambdas) (now codes) count (m + n - 1) ⌝ }
     ensures { λ r. ⌜ (r ≤ count + (m + n - 1)) × (eventsIn (now (lambdas .exit)) (now (codes .exit)) r
         ≡ sortInto (diagonals m n a b) (eventsIn (now (lambdas .entry)) (now (codes .entry)) count)) ⌝ }
 {
@@ -142,7 +142,7 @@ fn push_candidates(
     a: ParamPoint,
     b: ParamPoint,
 ) -> usize
-    requires { ⌜ Room m n (now lambdas) (now codes) 0 0 ⌝ }
+    requires { ⌜ ScratchRoom m n (now lambdas) (now codes) 0 0 ⌝ }
     ensures { λ r. ⌜ (r ≤ 1023) × (eventsIn (now (lambdas .exit)) (now (codes .exit)) r ≡ sortInto (candidates m n a b) []) ⌝ }
 {
     let ends = push_ends(lambdas, codes, m, n, a, b);
@@ -161,7 +161,7 @@ pub fn sorted_edge_events(
     a: ParamPoint,
     b: ParamPoint,
 ) -> usize
-    requires { ⌜ Room m n (now lambdas) (now codes) 0 0 ⌝ }
+    requires { ⌜ ScratchRoom m n (now lambdas) (now codes) 0 0 ⌝ }
     ensures { λ r. ⌜ (r ≤ 1023) × (eventsIn (now (lambdas .exit)) (now (codes .exit)) r ≡ sortedEdgeEvents m n a b) ⌝ }
 {
     let count = push_candidates(lambdas, codes, m, n, a, b);

@@ -13,7 +13,7 @@ use Rattle.exports.specs.declared.textures.RayCounts.{RayCounts}
 use Rattle.exports.specs.declared.textures.RayAngle.{RayAngle}
 use Rattle.exports.specs.declared.textures.RayPoint.{RayPoint}
 
--- the texture of a kind, a spacing, a twist and arms
+-- the texture of a kind, a spacing, a twist and arms: kind 0 is Grid, 1 Swirl, every other Spiral
 abbrev pub textureOf : ℕ → Float → Float → ℕ → ParametricSurfaceTexture
 textureOf kind spacing twist arms = cond (eqb kind 0) Grid (cond (eqb kind 1) (Swirl spacing twist) (Spiral spacing arms))
 

@@ -3,6 +3,7 @@
 pub mod floats;
 pub mod lines;
 pub mod meshes;
+pub mod samples;
 pub mod seams;
 pub mod textures;
 pub mod traces;

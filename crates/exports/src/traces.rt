@@ -6,7 +6,7 @@ ghost use Rattle.trace.specs.Demand.{Demand3};
 ghost use Rattle.trace.specs.Trace.{lists, statedTrace, traceFlat};
 ghost use Rattle.exports.specs.Traces.{traceAnswer, Draws};
 
-fn trace_to_c(answer: Trace) -> PathsAnswer
+pub fn trace_to_c(answer: Trace) -> PathsAnswer
     ensures { λ r. ⌜ r ≡ traceAnswer (statedTrace answer) ⌝ }
 {
     match answer {

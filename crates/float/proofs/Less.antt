@@ -13,7 +13,6 @@ use lib.Ieee.Fits.{down-pos}
 use lib.Ieee.Exact.{HasValue}
 use borrow.Author.Tests.{not-true, ltb-true, lt-ltb, le-ltb, ltb-false, le-leb, lt-leb, eqb-true, eqb-false, eq-eqb, ne-eqb}
 use Rattle.float.specs.Sign.{isFinite}
-use Rattle.float.proofs.Value.{whole-lt}
 
 -- ---- a signed size as what it adds to one side of a comparison and to the other
 abbrev gain : Bool → ℕ → ℕ
@@ -215,7 +214,7 @@ finite-not-nan nan h = sym h
 finite-not-nan (inf s) h = refl
 finite-not-nan (fin s m e) h = refl
 
--- ---- against a whole number
+-- ---- for whole numbers, and values that are known
 pub not-ltb : (a b : ℕ) → not (ltb b a) ≡ leb a b
 not-ltb a b = go (ltb b a) refl
   where
@@ -228,6 +227,3 @@ unfolding isNan
 value-not-nan nan s a c v = absurd v
 value-not-nan (inf t) s a c v = refl
 value-not-nan (fin t m e) s a c v = refl
-
-pub le-whole : (m : ℕ) (e : ℤ) (q : ℕ) (y : Float) → HasValue y false q 1 → le (fin false m e) y ≡ leb (m * up e) (q * down e)
-le-whole m e q y v = le-is (fin false m e) y (unfold isNan in refl) (value-not-nan y false q 1 v) ∙ ap not (whole-lt m e q y v) ∙ not-ltb (m * up e) (q * down e)

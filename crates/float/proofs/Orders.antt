@@ -13,7 +13,7 @@ use lib.Ieee.Nearest.{div-same}
 use lib.Ieee.Bits.{ofBits-toBits}
 use borrow.Author.Tests.{ltb-false}
 use Rattle.float.specs.Sign.{negative}
-use Rattle.float.specs.Order.{pickOrdering, signOrder, totalOrder}
+use Rattle.float.specs.Order.{signOrder, totalOrder}
 use Rattle.float.proofs.Less.{lt-irreflexive, lt-asymmetric, lt-transitive, not-lt-trans}
 use Rattle.float.specs.declared.order.Ordering.{Ordering}
 use Rattle.float.specs.declared.order.Ordering.the-variants.{Less, Equal, Greater}
@@ -67,7 +67,7 @@ pub order-flip : (x y : Float) → totalOrder y x ≡ flip (totalOrder x y)
 unfolding totalOrder
 order-flip x y = go (lt x y) (lt y x) (negative x) (negative y) (lt-asymmetric x y)
   where
-    go : (p q s t : Bool) → (p ≡ true → q ≡ false) → pickOrdering q Less (pickOrdering p Greater (signOrder t s)) ≡ flip (pickOrdering p Less (pickOrdering q Greater (signOrder s t)))
+    go : (p q s t : Bool) → (p ≡ true → q ≡ false) → cond q Less (cond p Greater (signOrder t s)) ≡ flip (cond p Less (cond q Greater (signOrder s t)))
     go true true s t h = absurd (true≢false (h refl))
     go true false s t h = refl
     go false true s t h = refl
@@ -100,7 +100,7 @@ less-says : (x y : Float) → totalOrder x y ≡ Less → (lt x y ≡ true) ⊎ 
 unfolding totalOrder
 less-says x y = go (lt x y) (lt y x) (negative x) (negative y)
   where
-    go : (p q s t : Bool) → pickOrdering p Less (pickOrdering q Greater (signOrder s t)) ≡ Less → (p ≡ true) ⊎ (((p ≡ false) × (q ≡ false)) × (s ≡ true) × (t ≡ false))
+    go : (p q s t : Bool) → cond p Less (cond q Greater (signOrder s t)) ≡ Less → (p ≡ true) ⊎ (((p ≡ false) × (q ≡ false)) × (s ≡ true) × (t ≡ false))
     go true q s t h = inl refl
     go false true s t h = absurd (true≢false (sym (ap isLess h)))
     go false false true true h = absurd (true≢false (sym (ap isLess h)))
@@ -112,7 +112,7 @@ equal-says : (x y : Float) → totalOrder x y ≡ Equal → Level x y × (negati
 unfolding totalOrder
 equal-says x y = go (lt x y) (lt y x) (negative x) (negative y)
   where
-    go : (p q s t : Bool) → pickOrdering p Less (pickOrdering q Greater (signOrder s t)) ≡ Equal → ((p ≡ false) × (q ≡ false)) × (s ≡ t)
+    go : (p q s t : Bool) → cond p Less (cond q Greater (signOrder s t)) ≡ Equal → ((p ≡ false) × (q ≡ false)) × (s ≡ t)
     go true q s t h = absurd (true≢false (sym (ap isEqual h)))
     go false true s t h = absurd (true≢false (sym (ap isEqual h)))
     go false false true true h = ((refl, refl), refl)

@@ -17,11 +17,6 @@ clamped x lo hi =
     let y = cond (lt x lo) lo x in
     cond (lt hi y) hi y
 
--- the first answer that is not Equal
-abbrev pub pickOrdering : Bool → Ordering → Ordering → Ordering
-pickOrdering true a b = a
-pickOrdering false a b = b
-
 -- of two values neither of which is less: -0 precedes +0
 abbrev pub signOrder : Bool → Bool → Ordering
 signOrder true true = Equal
@@ -31,4 +26,4 @@ signOrder false false = Equal
 
 -- "IEEE 754 totalOrder, so −0 precedes +0", for values that are no `nan`, in the order of its clauses: less, greater, then the zeros by sign
 unfoldable pub totalOrder : Float → Float → Ordering
-totalOrder x y = pickOrdering (lt x y) Less (pickOrdering (lt y x) Greater (signOrder (negative x) (negative y)))
+totalOrder x y = cond (lt x y) Less (cond (lt y x) Greater (signOrder (negative x) (negative y)))

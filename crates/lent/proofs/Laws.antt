@@ -4,7 +4,7 @@ use mathlib.Core.List.{List, [], _∷_, _++_, append-assoc}
 use Prim.Native.Nat.{ℕ, suc, _+_, _-_, _≤_, _<_}
 use native.Mathlib.Omega.{arith}
 use native.Mathlib.Numerals.{add-one}
-use lib.ListN.{length, take, set, replicate, length-append, length-take, length-set, length-replicate}
+use lib.ListN.{length, take, set, replicate, length-set}
 use lib.Seq.{take-all, take-suc-set, take-at, append-snoc}
 use Rattle.lent.specs.Lent.{filled, zeroedFrom}
 
@@ -24,9 +24,6 @@ module _ {A : Type 0} (z : A) where
       append-nil : (m : List A) → m ++ [] ≡ m
       append-nil [] = refl
       append-nil (x ∷ xs) = ap {B = List A} (λ r. x ∷ r) (append-nil xs)
-
-  pub length-zeroed : (l : List A) (k : ℕ) → k ≤ length l → length (zeroedFrom z k l) ≡ length l
-  length-zeroed l k h = simp (length-append, length-take, length-replicate) (omega arith)
 
   -- a list that is as long as the lent one and whose first places are the contents is, zeroed after them, the lent list filled with them
   pub zeroed-filled : (contents l lent : List A) → length l ≡ length lent → take (length contents) l ≡ contents → zeroedFrom z (length contents) l ≡ filled z contents lent

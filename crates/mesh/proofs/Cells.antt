@@ -11,12 +11,19 @@ use lib.ListN.{length, getD, set, length-append}
 use lib.Seq.{getD-set-same, getD-set-other}
 use Rattle.surface.proofs.Steps.{lt-or-le}
 use Rattle.cyclic.specs.declared.seam.Seam.{Seam}
-use Rattle.surface.specs.Surface.{pick, Shape, Triangle, proper, falling, halfOf, slot, kept, numberOf}
+use Rattle.surface.specs.Surface.{pick, Shape, Triangle, tri, proper, falling, halfOf, slot, kept, triangleNumber}
 use Rattle.surface.specs.Found.{surfaceWith}
 use Rattle.mesh.specs.declared.corner.Cell.{Cell}
 use Rattle.mesh.specs.Held.{firsts, triangleAt, trianglesIn}
 use Rattle.mesh.proofs.Firsts.{length-firsts}
-use Rattle.mesh.specs.Corners.{cellOf, firstOf, secondOf}
+use Rattle.mesh.specs.Corners.{cellOf}
+
+-- "the cell emits (i00,i10,i01), then (i10,i11,i01)"
+abbrev pub firstOf : Cell → Triangle
+firstOf c = tri (c .i00) (c .i10) (c .i01)
+
+abbrev pub secondOf : Cell → Triangle
+secondOf c = tri (c .i10) (c .i11) (c .i01)
 
 -- the triangles that a slot adds
 abbrev pub addedBy : Triangle → List Triangle
@@ -45,8 +52,8 @@ kept-most s (suc k) = rw length-append (omega (arith, kept-most s k, one (proper
 pub held-most : (s : Shape) (k count : ℕ) (l : List ℕ) → trianglesIn count l ≡ kept s k → count ≤ k
 held-most s k count l e = omega (arith, length-firsts (triangleAt l) count, ap length e, kept-most s k)
 
-pub held-count : (s : Shape) (k count : ℕ) (l : List ℕ) → trianglesIn count l ≡ kept s k → count ≡ numberOf s k
-unfolding numberOf
+pub held-count : (s : Shape) (k count : ℕ) (l : List ℕ) → trianglesIn count l ≡ kept s k → count ≡ triangleNumber s k
+unfolding triangleNumber
 held-count s k count l e = sym (length-firsts (triangleAt l) count) ∙ ap length e
 
 -- before the first cell

@@ -14,14 +14,14 @@ use Rattle.cyclic.specs.declared.mapping.CyclicMapping.the-variants.{Forward, R
 use Rattle.cyclic.specs.declared.seam.Seam.{Seam as Found}
 use Rattle.cyclic.specs.declared.seam.Seam.the-variants.{Joined, Unjoined}
 use Rattle.cyclic.specs.Mapping as cyclic
-use Rattle.surface.specs.Surface.{pick, Seam, Shape, Pair, ordered, insert, proper, slot, numberOf, stepOn, reversed, process, flipped, highU, lowV, highV, pair}
+use Rattle.surface.specs.Surface.{pick, Seam, Shape, Pair, ordered, insert, proper, slot, triangleNumber, stepOn, reversed, process, flipped, highU, lowV, highV, pair}
 use Rattle.surface.specs.Found.{ofMapping, seamOf}
 use Rattle.mesh.specs.declared.corner.Surface.{Surface}
 use Rattle.mesh.specs.declared.flipped.Axis.{Axis}
 use Rattle.mesh.specs.declared.flipped.Axis.the-variants.{U, «V»}
 use Rattle.mesh.specs.Corners.{shapeOf, Bounded}
 use Rattle.mesh.specs.Held.{pairAt, pairsIn}
-use Rattle.mesh.specs.Rims.{plus, stepsOf, lowOf, highOf, Starts, Rims, flipStep, flipSteps, flips}
+use Rattle.mesh.specs.Rims.{oneMore, stepsOf, lowOf, highOf, Starts, Rims, flipStep, flipSteps, flips}
 use Rattle.mesh.proofs.Firsts.{length-firsts}
 use Rattle.mesh.proofs.Numbers.{number-step, low-u, low-v, high-u, high-v}
 
@@ -30,10 +30,10 @@ steps-most U surface b = b .n-most
 steps-most «V» surface b = b .m-most
 
 -- the number of a triangle from the count after it
-pub number-before : (s : Shape) (k x : ℕ) → x ≡ numberOf s (k + 1) → proper (slot s k) ≡ true → x ≡ numberOf s k + 1
+pub number-before : (s : Shape) (k x : ℕ) → x ≡ triangleNumber s (k + 1) → proper (slot s k) ≡ true → x ≡ triangleNumber s k + 1
 number-before s k x e p =
     let f : k + 1 ≡ suc k = omega arith in
-    e ∙ ap (numberOf s) f ∙ number-step s k ∙ ap (plus (numberOf s k)) p
+    e ∙ ap (triangleNumber s) f ∙ number-step s k ∙ ap (oneMore (triangleNumber s k)) p
 
 pub ordered-up : (a b : ℕ) → a < b → pair a b ≡ ordered a b
 ordered-up a b h =
@@ -58,7 +58,7 @@ module _ (axis : Axis) (s : Shape) (m : Seam) (i : ℕ) (ps : List Pair) {on : �
     pub not-both : a && b ≡ false → ps ≡ flipStep axis s m i ps
     not-both e = sym (rw (sym here, lt-ltb on (stepsOf axis s) there, tested, e))
 
-    pub put-both : a && b ≡ true → insert (ordered (numberOf s (lowOf axis s on)) (numberOf s (highOf axis s i))) ps ≡ flipStep axis s m i ps
+    pub put-both : a && b ≡ true → insert (ordered (triangleNumber s (lowOf axis s on)) (triangleNumber s (highOf axis s i))) ps ≡ flipStep axis s m i ps
     put-both e = sym (rw (sym here, lt-ltb on (stepsOf axis s) there, tested, e))
 
     pub high-proper : a && b ≡ true → proper (slot s (highOf axis s i)) ≡ true
@@ -96,7 +96,7 @@ step-most : (axis : Axis) (s : Shape) (m : Seam) (i : ℕ) (ps : List Pair) → 
 step-most axis s m i ps =
     pick-most (ltb (stepOn m (stepsOf axis s) i) (stepsOf axis s)) _ _ _
     (pick-most (proper (slot s (lowOf axis s (stepOn m (stepsOf axis s) i))) && proper (slot s (highOf axis s i))) _ _ _
-    (insert-most (ordered (numberOf s (lowOf axis s (stepOn m (stepsOf axis s) i))) (numberOf s (highOf axis s i))) ps)
+    (insert-most (ordered (triangleNumber s (lowOf axis s (stepOn m (stepsOf axis s) i))) (triangleNumber s (highOf axis s i))) ps)
     (omega arith))
     (omega arith)
 
@@ -133,16 +133,16 @@ module _ (axis : Axis) (s : Shape) (ps : List Pair) {seam : Found} where
 
 module _ (surface : Surface) (b : Bounded surface) where
   pub rims-u : (low high : List ℕ) → surface .n < length low → surface .n < length high →
-      ((i : ℕ) → i ≤ surface .n → getD low i 0 ≡ numberOf (shapeOf surface) (2 * (0 * surface .n + i))) →
-      ((i : ℕ) → i ≤ surface .n → getD high i 0 ≡ numberOf (shapeOf surface) (2 * ((surface .m - 1) * surface .n + i))) →
+      ((i : ℕ) → i ≤ surface .n → getD low i 0 ≡ triangleNumber (shapeOf surface) (2 * (0 * surface .n + i))) →
+      ((i : ℕ) → i ≤ surface .n → getD high i 0 ≡ triangleNumber (shapeOf surface) (2 * ((surface .m - 1) * surface .n + i))) →
       Rims U (shapeOf surface) low high
   rims-u low high p q l h =
       let s = shapeOf surface in
       record {
         low-room = p;
         high-room = q;
-        before = λ i k. l i (omega arith) ∙ ap (numberOf s) (low-u (surface .m) (surface .n) (surface .u) (surface .v) i);
-        after = λ i k. h (i + 1) (omega arith) ∙ ap (numberOf s) (next i);
+        before = λ i k. l i (omega arith) ∙ ap (triangleNumber s) (low-u (surface .m) (surface .n) (surface .u) (surface .v) i);
+        after = λ i k. h (i + 1) (omega arith) ∙ ap (triangleNumber s) (next i);
       }
     where
       next : (i : ℕ) → 2 * ((surface .m - 1) * surface .n + (i + 1)) ≡ highU (shapeOf surface) i + 1
@@ -154,8 +154,8 @@ module _ (surface : Surface) (b : Bounded surface) where
       record {
         low-room = t .room;
         high-room = t .room;
-        before = λ i k. t .at i (omega arith) ∙ ap (numberOf s) (first i);
-        after = λ i k. t .at (i + 1) (omega arith) ∙ ap (numberOf s) (next i);
+        before = λ i k. t .at i (omega arith) ∙ ap (triangleNumber s) (first i);
+        after = λ i k. t .at (i + 1) (omega arith) ∙ ap (triangleNumber s) (next i);
       }
     where
       first : (i : ℕ) → 2 * (i * surface .n) ≡ lowV (shapeOf surface) i

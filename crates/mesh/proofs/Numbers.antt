@@ -9,43 +9,43 @@ use lib.ListN.{length, length-append}
 use Rattle.cyclic.specs.declared.mapping.CyclicMapping.{CyclicMapping}
 use Rattle.cyclic.specs.declared.seam.Seam.{Seam}
 use Rattle.cyclic.specs.Mapping as cyclic
-use Rattle.surface.specs.Surface.{pick, Shape, proper, slot, kept, numberOf, wrapEnds, stepOn, lowU, highU, lowV, highV}
+use Rattle.surface.specs.Surface.{pick, Shape, proper, slot, kept, triangleNumber, wrapEnds, stepOn, lowU, highU, lowV, highV}
 use Rattle.surface.specs.Found.{ofMapping, surfaceWith}
 use Rattle.mesh.specs.declared.flipped.Axis.{Axis}
-use Rattle.mesh.specs.Rims.{plus, stepsOf}
+use Rattle.mesh.specs.Rims.{oneMore, stepsOf}
 use Rattle.mesh.proofs.Cells.{kept-most}
 use Rattle.mesh.proofs.Joins.{inverse-is}
 
-pub number-step : (s : Shape) (k : ℕ) → numberOf s (suc k) ≡ plus (numberOf s k) (proper (slot s k))
-unfolding numberOf kept
+pub number-step : (s : Shape) (k : ℕ) → triangleNumber s (suc k) ≡ oneMore (triangleNumber s k) (proper (slot s k))
+unfolding triangleNumber kept
 number-step s k = length-append (kept s k) (pick (proper (slot s k)) (slot s k ∷ []) []) ∙ go (proper (slot s k))
   where
-    go : (b : Bool) → length (kept s k) + length (pick b (slot s k ∷ []) []) ≡ plus (length (kept s k)) b
+    go : (b : Bool) → length (kept s k) + length (pick b (slot s k ∷ []) []) ≡ oneMore (length (kept s k)) b
     go true = refl
     go false = omega arith
 
-pub number-most : (s : Shape) (k : ℕ) → numberOf s k ≤ k
-unfolding numberOf
+pub number-most : (s : Shape) (k : ℕ) → triangleNumber s k ≤ k
+unfolding triangleNumber
 number-most s k = kept-most s k
 
-pub plus-most : (k : ℕ) (b : Bool) → plus k b ≤ k + 1
-plus-most k true = omega arith
-plus-most k false = omega arith
+pub one-more-most : (k : ℕ) (b : Bool) → oneMore k b ≤ k + 1
+one-more-most k true = omega arith
+one-more-most k false = omega arith
 
 pub cells-most : (m n : ℕ) → m ≤ 255 → n ≤ 255 → m * n ≤ 65025
 cells-most m n p q = mul-le-mul {n₂ = 255} {m₂ = 255} p q
 
 -- both triangles of cell (u, v) counted
-pub cell-counted : (s : Shape) (n u v : ℕ) {count first last : ℕ} {a b : Bool} → count ≡ numberOf s (2 * (u * n + v)) →
-    a ≡ proper (slot s (2 * (u * n + v))) → first ≡ plus count a →
-    b ≡ proper (slot s (2 * (u * n + v) + 1)) → last ≡ plus first b →
-    last ≡ numberOf s (2 * (u * n + (v + 1)))
+pub cell-counted : (s : Shape) (n u v : ℕ) {count first last : ℕ} {a b : Bool} → count ≡ triangleNumber s (2 * (u * n + v)) →
+    a ≡ proper (slot s (2 * (u * n + v))) → first ≡ oneMore count a →
+    b ≡ proper (slot s (2 * (u * n + v) + 1)) → last ≡ oneMore first b →
+    last ≡ triangleNumber s (2 * (u * n + (v + 1)))
 cell-counted s n u v {count} {first} {last} {a} {b} e p q r t =
     let x : suc (2 * (u * n + v)) ≡ 2 * (u * n + v) + 1 = omega arith in
     let y : suc (2 * (u * n + v) + 1) ≡ 2 * (u * n + (v + 1)) = omega arith in
-    let one : first ≡ numberOf s (2 * (u * n + v) + 1) =
-    q ∙ ap (λ (k : ℕ). plus k a) e ∙ ap (plus (numberOf s (2 * (u * n + v)))) p ∙ sym (number-step s (2 * (u * n + v))) ∙ ap (numberOf s) x in
-    t ∙ ap (λ (k : ℕ). plus k b) one ∙ ap (plus (numberOf s (2 * (u * n + v) + 1))) r ∙ sym (number-step s (2 * (u * n + v) + 1)) ∙ ap (numberOf s) y
+    let one : first ≡ triangleNumber s (2 * (u * n + v) + 1) =
+    q ∙ ap (λ (k : ℕ). oneMore k a) e ∙ ap (oneMore (triangleNumber s (2 * (u * n + v)))) p ∙ sym (number-step s (2 * (u * n + v))) ∙ ap (triangleNumber s) x in
+    t ∙ ap (λ (k : ℕ). oneMore k b) one ∙ ap (oneMore (triangleNumber s (2 * (u * n + v) + 1))) r ∙ sym (number-step s (2 * (u * n + v) + 1)) ∙ ap (triangleNumber s) y
 
 -- The slots of the rims, as cells
 

@@ -6,7 +6,7 @@ use Rattle.cyclic.specs.declared.mapping.CyclicMapping.{CyclicMapping}
 use Rattle.cyclic.specs.declared.seam.Seam.{Seam}
 use Rattle.cyclic.specs.declared.seam.Seam.the-variants.{Joined, Unjoined}
 use Rattle.cyclic.specs.Mapping.{offsetOf, stepsOf, inverse, Usable}
-use Rattle.surface.specs.Surface.{pick, Shape, Triangle, tri, corner}
+use Rattle.surface.specs.Surface.{pick, Shape, corner}
 use Rattle.surface.specs.Found.{surfaceWith}
 use Rattle.mesh.specs.declared.corner.Surface.{Surface}
 use Rattle.mesh.specs.declared.corner.Place.{Place}
@@ -45,10 +45,3 @@ joinOf (Joined m) last line step = pick (eqb line last) (placed 0 (inverse m ste
 -- "With i00, i10, i01, i11 for corners (u,v), (u+1,v), (u,v+1), (u+1,v+1)"
 abbrev pub cellOf : Shape → ℕ → ℕ → Cell
 cellOf s u v = record { i00 = corner s v u v; i10 = corner s v (u + 1) v; i01 = corner s v u (v + 1); i11 = corner s v (u + 1) (v + 1) }
-
--- "the cell emits (i00,i10,i01), then (i10,i11,i01)"
-abbrev pub firstOf : Cell → Triangle
-firstOf c = tri (c .i00) (c .i10) (c .i01)
-
-abbrev pub secondOf : Cell → Triangle
-secondOf c = tri (c .i10) (c .i11) (c .i01)

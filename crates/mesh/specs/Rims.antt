@@ -5,16 +5,16 @@ use mathlib.Core.Bool.{Bool, true, false}
 use mathlib.Core.List.{List, []}
 use lib.Dec.{ltb}
 use lib.ListN.{length, getD}
-use Rattle.surface.specs.Surface.{pick, Seam, reversed, Shape, numberOf, stepOn, lowU, highU, lowV, highV, Pair, putDown, process}
+use Rattle.surface.specs.Surface.{pick, Seam, reversed, Shape, triangleNumber, stepOn, lowU, highU, lowV, highV, Pair, putDown, process}
 use Rattle.mesh.specs.declared.corner.Surface.{Surface}
 use Rattle.mesh.specs.Corners.{shapeOf}
 use Rattle.mesh.specs.declared.flipped.Axis.{Axis}
 use Rattle.mesh.specs.declared.flipped.Axis.the-variants.{U, «V»}
 
 -- one more, where it is so
-abbrev pub plus : ℕ → Bool → ℕ
-plus k true = k + 1
-plus k false = k
+abbrev pub oneMore : ℕ → Bool → ℕ
+oneMore k true = k + 1
+oneMore k false = k
 
 -- the steps along a seam's rims
 abbrev pub stepsOf : Axis → Shape → ℕ
@@ -33,14 +33,14 @@ highOf «V» s i = highV s i
 -- the number of triangles before each u, and of all
 pub record Starts (surface : Surface) (starts : List ℕ) : Type 0 where
   pub room : surface .m < length starts
-  pub at : (u : ℕ) → u ≤ surface .m → getD starts u 0 ≡ numberOf (shapeOf surface) (2 * (u * surface .n))
+  pub at : (u : ℕ) → u ≤ surface .m → getD starts u 0 ≡ triangleNumber (shapeOf surface) (2 * (u * surface .n))
 
 -- the number of triangles before each triangle of the low rim, and after each of the high rim
 pub record Rims (axis : Axis) (s : Shape) (low high : List ℕ) : Type 0 where
   pub low-room : stepsOf axis s < length low
   pub high-room : stepsOf axis s < length high
-  pub before : (i : ℕ) → i < stepsOf axis s → getD low i 0 ≡ numberOf s (lowOf axis s i)
-  pub after : (i : ℕ) → i < stepsOf axis s → getD high (i + 1) 0 ≡ numberOf s (highOf axis s i + 1)
+  pub before : (i : ℕ) → i < stepsOf axis s → getD low i 0 ≡ triangleNumber s (lowOf axis s i)
+  pub after : (i : ℕ) → i < stepsOf axis s → getD high (i + 1) 0 ≡ triangleNumber s (highOf axis s i + 1)
 
 -- step i of the high rim with the step of the low rim that lies on it, if there is one
 abbrev pub flipStep : Axis → Shape → Seam → ℕ → List Pair → List Pair

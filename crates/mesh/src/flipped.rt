@@ -9,11 +9,11 @@ ghost use mathlib.Core.Path.{_≡_};
 ghost use Prim.Native.Nat.{ℕ, _+_, _*_, _≤_, _<_};
 ghost use lib.ListN.{length, getD};
 ghost use Rattle.cyclic.specs.declared.seam.Seam.the-variants.{Joined};
-ghost use Rattle.surface.specs.Surface.{proper, slot, numberOf, wrapEnds, stepOn, flipped as allFlipped};
+ghost use Rattle.surface.specs.Surface.{proper, slot, triangleNumber, wrapEnds, stepOn, flipped as allFlipped};
 ghost use Rattle.surface.specs.Found.{ofMapping, seamOf};
 ghost use Rattle.mesh.specs.Corners.{shapeOf, Bounded, Maps};
 ghost use Rattle.mesh.specs.Held.{pairsIn};
-ghost use Rattle.mesh.specs.Rims.{stepsOf, lowOf, highOf, Rims, Starts, plus, flipStep, flipSteps, flips};
+ghost use Rattle.mesh.specs.Rims.{stepsOf, lowOf, highOf, Rims, Starts, oneMore, flipStep, flipSteps, flips};
 
 // Which seam: the one that joins u = 0 and u = M, or the one that joins v = 0 and v = N. Its low rim is the first of
 // the two, its high rim the other.
@@ -40,9 +40,9 @@ fn second_differs(surface: Surface, u: usize, v: usize) -> bool
     differ(c.i10, c.i11, c.i01)
 }
 
-fn plus(count: usize, one: bool) -> usize
+fn one_more(count: usize, one: bool) -> usize
     requires { ⌜ count ≤ 130050 ⌝ }
-    ensures { λ r. ⌜ r ≡ plus count one ⌝ }
+    ensures { λ r. ⌜ r ≡ oneMore count one ⌝ }
 {
     if one { count + 1 } else { count }
 }
@@ -50,18 +50,18 @@ fn plus(count: usize, one: bool) -> usize
 // The number of triangles after cell (u, v), from that before it.
 fn count_cell(surface: Surface, u: usize, v: usize, count: usize) -> usize
     requires { ⌜ Bounded surface × (u < surface .m) × (v < surface .n) ⌝ }
-    requires { ⌜ count ≡ numberOf (shapeOf surface) (2 * (u * surface .n + v)) ⌝ }
-    ensures { λ r. ⌜ r ≡ numberOf (shapeOf surface) (2 * (u * surface .n + (v + 1))) ⌝ }
+    requires { ⌜ count ≡ triangleNumber (shapeOf surface) (2 * (u * surface .n + v)) ⌝ }
+    ensures { λ r. ⌜ r ≡ triangleNumber (shapeOf surface) (2 * (u * surface .n + (v + 1))) ⌝ }
 {
-    let first = plus(count, first_differs(surface, u, v));
-    plus(first, second_differs(surface, u, v))
+    let first = one_more(count, first_differs(surface, u, v));
+    one_more(first, second_differs(surface, u, v))
 }
 
 // Counts the triangles before each cell (u, v), and before the next row.
 fn count_row(surface: Surface, u: usize, start: usize, counts: &mut [usize])
     requires { ⌜ Bounded surface × (u < surface .m) × (surface .n < length (now counts)) ⌝ }
-    requires { ⌜ start ≡ numberOf (shapeOf surface) (2 * (u * surface .n)) ⌝ }
-    ensures { λ _. ⌜ ((i : ℕ) → i ≤ surface .n → getD (now (counts .exit)) i 0 ≡ numberOf (shapeOf surface) (2 * (u * surface .n + i))) ⌝ }
+    requires { ⌜ start ≡ triangleNumber (shapeOf surface) (2 * (u * surface .n)) ⌝ }
+    ensures { λ _. ⌜ ((i : ℕ) → i ≤ surface .n → getD (now (counts .exit)) i 0 ≡ triangleNumber (shapeOf surface) (2 * (u * surface .n + i))) ⌝ }
 {
     let n = surface.n;
     let mut count = start;

@@ -15,7 +15,6 @@ use Rattle.lent.specs.Lent.{zeroFloat, filled}
 use Rattle.vector.specs.declared.Vector.{Vector}
 use Rattle.path.specs.GridPaths.{counting, alongU, alongV, gridLines, coordinates, startsFrom, pointCount, lineCount, pathsCheck, gridPaths}
 use Rattle.path.specs.Line.{lineStart, lineEnd, partOf, lineAt}
-use Rattle.path.specs.ReadBack.{lineOf, ReadBack}
 use Rattle.path.specs.Runs.{runs}
 use Rattle.path.proofs.Stores.{length-coordinates, coordinates-append, flatten-append, length-flatten-runs}
 use Rattle.path.proofs.Lines.{grid-lines}
@@ -158,6 +157,15 @@ line-v g m n u h =
     let z : 0 + u ≡ u = omega arith in
     ap (λ (k : ℕ). getD (us ++ map (alongV g m n) (counting 0 (suc m))) k []) e ∙ getD-append-add us (map (alongV g m n) (counting 0 (suc m))) u []
     ∙ getD-counting (alongV g m n) [] 0 (suc m) u (omega arith) ∙ ap (alongV g m n) z
+
+-- line number k of what a call leaves in its lists
+abbrev pub lineOf : List Float → ℕ → ℕ → List Float → List ℕ → ℕ → List Float
+lineOf g m n points starts k = lineAt (gridPaths g m n points starts .points) (gridPaths g m n points starts .starts) (pointCount m n) (lineCount m n) k
+
+-- what the two calls are to each other: each line of `grid_paths`, read back by `get`, is the row or column that it stands for
+pub record ReadBack (g : List Float) (m n : ℕ) (points : List Float) (starts : List ℕ) : Type 0 where
+  pub along-u : (v : ℕ) → v ≤ n → lineOf g m n points starts v ≡ coordinates (alongU g m n v)
+  pub along-v : (u : ℕ) → u ≤ m → lineOf g m n points starts (n + 1 + u) ≡ coordinates (alongV g m n u)
 
 module _ (g : List Float) (m n : ℕ) (points : List Float) (starts : List ℕ) (passed : pathsCheck g m n points starts ≡ Passed) where
   line-of : (k : ℕ) → k < lineCount m n → lineOf g m n points starts k ≡ coordinates (getD (gridLines g m n) k [])

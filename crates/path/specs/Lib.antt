@@ -1,5 +1,4 @@
 -- The definitions that the contracts of this crate cite.
 pub mod GridPaths
 pub mod Line
-pub mod ReadBack
 pub mod Runs

@@ -6,7 +6,8 @@ use mathlib.Core.Logic.{_⊎_, inl, inr, ⊎-elim}
 use mathlib.Core.Bool.{Bool, true, false, not, true≢false}
 use native.Mathlib.Omega.{arith}
 use lib.Arith.{digits-div, digits-mod}
-use Rattle.surface.specs.Surface.{Seam, unjoined, forward, reverse, joined, inverse, Rule, once, twice, Split, falling, rising, Shape, number, at, Beside, AtZero, Covered, neither, only-u, only-v, both-u, both-v}
+use Rattle.surface.specs.Surface.{Seam, unjoined, forward, reverse, joined, inverse, Rule, once, twice, Split, falling, rising, Shape, number, at}
+use Rattle.surface.proofs.Covered.{AtZero, Beside, Covered, neither, only-u, only-v, both-u, both-v}
 use Rattle.surface.proofs.Steps.{Fits, Offset, inv-forward-0, inv-forward, inv-reverse}
 use Rattle.surface.proofs.Strip.{Strip, Kind, straight, across, diagonal}
 use Rattle.surface.proofs.Halves.{cellHalf, cellDir}

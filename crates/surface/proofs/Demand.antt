@@ -11,7 +11,8 @@ use lib.Arith.{digits-div, digits-mod}
 use lib.ListN.{length}
 use borrow.Author.Tests.{ne-eqb}
 use Rattle.cyclic.specs.Mapping.{pick}
-use Rattle.surface.specs.Surface.{Seam, unjoined, forward, reverse, reversed, Shape, J, Triangle, slot, proper, slots, triangles, Pair, pair, ordered, numberOf, stepOn, process, flipped, Follows, nth, Owns, OwnedOnce, OwnedTwice, Rim, SameWay, GridEdge, along-u, along-v, EdgeNumbers, Jₙ, Meets, CoveredMeets, falls, rises}
+use Rattle.surface.specs.Surface.{Seam, unjoined, forward, reverse, reversed, Shape, J, Triangle, slot, proper, slots, triangles, Pair, pair, ordered, triangleNumber, stepOn, process, flipped, Follows, nth, Owns, OwnedOnce, OwnedTwice, Rim, SameWay, GridEdge, along-u, along-v, number, at, Jₙ, Meets, falls, rises}
+use Rattle.surface.proofs.Covered.{CoveredMeets}
 use Rattle.surface.proofs.Steps.{lt-or-le, Fits, laidOn, on-below}
 use Rattle.surface.proofs.Strip.{Strip, straight}
 use Rattle.surface.proofs.CellSides.{Cell}
@@ -78,8 +79,8 @@ module _ (s : Shape) (m : 3 ≤ s .M) (n : 3 ≤ s .N) (ax : Axis) (seen : SeenA
   unfolding triangles
   nth-is i h = kept-at s (slots s) i slot-proper h
 
-  number-is : (i : ℕ) → i < slots s → numberOf s i ≡ i
-  unfolding numberOf
+  number-is : (i : ℕ) → i < slots s → triangleNumber s i ≡ i
+  unfolding triangleNumber
   number-is i h = kept-length s i (λ j k. slot-proper j (omega arith))
 
   -- ---- triangle i of the list is half `halfAt i` of cell (`xAt i`, `yAt i`) of the strip
@@ -232,12 +233,12 @@ module _ (s : Shape) (m : 3 ≤ s .M) (n : 3 ≤ s .N) (ax : Axis) (seen : SeenA
   high-cell : (y : ℕ) → y < Z .Y → Cell Z far y
   high-cell y h = (omega (arith, far-is), h)
 
-  low-ok : (y : ℕ) → y < Z .Y → (proper (slot s (lows ax s y)) ≡ true) × (numberOf s (lows ax s y) ≡ lows ax s y)
+  low-ok : (y : ℕ) → y < Z .Y → (proper (slot s (lows ax s y)) ≡ true) × (triangleNumber s (lows ax s y) ≡ lows ax s y)
   low-ok y h =
       let l : lows ax s y < slots s = omega (arith, low-is y h, indexOf-lt low-half 0 y (low-cell y h)) in
       (slot-proper (lows ax s y) l, number-is (lows ax s y) l)
 
-  high-ok : (y : ℕ) → y < Z .Y → (proper (slot s (highs ax s y)) ≡ true) × (numberOf s (highs ax s y) ≡ highs ax s y)
+  high-ok : (y : ℕ) → y < Z .Y → (proper (slot s (highs ax s y)) ≡ true) × (triangleNumber s (highs ax s y) ≡ highs ax s y)
   high-ok y h =
       let l : highs ax s y < slots s = omega (arith, high-is far y far-is h, indexOf-lt high-half far y (high-cell y h)) in
       (slot-proper (highs ax s y) l, number-is (highs ax s y) l)
@@ -340,6 +341,16 @@ covered-meets s m n c = let w = covered-along s c in meets s m n (w .0) (w .1)
 pub J-number : (s : Shape) (u v : ℕ) → v ≤ s .N → Jₙ s (u * (s .N + 1) + v) ≡ J s u v
 unfolding Jₙ
 J-number s u v h = let k : v < s .N + 1 = omega arith in rw (digits-div u k, digits-mod u k)
+
+-- p and q are the numbers of the two ends of a grid edge: "Beside each point stand the numbers of p and q"
+pub record EdgeNumbers (s : Shape) (p q : ℕ) : Type 0 where
+  pub u : ℕ
+  pub v : ℕ
+  pub u′ : ℕ
+  pub v′ : ℕ
+  pub edge : GridEdge s u v u′ v′
+  pub p-is : p ≡ number s (at u v)
+  pub q-is : q ≡ number s (at u′ v′)
 
 -- what a trace records: J of the two numbers are the ends of a side
 pub traced : (s : Shape) → Meets s → (p q : ℕ) → EdgeNumbers s p q → (i : ℕ) × Owns (triangles s) (Jₙ s p) (Jₙ s q) i

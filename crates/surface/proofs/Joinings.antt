@@ -16,10 +16,11 @@ use Rattle.cyclic.specs.Mapping.{stepsOf, offsetOf}
 use Rattle.cyclic.specs.Mapping as mapping
 use Rattle.cyclic.specs.Search.{Row, rowOf, Closeness, searchRows}
 use Rattle.cyclic.proofs.Laws.{found-steps, found-below}
-use Rattle.surface.specs.Surface.{forward, inverse, Covered, neither, only-u, only-v, both-u, both-v, Meets, triangles, Owns, EdgeNumbers, Jₙ}
+use Rattle.surface.specs.Surface.{forward, inverse, Meets, triangles, Owns, Jₙ}
 use Rattle.surface.specs.Found.{uSearch, vSearch, ofMapping, surfaceWith, surfaceOf, ForwardAtZero, CoveredJoining, CoveredGrid, SurfaceMeets}
+use Rattle.surface.proofs.Covered.{Covered, neither, only-u, only-v, both-u, both-v}
 use Rattle.surface.proofs.Searches.{u-search, v-search}
-use Rattle.surface.proofs.Demand.{covered-meets, traced}
+use Rattle.surface.proofs.Demand.{covered-meets, EdgeNumbers, traced}
 
 -- ---- what a search finds
 

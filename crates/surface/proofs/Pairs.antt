@@ -10,7 +10,7 @@ use lib.Dec.{eqb, ltb}
 use lib.ListN.{length}
 use borrow.Author.Tests.{eq-eqb, ne-eqb, ltb-true, ltb-false, lt-ltb}
 use Rattle.cyclic.specs.Mapping.{pick}
-use Rattle.surface.specs.Surface.{Seam, reverse, reversed, inverse, Shape, slot, proper, triangles, Pair, pair, ordered, insert, Before, Ascending, numberOf, stepOn, process, flipped, lowU, highU, lowV, highV, wrapEnds}
+use Rattle.surface.specs.Surface.{Seam, reverse, reversed, inverse, Shape, slot, proper, triangles, Pair, pair, ordered, insert, triangleNumber, stepOn, process, flipped, lowU, highU, lowV, highV, wrapEnds}
 use Rattle.surface.proofs.Steps.{both-true, eqb-cases, lt-or-le, Offset, laidOn, reverse-step}
 use Rattle.surface.proofs.Triangles.{number-below}
 use Rattle.surface.proofs.Halves.{lowU-lt, highU-lt, lowV-lt, highV-lt}
@@ -122,6 +122,14 @@ insert-here p (r ∷ rs) =
 
 -- ---- ascending
 
+-- "ascending by the first and then the second, each pair once", as a property of a list
+abbrev pub Before : Pair → Pair → Type 0
+Before p q = (p .low < q .low) ⊎ ((p .low ≡ q .low) × (p .high < q .high))
+
+abbrev pub Ascending : List Pair → Type 0
+Ascending [] = Unit {0}
+Ascending (p ∷ ps) = ((q : Pair) → List·Memᴰ q ps → Before p q) × Ascending ps
+
 before-trans : (p q r : Pair) → Before p q → Before q r → Before p r
 before-trans p q r (inl a) (inl b) = inl (omega arith)
 before-trans p q r (inl a) (inr b) = inl (omega arith)
@@ -167,7 +175,7 @@ module _ (s : Shape) (m : Seam) (steps : ℕ) (low high : ℕ → ℕ) (P : ℕ 
   abbrev Puts : ℕ → Type 0
   Puts n =
       (y : ℕ) (qs : List Pair) → y < n → stepOn m steps y < steps → proper (slot s (low (stepOn m steps y))) ≡ true → proper (slot s (high y)) ≡ true →
-      P y qs → P (suc y) (insert (ordered (numberOf s (low (stepOn m steps y))) (numberOf s (high y))) qs)
+      P y qs → P (suc y) (insert (ordered (triangleNumber s (low (stepOn m steps y))) (triangleNumber s (high y))) qs)
 
   process-keeps : (n : ℕ) (ps : List Pair) → P 0 ps → Skips n → Puts n → P n (process s m steps low high n ps)
   unfolding process
@@ -225,7 +233,7 @@ insert-length p (r ∷ rs) =
 pub process-at-most : (s : Shape) (m : Seam) (steps : ℕ) (low high : ℕ → ℕ) (n : ℕ) (ps : List Pair) → length (process s m steps low high n ps) ≤ length ps + n
 process-at-most s m steps low high n ps =
     process-keeps s m steps low high (λ (k : ℕ) (qs : List Pair). length qs ≤ length ps + k) n ps (omega arith)
-    (λ y qs h a. omega arith) (λ y qs h l e f a. omega (arith, insert-length (ordered (numberOf s (low (stepOn m steps y))) (numberOf s (high y))) qs))
+    (λ y qs h a. omega arith) (λ y qs h l e f a. omega (arith, insert-length (ordered (triangleNumber s (low (stepOn m steps y))) (triangleNumber s (high y))) qs))
 
 pub flipped-at-most : (s : Shape) → length (flipped s) ≤ s .M + s .N
 unfolding flipped
@@ -240,8 +248,8 @@ flipped-at-most s =
 module _ (s : Shape) (m : Seam) (Y : ℕ) (lows highs on : ℕ → ℕ)
     (on-is : (y : ℕ) → y < Y → stepOn m Y y ≡ on y)
     (on-lt : (y : ℕ) → y < Y → on y < Y)
-    (low-proper : (y : ℕ) → y < Y → (proper (slot s (lows y)) ≡ true) × (numberOf s (lows y) ≡ lows y))
-    (high-proper : (y : ℕ) → y < Y → (proper (slot s (highs y)) ≡ true) × (numberOf s (highs y) ≡ highs y))
+    (low-proper : (y : ℕ) → y < Y → (proper (slot s (lows y)) ≡ true) × (triangleNumber s (lows y) ≡ lows y))
+    (high-proper : (y : ℕ) → y < Y → (proper (slot s (highs y)) ≡ true) × (triangleNumber s (highs y) ≡ highs y))
   where
     process-step : (n : ℕ) → n < Y → process s m Y lows highs (suc n) [] ≡ insert (ordered (lows (on n)) (highs n)) (process s m Y lows highs n [])
     unfolding process

@@ -12,7 +12,7 @@ use lib.Arith.{digits-div, digits-mod, digits-lt}
 use lib.ListN.{length, getD, length-append, List·getD-append}
 use borrow.Author.Tests.{eq-eqb, ne-eqb}
 use Rattle.cyclic.specs.Mapping.{pick}
-use Rattle.surface.specs.Surface.{Shape, Triangle, tri, halfOf, slot, slots, proper, kept, triangles, numberOf, nth}
+use Rattle.surface.specs.Surface.{Shape, Triangle, tri, halfOf, slot, slots, proper, kept, triangles, triangleNumber, nth}
 use Rattle.surface.proofs.Steps.{eqb-cases, lt-or-le}
 
 -- ---- of any shape
@@ -48,8 +48,8 @@ kept-grows s i (suc n) h =
     (lt-or-le i (suc n))
 
 -- a slot that emits its triangle has a number of the list
-pub number-below : (s : Shape) (i : ℕ) → i < slots s → proper (slot s i) ≡ true → numberOf s i < length (triangles s)
-unfolding numberOf triangles
+pub number-below : (s : Shape) (i : ℕ) → i < slots s → proper (slot s i) ≡ true → triangleNumber s i < length (triangles s)
+unfolding triangleNumber triangles
 number-below s i h e =
     let more : length (kept s (suc i)) ≡ length (kept s i) + 1 = kept-more s i ∙ ap (λ (t : Bool). length (kept s i) + pick t 1 0) e in
     let up : suc i ≤ slots s = omega arith in

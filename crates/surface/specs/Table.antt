@@ -4,18 +4,18 @@ use mathlib.Core.Path.{_≡_, refl}
 use mathlib.Core.Bool.{Bool, true}
 use mathlib.Core.List.{[], _∷_}
 use Rattle.cyclic.specs.Mapping as mapping
-use Rattle.surface.specs.Surface.{Seam, unjoined, forward, reverse, Shape, Rule, once, twice, Split, falling, rising, cornerBy, corner, tri, halfOf, slot, slots, kept, triangles, numberOf, pair, stepOn, lowU, highU, lowV, highV, process, flipped, joinedBy, J, nth}
+use Rattle.surface.specs.Surface.{Seam, unjoined, forward, reverse, Shape, Rule, once, twice, Split, falling, rising, cornerBy, corner, tri, halfOf, slot, slots, kept, triangles, triangleNumber, pair, stepOn, lowU, highU, lowV, highV, process, flipped, joinedBy, J, nth}
 
 -- all that a closed result computes through
 unfoldable computed : Bool
-unfolding mapping.inverse cornerBy corner halfOf slot slots kept triangles numberOf stepOn lowU highU lowV highV process flipped joinedBy J
+unfolding mapping.inverse cornerBy corner halfOf slot slots kept triangles triangleNumber stepOn lowU highU lowV highV process flipped joinedBy J
 computed = true
 
 abbrev shape : ℕ → ℕ → Seam → Seam → Rule → Split → Shape
 shape M N su sv rule split = record { M = M; N = N; su = su; sv = sv; rule = rule; split = split }
 
 -- "M=N=1, no seam: triangles 0,2,1 and 2,3,1."
-no-seam : triangles (shape 1 1 unjoined unjoined once falling) ≡ tri 0 2 1 ∷ tri 2 3 1 ∷ []
+pub no-seam : triangles (shape 1 1 unjoined unjoined once falling) ≡ tri 0 2 1 ∷ tri 2 3 1 ∷ []
 unfolding computed
 no-seam = refl
 
@@ -25,7 +25,7 @@ unfolding computed
 no-triangle = refl
 
 -- "M=N=3, u seam Reverse(0), v unjoined: flipped (0,17), (2,15), (4,13)."
-reversed-u : flipped (shape 3 3 (reverse 0) unjoined once falling) ≡ pair 0 17 ∷ pair 2 15 ∷ pair 4 13 ∷ []
+pub reversed-u : flipped (shape 3 3 (reverse 0) unjoined once falling) ≡ pair 0 17 ∷ pair 2 15 ∷ pair 4 13 ∷ []
 unfolding computed
 reversed-u = refl
 

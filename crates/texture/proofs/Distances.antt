@@ -29,7 +29,7 @@ use Rattle.edges.specs.Param.{param}
 use Rattle.edges.specs.declared.point.ParamPoint.{ParamPoint}
 use Rattle.texture.specs.declared.plan.ParametricSurfaceTexture.{ParametricSurfaceTexture}
 use Rattle.texture.specs.declared.plan.ParametricSurfaceTexture.the-variants.{Swirl, Spiral}
-use Rattle.texture.specs.Plan.{half, centre, radius, planCheck, Plan, planOf, plan}
+use Rattle.texture.specs.Plan.{half, centre, textureRadius, planCheck, Plan, planOf, plan}
 use Rattle.texture.specs.Sample.{distanceOf, directionFits, pointOf, isThere, samplePoint}
 use Rattle.texture.proofs.Plans.{never, plan-passed, plan-ok}
 use Rattle.texture.proofs.Laws.{checks, swirl-counts, spiral-counts}
@@ -176,8 +176,8 @@ abbrev halved : Float → Float
 halved x = mul binary64 x half
 
 -- finite and above 0
-pub radius-positive : (m n : ℕ) → Stepped m n → T (positive (radius m n))
-unfolding radius
+pub radius-positive : (m n : ℕ) → Stepped m n → T (positive (textureRadius m n))
+unfolding textureRadius
 radius-positive m n s =
     let x = larger (natFloat m) (natFloat n) in
     let i = larger-keeps (λ z. Inside (natFloat 1) z (natFloat 255)) (natFloat m) (natFloat n) (nat-inside m (s .m-least) (s .m-most)) (nat-inside n (s .n-least) (s .n-most)) in
@@ -198,17 +198,17 @@ module _ (s : Float) (m n c : ℕ) (k : Stepped m n) (lo : 1 ≤ c) (hi : c ≤ 
   -- of the first of c samples of a swirl's ray
   pub swirl-first : (w : Float) → distanceOf (Swirl s w) m n c 0 ≡ zero64
   swirl-first w =
-      ap (λ (x : Float). div binary64 (mul binary64 (radius m n) x) (natFloat c)) nat-zero
-      ∙ ap (λ (x : Float). div binary64 x (natFloat c)) (positive-zero (radius m n) (radius-positive m n k))
+      ap (λ (x : Float). div binary64 (mul binary64 (textureRadius m n) x) (natFloat c)) nat-zero
+      ∙ ap (λ (x : Float). div binary64 x (natFloat c)) (positive-zero (textureRadius m n) (radius-positive m n k))
       ∙ zero-div (natFloat c) (nat-positive c lo hi)
       ∙ zero-is
 
   -- of the last of c samples of a spiral's ray
   pub spiral-last : (a : ℕ) → distanceOf (Spiral s a) m n c c ≡ zero64
   spiral-last a =
-      ap (λ (x : Float). mul binary64 (radius m n) (sub binary64 one64 x)) (div-self (natFloat c) (nat-positive c lo hi))
-      ∙ ap (mul binary64 (radius m n)) (sub-self one64 (unfold isFinite ofBits in refl))
-      ∙ positive-zero (radius m n) (radius-positive m n k)
+      ap (λ (x : Float). mul binary64 (textureRadius m n) (sub binary64 one64 x)) (div-self (natFloat c) (nat-positive c lo hi))
+      ∙ ap (mul binary64 (textureRadius m n)) (sub-self one64 (unfold isFinite ofBits in refl))
+      ∙ positive-zero (textureRadius m n) (radius-positive m n k)
       ∙ zero-is
 
 -- ---- points

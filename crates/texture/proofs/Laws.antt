@@ -24,7 +24,7 @@ use Rattle.grid.specs.Grid.{stepsFit}
 use Rattle.grid.proofs.Laws.{and-both, unless-passed}
 use Rattle.texture.specs.declared.plan.ParametricSurfaceTexture.{ParametricSurfaceTexture}
 use Rattle.texture.specs.declared.plan.ParametricSurfaceTexture.the-variants.{Grid, Swirl, Spiral}
-use Rattle.texture.specs.Plan.{two, swirlRays, swirlSamples, spiralSamples, stepsAlong, raysOf, samplesOf, textureFits, maxCount, countsFit, planCheck, Plan, planOf, plan}
+use Rattle.texture.specs.Plan.{two, swirlRays, radialSampleCount, spiralSampleCount, stepsAlong, raysOf, samplesPerRay, textureFits, maxCount, countsFit, planCheck, Plan, planOf, plan}
 use Rattle.texture.proofs.Plans.{plan-passed}
 
 -- ---- the larger of two is at least the second
@@ -62,20 +62,20 @@ cut-between x k n hk hn lo hi =
 
 -- ---- what a plan passed
 pub checks : (t : ParametricSurfaceTexture) (m n : ℕ) (after : Check) → planCheck t m n after ≡ Passed
-    → (stepsFit m n ≡ true) × (textureFits t ≡ true) × (countsFit (raysOf m n t) (samplesOf m n t) ≡ true) × (after ≡ Passed)
+    → (stepsFit m n ≡ true) × (textureFits t ≡ true) × (countsFit (raysOf m n t) (samplesPerRay m n t) ≡ true) × (after ≡ Passed)
 unfolding planCheck
 checks t m n after h =
-    let counts = countsFit (raysOf m n t) (samplesOf m n t) in
+    let counts = countsFit (raysOf m n t) (samplesPerRay m n t) in
     let a = unless-passed (stepsFit m n) Steps (unless (textureFits t) Texture (unless counts Count after)) h in
     let b = unless-passed (textureFits t) Texture (unless counts Count after) (a .1) in
     let c = unless-passed counts Count after (b .1) in
     (a .0, b .0, c .0, c .1)
 
-passes : (t : ParametricSurfaceTexture) (m n : ℕ) {p : Plan} → plan t m n ≡ ok p → (textureFits t ≡ true) × (le (raysOf m n t) maxCount ≡ true) × (le (samplesOf m n t) maxCount ≡ true) × (p ≡ planOf t m n)
+passes : (t : ParametricSurfaceTexture) (m n : ℕ) {p : Plan} → plan t m n ≡ ok p → (textureFits t ≡ true) × (le (raysOf m n t) maxCount ≡ true) × (le (samplesPerRay m n t) maxCount ≡ true) × (p ≡ planOf t m n)
 passes t m n e =
     let k = plan-passed t m n Passed (sym e) in
     let a = checks t m n Passed (k .0) in
-    let c = and-both (le (raysOf m n t) maxCount) (le (samplesOf m n t) maxCount) (a .2) in
+    let c = and-both (le (raysOf m n t) maxCount) (le (samplesPerRay m n t) maxCount) (a .2) in
     (a .1, c .0, c .1, k .1)
 
 -- ---- the counts
@@ -86,15 +86,15 @@ pub record Counts (p : Plan) : Type 0 where
   pub samples-most : p .samples ≤ 65536
 
 -- of rays and samples that are floats
-counts-of : (t : ParametricSurfaceTexture) (m n : ℕ) {p : Plan} → plan t m n ≡ ok p → le one64 (raysOf m n t) ≡ true → le two (samplesOf m n t) ≡ true → Counts p
+counts-of : (t : ParametricSurfaceTexture) (m n : ℕ) {p : Plan} → plan t m n ≡ ok p → le one64 (raysOf m n t) ≡ true → le two (samplesPerRay m n t) ≡ true → Counts p
 counts-of t m n e r s =
     let k = passes t m n e in
     let rays = cut-between (raysOf m n t) 1 65536 (lit≤ tt) (lit≤ tt) (unfold natFloat ofInt ofBits in r) (unfold natFloat ofInt ofBits in (k .1)) in
-    let samples = cut-between (samplesOf m n t) 2 65536 (lit≤ tt) (lit≤ tt) (unfold natFloat ofInt ofBits in s) (unfold natFloat ofInt ofBits in (k .2)) in
+    let samples = cut-between (samplesPerRay m n t) 2 65536 (lit≤ tt) (lit≤ tt) (unfold natFloat ofInt ofBits in s) (unfold natFloat ofInt ofBits in (k .2)) in
     subst Counts (sym (k .3)) (record { rays-least = rays .0; rays-most = rays .1; samples-least = samples .0; samples-most = samples .1 })
 
 pub swirl-counts : (s w : Float) (m n : ℕ) {p : Plan} → plan (Swirl s w) m n ≡ ok p → Counts p
-unfolding swirlRays swirlSamples stepsAlong
+unfolding swirlRays radialSampleCount stepsAlong
 swirl-counts s w m n e = counts-of (Swirl s w) m n e (larger-least _ one64 (unfold isNan ofBits in refl)) (larger-least _ two (unfold isNan ofBits in refl))
 
 -- arms are rays, and no arms are one
@@ -113,7 +113,7 @@ one-is : natFloat 1 ≡ one64
 one-is = unfold natFloat ofInt ofBits in refl
 
 pub spiral-counts : (s : Float) (a m n : ℕ) {p : Plan} → plan (Spiral s a) m n ≡ ok p → Counts p
-unfolding spiralSamples stepsAlong
+unfolding spiralSampleCount stepsAlong
 spiral-counts s a m n e =
     let b = arms-fit a (leb-true a 64 (passes (Spiral s a) m n e .0)) in
     let one = ap (λ (x : Float). le x (natFloat (max a 1))) (sym one-is) ∙ nat-le 1 (max a 1) (lit≤ tt) (b .1) ∙ le-leb 1 (max a 1) (b .0) in

@@ -1,4 +1,4 @@
--- `raysOf`, `samplesOf` and `plan` by the cases of the code, from what the calls gave. Assumes nothing.
+-- `raysOf`, `samplesPerRay` and `plan` by the cases of the code, from what the calls gave. Assumes nothing.
 use mathlib.Core.Path.{_≡_, refl, sym, ap, _∙_}
 use mathlib.Core.Bool.{Bool, true, false, _&&_}
 use Prim.Native.Nat.{ℕ, max}
@@ -12,20 +12,20 @@ use Rattle.refusal.specs.declared.Refusal.the-variants.{Steps, Texture, Count}
 use Rattle.grid.specs.Grid.{stepsFit}
 use Rattle.texture.specs.declared.plan.ParametricSurfaceTexture.{ParametricSurfaceTexture}
 use Rattle.texture.specs.declared.plan.ParametricSurfaceTexture.the-variants.{Grid, Swirl, Spiral}
-use Rattle.texture.specs.Plan.{spacingOf, swirlRays, swirlSamples, spiralSamples, raysOf, samplesOf, textureFits, maxCount, countsFit, planCheck, Plan, planOf, plan}
+use Rattle.texture.specs.Plan.{textureSpacing, swirlRays, radialSampleCount, spiralSampleCount, raysOf, samplesPerRay, textureFits, maxCount, countsFit, planCheck, Plan, planOf, plan}
 
 module _ (m n : ℕ) {t : ParametricSurfaceTexture} {s : Float} where
-  pub rays-swirl : {w x r : Float} → t ≡ Swirl s w → x ≡ spacingOf s → r ≡ swirlRays m n x → r ≡ raysOf m n t
+  pub rays-swirl : {w x r : Float} → t ≡ Swirl s w → x ≡ textureSpacing s → r ≡ swirlRays m n x → r ≡ raysOf m n t
   rays-swirl e p q = q ∙ ap (swirlRays m n) p ∙ ap (raysOf m n) (sym e)
 
   pub rays-spiral : {a k : ℕ} {r : Float} → t ≡ Spiral s a → k ≡ max a 1 → r ≡ natFloat k → r ≡ raysOf m n t
   rays-spiral e p q = q ∙ ap natFloat p ∙ ap (raysOf m n) (sym e)
 
-  pub samples-swirl : {w x r : Float} → t ≡ Swirl s w → x ≡ spacingOf s → r ≡ swirlSamples m n x w → r ≡ samplesOf m n t
-  samples-swirl {w} e p q = q ∙ ap (λ (y : Float). swirlSamples m n y w) p ∙ ap (samplesOf m n) (sym e)
+  pub samples-swirl : {w x r : Float} → t ≡ Swirl s w → x ≡ textureSpacing s → r ≡ radialSampleCount m n x w → r ≡ samplesPerRay m n t
+  samples-swirl {w} e p q = q ∙ ap (λ (y : Float). radialSampleCount m n y w) p ∙ ap (samplesPerRay m n) (sym e)
 
-  pub samples-spiral : {a : ℕ} {x r : Float} → t ≡ Spiral s a → x ≡ spacingOf s → r ≡ spiralSamples m n x → r ≡ samplesOf m n t
-  samples-spiral e p q = q ∙ ap (spiralSamples m n) p ∙ ap (samplesOf m n) (sym e)
+  pub samples-spiral : {a : ℕ} {x r : Float} → t ≡ Spiral s a → x ≡ textureSpacing s → r ≡ spiralSampleCount m n x → r ≡ samplesPerRay m n t
+  samples-spiral e p q = q ∙ ap (spiralSampleCount m n) p ∙ ap (samplesPerRay m n) (sym e)
 
 -- the tests in their order, b and f being the code's
 module _ (t : ParametricSurfaceTexture) (m n : ℕ) {b : Bool} (eb : b ≡ stepsFit m n) where
@@ -38,7 +38,7 @@ module _ (t : ParametricSurfaceTexture) (m n : ℕ) {b : Bool} (eb : b ≡ steps
     unfolding plan planCheck
     plan-texture k = rw (← eb, h, ← ef, k)
 
-    module _ (k : f ≡ true) {r s : Float} (er : r ≡ raysOf m n t) (es : s ≡ samplesOf m n t) where
+    module _ (k : f ≡ true) {r s : Float} (er : r ≡ raysOf m n t) (es : s ≡ samplesPerRay m n t) where
       pub plan-counts : le r maxCount && le s maxCount ≡ false → refused 6 ≡ plan t m n
       unfolding plan planCheck
       plan-counts l = rw (← eb, h, ← ef, k, ← er, ← es, l)
@@ -72,9 +72,9 @@ module _ (t : ParametricSurfaceTexture) (m n : ℕ) (after : Check) where
   -- where there is a plan, only the tests after its own are left
   pub plan-passed : {p : Plan} → ok p ≡ plan t m n → (planCheck t m n after ≡ after) × (p ≡ planOf t m n)
   unfolding plan planCheck
-  plan-passed e = chain-passed (stepsFit m n) (textureFits t) (countsFit (raysOf m n t) (samplesOf m n t)) (planOf t m n) after e
+  plan-passed e = chain-passed (stepsFit m n) (textureFits t) (countsFit (raysOf m n t) (samplesPerRay m n t)) (planOf t m n) after e
 
   -- where there is none, its refusal is the answer
   pub plan-failed : {A : Type 0} {k : ℕ} (z : Answer A) → refused k ≡ plan t m n → refused k ≡ passing (planCheck t m n after) z
   unfolding plan planCheck
-  plan-failed z e = chain-failed (stepsFit m n) (textureFits t) (countsFit (raysOf m n t) (samplesOf m n t)) (planOf t m n) after z e
+  plan-failed z e = chain-failed (stepsFit m n) (textureFits t) (countsFit (raysOf m n t) (samplesPerRay m n t)) (planOf t m n) after z e

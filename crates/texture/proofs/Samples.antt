@@ -17,7 +17,7 @@ use Rattle.texture.specs.declared.plan.ParametricSurfaceTexture.{Paramet
 use Rattle.texture.specs.declared.plan.ParametricSurfaceTexture.the-variants.{Swirl, Spiral}
 use Rattle.texture.specs.declared.plan.PlanAnswer.{PlanAnswer}
 use Rattle.texture.specs.declared.plan.PlanAnswer.the-variants as answers
-use Rattle.texture.specs.Plan.{centre, radius, spacingOf, spiralTurns, planCheck, Plan, planOf, plan, statedPlan}
+use Rattle.texture.specs.Plan.{centre, textureRadius, textureSpacing, spiralTurns, planCheck, Plan, planOf, plan, statedPlan}
 use Rattle.texture.specs.Sample.{part, baseAngle, turnOf, angleOf, distanceOf, pointOf, isThere, angle, directionFits, samplePoint}
 use Rattle.texture.proofs.Plans.{plan-passed, plan-failed}
 
@@ -25,13 +25,13 @@ module _ (m n count i : ℕ) {t : ParametricSurfaceTexture} {s : Float} where
   pub turn-swirl : {w a b : Float} → t ≡ Swirl s w → a ≡ natFloat i → b ≡ natFloat count → div binary64 (mul binary64 (mul binary64 tau w) a) b ≡ turnOf t m n count i
   turn-swirl e p q = rw (e, p, q)
 
-  pub turn-spiral : {k : ℕ} {x y z : Float} → t ≡ Spiral s k → x ≡ spacingOf s → y ≡ spiralTurns m n x → z ≡ part i count → mul binary64 (mul binary64 z tau) y ≡ turnOf t m n count i
+  pub turn-spiral : {k : ℕ} {x y z : Float} → t ≡ Spiral s k → x ≡ textureSpacing s → y ≡ spiralTurns m n x → z ≡ part i count → mul binary64 (mul binary64 z tau) y ≡ turnOf t m n count i
   turn-spiral e p q r = rw (e, q, p, r)
 
-  pub distance-swirl : {w r a b : Float} → t ≡ Swirl s w → r ≡ radius m n → a ≡ natFloat i → b ≡ natFloat count → div binary64 (mul binary64 r a) b ≡ distanceOf t m n count i
+  pub distance-swirl : {w r a b : Float} → t ≡ Swirl s w → r ≡ textureRadius m n → a ≡ natFloat i → b ≡ natFloat count → div binary64 (mul binary64 r a) b ≡ distanceOf t m n count i
   distance-swirl e o p q = rw (e, o, p, q)
 
-  pub distance-spiral : {k : ℕ} {r z : Float} → t ≡ Spiral s k → r ≡ radius m n → z ≡ part i count → mul binary64 r (sub binary64 one64 z) ≡ distanceOf t m n count i
+  pub distance-spiral : {k : ℕ} {r z : Float} → t ≡ Spiral s k → r ≡ textureRadius m n → z ≡ part i count → mul binary64 r (sub binary64 one64 z) ≡ distanceOf t m n count i
   distance-spiral e o p = rw (e, o, p)
 
 pub point-is : (t : ParametricSurfaceTexture) (m n count i : ℕ) (cosine sine : Float) {r a b : Float} → r ≡ distanceOf t m n count i → a ≡ centre m → b ≡ centre n

@@ -30,19 +30,19 @@ two = ofBits binary64 0x4000000000000000
 abbrev pub twentieth : Float
 twentieth = ofBits binary64 0x3FA999999999999A
 
--- ---- `texture_center_radius`, `texture_spacing`
+-- ---- `texture_center_radius`, in two; `texture_spacing`
 
 -- the middle of an axis of n steps
 abbrev pub centre : ℕ → Float
 centre n = mul binary64 (natFloat n) half
 
 -- half the longer axis, times √2
-unfoldable pub radius : ℕ → ℕ → Float
-radius m n = mul binary64 (mul binary64 (larger (natFloat m) (natFloat n)) half) sqrt2
+unfoldable pub textureRadius : ℕ → ℕ → Float
+textureRadius m n = mul binary64 (mul binary64 (larger (natFloat m) (natFloat n)) half) sqrt2
 
 -- "Non-finite spacing, or at most EPS, becomes 1.0"
-unfoldable pub spacingOf : Float → Float
-spacingOf x = pick (isFinite x && lt eps x) x one64
+unfoldable pub textureSpacing : Float → Float
+textureSpacing x = pick (isFinite x && lt eps x) x one64
 
 -- ---- `radial_sample_count`, `spiral_sample_count`
 
@@ -57,33 +57,33 @@ stepsAlong length spacing = upFrom two (div binary64 length (clamped spacing twe
 -- ---- `paths_swirl`
 
 unfoldable pub swirlRays : ℕ → ℕ → Float → Float
-swirlRays m n spacing = upFrom one64 (div binary64 (mul binary64 tau (radius m n)) spacing)
+swirlRays m n spacing = upFrom one64 (div binary64 (mul binary64 tau (textureRadius m n)) spacing)
 
-unfoldable pub swirlSamples : ℕ → ℕ → Float → Float → Float
-swirlSamples m n spacing twist = stepsAlong (mul binary64 (radius m n) (add binary64 one64 (absolute (mul binary64 tau twist)))) spacing
+unfoldable pub radialSampleCount : ℕ → ℕ → Float → Float → Float
+radialSampleCount m n spacing twist = stepsAlong (mul binary64 (textureRadius m n) (add binary64 one64 (absolute (mul binary64 tau twist)))) spacing
 
 -- ---- `paths_spiral`
 
 unfoldable pub spiralTurns : ℕ → ℕ → Float → Float
-spiralTurns m n spacing = upFrom one64 (div binary64 (radius m n) spacing)
+spiralTurns m n spacing = upFrom one64 (div binary64 (textureRadius m n) spacing)
 
-unfoldable pub spiralSamples : ℕ → ℕ → Float → Float
-spiralSamples m n spacing =
-    stepsAlong (add binary64 (radius m n) (mul binary64 (mul binary64 (mul binary64 (radius m n) tau) (spiralTurns m n spacing)) half)) spacing
+unfoldable pub spiralSampleCount : ℕ → ℕ → Float → Float
+spiralSampleCount m n spacing =
+    stepsAlong (add binary64 (textureRadius m n) (mul binary64 (mul binary64 (mul binary64 (textureRadius m n) tau) (spiralTurns m n spacing)) half)) spacing
 
 -- ---- the plan
 
 -- rays, before they are a count; "0 arms becomes 1"
 abbrev pub raysOf : ℕ → ℕ → ParametricSurfaceTexture → Float
 raysOf m n Grid = zero64
-raysOf m n (Swirl spacing twist) = swirlRays m n (spacingOf spacing)
+raysOf m n (Swirl spacing twist) = swirlRays m n (textureSpacing spacing)
 raysOf m n (Spiral spacing arms) = natFloat (max arms 1)
 
 -- samples per ray, before they are a count
-abbrev pub samplesOf : ℕ → ℕ → ParametricSurfaceTexture → Float
-samplesOf m n Grid = zero64
-samplesOf m n (Swirl spacing twist) = swirlSamples m n (spacingOf spacing) twist
-samplesOf m n (Spiral spacing arms) = spiralSamples m n (spacingOf spacing)
+abbrev pub samplesPerRay : ℕ → ℕ → ParametricSurfaceTexture → Float
+samplesPerRay m n Grid = zero64
+samplesPerRay m n (Swirl spacing twist) = radialSampleCount m n (textureSpacing spacing) twist
+samplesPerRay m n (Spiral spacing arms) = spiralSampleCount m n (textureSpacing spacing)
 
 -- 64, and 65,536
 abbrev pub maxTwist : Float
@@ -107,7 +107,7 @@ unfoldable pub planCheck : ParametricSurfaceTexture → ℕ → ℕ → Check �
 planCheck t m n after =
     unless (stepsFit m n) refusals.Steps
     (unless (textureFits t) refusals.Texture
-    (unless (countsFit (raysOf m n t) (samplesOf m n t)) refusals.Count after))
+    (unless (countsFit (raysOf m n t) (samplesPerRay m n t)) refusals.Count after))
 
 -- the counts of a plan
 pub record Plan : Type 0 where
@@ -115,7 +115,7 @@ pub record Plan : Type 0 where
   pub samples : ℕ
 
 abbrev pub planOf : ParametricSurfaceTexture → ℕ → ℕ → Plan
-planOf t m n = record { rays = toUnsigned 64 (raysOf m n t); samples = toUnsigned 64 (samplesOf m n t) }
+planOf t m n = record { rays = toUnsigned 64 (raysOf m n t); samples = toUnsigned 64 (samplesPerRay m n t) }
 
 -- the open call
 unfoldable pub plan : ParametricSurfaceTexture → ℕ → ℕ → Answer Plan

@@ -19,7 +19,7 @@ use Rattle.texture.specs.declared.sample.AngleAnswer.{AngleAnswer}
 use Rattle.texture.specs.declared.sample.AngleAnswer.the-variants as angles
 use Rattle.texture.specs.declared.sample.SampleAnswer.{SampleAnswer}
 use Rattle.texture.specs.declared.sample.SampleAnswer.the-variants as points
-use Rattle.texture.specs.Plan.{centre, radius, spacingOf, spiralTurns, planCheck, Plan, planOf}
+use Rattle.texture.specs.Plan.{centre, textureRadius, textureSpacing, spiralTurns, planCheck, Plan, planOf}
 
 -- ---- the formulas
 
@@ -35,7 +35,7 @@ baseAngle rays ray = mul binary64 (part ray rays) tau
 abbrev pub turnOf : ParametricSurfaceTexture → ℕ → ℕ → ℕ → ℕ → Float
 turnOf Grid m n count i = zero64
 turnOf (Swirl spacing twist) m n count i = div binary64 (mul binary64 (mul binary64 tau twist) (natFloat i)) (natFloat count)
-turnOf (Spiral spacing arms) m n count i = mul binary64 (mul binary64 (part i count) tau) (spiralTurns m n (spacingOf spacing))
+turnOf (Spiral spacing arms) m n count i = mul binary64 (mul binary64 (part i count) tau) (spiralTurns m n (textureSpacing spacing))
 
 unfoldable pub angleOf : ParametricSurfaceTexture → ℕ → ℕ → Plan → ℕ → ℕ → Float
 angleOf t m n p ray i = add binary64 (baseAngle (p .rays) ray) (turnOf t m n (p .samples) i)
@@ -43,8 +43,8 @@ angleOf t m n p ray i = add binary64 (baseAngle (p .rays) ray) (turnOf t m n (p 
 -- how far a sample is from the centre
 abbrev pub distanceOf : ParametricSurfaceTexture → ℕ → ℕ → ℕ → ℕ → Float
 distanceOf Grid m n count i = zero64
-distanceOf (Swirl spacing twist) m n count i = div binary64 (mul binary64 (radius m n) (natFloat i)) (natFloat count)
-distanceOf (Spiral spacing arms) m n count i = mul binary64 (radius m n) (sub binary64 one64 (part i count))
+distanceOf (Swirl spacing twist) m n count i = div binary64 (mul binary64 (textureRadius m n) (natFloat i)) (natFloat count)
+distanceOf (Spiral spacing arms) m n count i = mul binary64 (textureRadius m n) (sub binary64 one64 (part i count))
 
 unfoldable pub pointOf : ParametricSurfaceTexture → ℕ → ℕ → ℕ → ℕ → Float → Float → ParamPoint
 pointOf t m n count i cosine sine =

@@ -14,7 +14,7 @@ use grid::steps_fit;
 use refusal::Refusal;
 ghost use mathlib.Core.Path.{_≡_};
 ghost use Prim.Native.Nat.{max};
-ghost use Rattle.texture.specs.Plan.{radius, spacingOf, upFrom, stepsAlong, swirlRays, swirlSamples, spiralTurns, spiralSamples, raysOf, samplesOf, textureFits, plan, statedPlan};
+ghost use Rattle.texture.specs.Plan.{textureRadius, textureSpacing, upFrom, stepsAlong, swirlRays, radialSampleCount, spiralTurns, spiralSampleCount, raysOf, samplesPerRay, textureFits, plan, statedPlan};
 
 pub enum ParametricSurfaceTexture {
     Grid,
@@ -29,14 +29,14 @@ pub enum PlanAnswer {
 
 // Half the longer axis, times the root of two: a circle that covers the grid.
 pub fn texture_radius(m: usize, n: usize) -> f64
-    ensures { λ r. ⌜ r ≡ radius m n ⌝ }
+    ensures { λ r. ⌜ r ≡ textureRadius m n ⌝ }
 {
     max(to_f64(m), to_f64(n)) * 0.5 * SQRT_2
 }
 
 // A spacing that is not finite, or at most EPS, becomes 1.0.
 pub fn texture_spacing(spacing: f64) -> f64
-    ensures { λ r. ⌜ r ≡ spacingOf spacing ⌝ }
+    ensures { λ r. ⌜ r ≡ textureSpacing spacing ⌝ }
 {
     if is_finite(spacing) & (EPS < spacing) {
         spacing
@@ -66,7 +66,7 @@ fn swirl_rays(m: usize, n: usize, spacing: f64) -> f64
 }
 
 fn radial_sample_count(m: usize, n: usize, spacing: f64, twist: f64) -> f64
-    ensures { λ r. ⌜ r ≡ swirlSamples m n spacing twist ⌝ }
+    ensures { λ r. ⌜ r ≡ radialSampleCount m n spacing twist ⌝ }
 {
     let turned = abs(TAU * twist);
     steps_along(texture_radius(m, n) * (1.0 + turned), spacing)
@@ -79,7 +79,7 @@ pub fn spiral_turns(m: usize, n: usize, spacing: f64) -> f64
 }
 
 fn spiral_sample_count(m: usize, n: usize, spacing: f64) -> f64
-    ensures { λ r. ⌜ r ≡ spiralSamples m n spacing ⌝ }
+    ensures { λ r. ⌜ r ≡ spiralSampleCount m n spacing ⌝ }
 {
     let radius = texture_radius(m, n);
     let turns = spiral_turns(m, n, spacing);
@@ -106,7 +106,7 @@ fn rays(texture: ParametricSurfaceTexture, m: usize, n: usize) -> f64
 }
 
 fn samples_per_ray(texture: ParametricSurfaceTexture, m: usize, n: usize) -> f64
-    ensures { λ r. ⌜ r ≡ samplesOf m n texture ⌝ }
+    ensures { λ r. ⌜ r ≡ samplesPerRay m n texture ⌝ }
 {
     match texture {
         ParametricSurfaceTexture::Grid => 0.0,

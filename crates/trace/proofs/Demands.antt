@@ -18,7 +18,7 @@ use Rattle.edges.specs.declared.point.ParamPoint.{ParamPoint}
 use Rattle.edges.specs.declared.event.ParamEdge.{ParamEdge}
 use Rattle.edges.specs.declared.event.ParamEdge.the-variants.{U, «V», Diagonal}
 use Rattle.edges.specs.declared.event.EdgeEvent.{EdgeEvent}
-use Rattle.surface.specs.Surface.{Shape, falling, EdgeNumbers, along-u, along-v, falls, triangles, Owns, Meets, Jₙ}
+use Rattle.surface.specs.Surface.{Shape, falling, along-u, along-v, falls, triangles, Owns, Meets, Jₙ}
 use Rattle.surface.specs.Found.{surfaceOf, CoveredGrid}
 use Rattle.grid.proofs.Laws.{accepted-known}
 use Rattle.edges.proofs.Laws.{events-inside}
@@ -57,7 +57,7 @@ module _ (g : List Float) (m n : ℕ) (hm : m ≤ 255) (hn : n ≤ 255) where
 
   -- made from the ends of a grid edge
   abbrev pub FromEdge : Crossing → Type 0
-  FromEdge c = EdgeNumbers s (c .p) (c .q)
+  FromEdge c = surface.EdgeNumbers s (c .p) (c .q)
 
   below : (x : Float) (k : ℕ) {i : ℕ} {t : Float} → k ≤ 255 → stepIndex x k ≡ At i t → i < k
   below x k h e = step-index-below x k (le-trans h (lit≤ tt)) e

@@ -8,9 +8,14 @@ use Rattle.edges.specs.Events.{sortedEdgeEvents}
 use Rattle.trace.specs.declared.page.Previous.the-variants.{Nowhere}
 use Rattle.trace.specs.Walk.{Sample, traced}
 use Rattle.trace.specs.Drawing.{Drawing, nothingDrawn, Room, pushSegmentPoint, flushSegment}
-use Rattle.trace.specs.Lines.{TwoOrMore}
 use Rattle.trace.proofs.Agree.{AnyCrossing, any-events}
 use Rattle.trace.proofs.Keeps.{Holding, traced-keeps}
+
+-- each line, from its start up to the next start or, for the last, to the count of points, has at least two points
+abbrev pub TwoOrMore : List ℕ → ℕ → Type 0
+TwoOrMore [] count = Unit {0}
+TwoOrMore (s ∷ []) count = s + 2 ≤ count
+TwoOrMore (s ∷ (t ∷ ss)) count = (s + 2 ≤ t) × TwoOrMore (t ∷ ss) count
 
 -- one line more, of the points from n up to k
 one-more : (ss : List ℕ) (n k : ℕ) → TwoOrMore ss n → n + 2 ≤ k → TwoOrMore (ss ++ (n ∷ [])) k

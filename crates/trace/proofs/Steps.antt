@@ -5,7 +5,7 @@ use lib.Signed.{nonNeg}
 use mir.Syntax.{w64}
 use mir.Val.{SFits, Fits, toZ, ofZ}
 use mir.ValLaws.{toZ-ofZ}
-use mathlib.Core.Bool.{Bool, true, false, _||_, cond}
+use mathlib.Core.Bool.{Bool, true, false, _||_}
 use Prim.Native.Nat.{ℕ, zero, suc, _-_, _^_, _≤_, _<_}
 use native.Mathlib.Nat.{zero-lt-suc}
 use native.Mathlib.Omega.{arith}
@@ -85,7 +85,7 @@ cell-below : (x : Float) (n : ℕ) → 0 < n → n ≤ 2 ^ 53 → cellOf (clampe
 unfolding cellOf closeTo
 cell-below x n N h = go (closeTo (clamped x zero64 (natFloat n)) n) refl
   where
-    go : (t : Bool) → closeTo (clamped x zero64 (natFloat n)) n ≡ t → cond t (n - 1) (count (floorZ (clamped x zero64 (natFloat n)))) < n
+    go : (t : Bool) → closeTo (clamped x zero64 (natFloat n)) n ≡ t → pick t (n - 1) (count (floorZ (clamped x zero64 (natFloat n)))) < n
     go true p = one-less n N
     go false p = floor-count x n N h p
 

@@ -2,8 +2,8 @@
 pub mod Crossing
 pub mod Walk
 pub mod Drawing
-pub mod Lines
 pub mod Trace
 pub mod Page
 pub mod Demand
 pub mod Table
+pub mod Known

@@ -10,6 +10,7 @@ use Rattle.vector.specs.Vectors.{allClose}
 use Rattle.refusal.specs.Refusals.{ok, refused}
 use Rattle.grid.specs.Grid.{pointAt, coordinatesFit, gridCheck}
 use Rattle.edges.specs.Table as events
+use Rattle.edges.specs.Table.{quarter, three-quarters}
 use Rattle.trace.specs.declared.crossing.StepIndex.the-variants.{At, Nothing}
 use Rattle.trace.specs.Crossing.{closeTo, cellOf, offAxis, inCell, stepIndex, blend, edgePoint}
 use Rattle.trace.specs.Walk.{samplesOf, beforeInside, afterInside, crossed, crossings, appendEdgeCrossings, sampled, traced}
@@ -21,24 +22,18 @@ unfoldable pub computed : Bool
 unfolding events.computed larger allClose pointAt coordinatesFit gridCheck closeTo cellOf offAxis inCell stepIndex blend edgePoint samplesOf beforeInside afterInside crossed crossings appendEdgeCrossings sampled traced pushSegmentPoint flushSegment marksFit pairsFit traceCheck inTurn traceFlat
 computed = true
 
-abbrev quarter : Float
-quarter = ofBits binary64 0x3FD0000000000000
-
-abbrev three-quarters : Float
-three-quarters = ofBits binary64 0x3FE8000000000000
-
 -- "`step_index`(4, 4) = (3, 1)"
-last-border : stepIndex (ofBits binary64 0x4010000000000000) 4 ≡ At 3 one64
+pub last-border : stepIndex (ofBits binary64 0x4010000000000000) 4 ≡ At 3 one64
 unfolding computed
 last-border = refl
 
 -- "(−EPS, 4) = (0, 0)"
-before-first : stepIndex (neg eps) 4 ≡ At 0 zero64
+pub before-first : stepIndex (neg eps) 4 ≡ At 0 zero64
 unfolding computed
 before-first = refl
 
 -- "(0, 0) none"
-no-steps : stepIndex zero64 0 ≡ Nothing
+pub no-steps : stepIndex zero64 0 ≡ Nothing
 unfolding computed
 no-steps = refl
 
@@ -49,11 +44,11 @@ square = zero64 ∷ zero64 ∷ zero64 ∷ zero64 ∷ one64 ∷ zero64 ∷ one64 
 abbrev room : Lists
 room = lists (one64 ∷ one64 ∷ one64 ∷ one64 ∷ one64 ∷ one64 ∷ []) (7 ∷ []) (7 ∷ 7 ∷ 7 ∷ 7 ∷ []) (one64 ∷ one64 ∷ [])
 
-abbrev step : Float → Float → Float → Float → Traced
+abbrev pub step : Float → Float → Float → Float → Traced
 step u v u′ v′ = traceFlat square 1 1 (u ∷ v ∷ u′ ∷ v′ ∷ []) (1 ∷ 1 ∷ []) room
 
 -- "(0, 0.25) to (0.75, 0.25): .. sides (0,1), (2,1), t 0.25 both"
-along-u : step zero64 quarter three-quarters quarter
+pub along-u : step zero64 quarter three-quarters quarter
     ≡ record {
       answer = ok (record { points = 2; lines = 1 });
       after = lists (zero64 ∷ quarter ∷ zero64 ∷ three-quarters ∷ quarter ∷ zero64 ∷ []) (0 ∷ []) (0 ∷ 1 ∷ 2 ∷ 1 ∷ []) (quarter ∷ quarter ∷ []);

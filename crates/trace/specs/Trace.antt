@@ -34,7 +34,7 @@ marksFit (k ∷ ks) = (eqb k 0 || eqb k 1) && marksFit ks
 abbrev pub maxSample : Float
 maxSample = ofBits binary64 0x4130000000000000
 
--- no "marked coordinate not finite or over 1,048,576 in magnitude"; a break's pair is not looked at
+-- no "marked coordinate not finite or over 1,048,576 in magnitude"; a break's pair is not looked at (lists of other lengths are refused before, by 2)
 unfoldable pub pairsFit : List Float → List ℕ → Bool
 pairsFit ps [] = true
 pairsFit [] (k ∷ ks) = true

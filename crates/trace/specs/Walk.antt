@@ -39,7 +39,7 @@ sampleAt k p = record { mark = k; point = p }
 abbrev pub sample : ℕ → Float → Float → Sample
 sample k u v = sampleAt k (param u v)
 
--- "Samples are a flat list of u, v pairs and a list of mark bytes"
+-- "Samples are a flat list of u, v pairs and a list of mark bytes" (lists of other lengths are refused before, by 2)
 unfoldable pub samplesOf : List ℕ → List Float → List Sample
 samplesOf [] ps = []
 samplesOf (k ∷ ks) [] = []

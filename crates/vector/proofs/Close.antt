@@ -117,6 +117,33 @@ module _ (a b d : Vector) (e : d ≡ minus a b) where
       either true false r = refl
       either false q r = refl
 
+-- ---- points whose differences all lie between -EPS and EPS are close
+abbrev pub within : Float → Bool
+within d = lt (neg eps) d && lt d eps
+
+both : (p q : Bool) → p && q ≡ true → (p ≡ true) × (q ≡ true)
+both true true h = (refl, refl)
+both true false h = absurd (true≢false (sym h))
+both false q h = absurd (true≢false (sym h))
+
+within-below : (d : Float) → within d ≡ true → (lt (absolute d) eps ≡ true) × (isNan d ≡ false)
+within-below d h = (below, go (isNan d) refl)
+  where
+    below : lt (absolute d) eps ≡ true
+    below = within-eps d ∙ h
+
+    go : (t : Bool) → isNan d ≡ t → t ≡ false
+    go true e = absurd (true≢false (sym below ∙ nan-not-below (absolute d) eps (abs-nan d ∙ e)))
+    go false e = refl
+
+pub close-within : (a b d : Vector) → d ≡ minus a b → (within (d .x) && within (d .y)) && within (d .z) ≡ true → allClose a b ≡ true
+close-within a b d e h =
+    let xy = both (within (d .x) && within (d .y)) (within (d .z)) h in
+    let x = within-below (d .x) (both (within (d .x)) (within (d .y)) (xy .0) .0) in
+    let y = within-below (d .y) (both (within (d .x)) (within (d .y)) (xy .0) .1) in
+    let z = within-below (d .z) (xy .1) in
+    close-differences a b d e ∙ simp (x .0, y .0, z .0, x .1)
+
 -- ---- finite points are close where the three differences are below EPS
 abbrev pub Finite : Vector → Type 0
 Finite a = (isFinite (a .x) ≡ true) × (isFinite (a .y) ≡ true) × (isFinite (a .z) ≡ true)

@@ -1,7 +1,9 @@
 //! The rows of the table.
 
 use crate::clock::{Side, Table};
-use merlontrispa::{Mapping, TraceLists, grid_paths, trace_flat, triangulate_grid};
+use merlontrispa::{
+    Mapping, Sample as Record, TraceLists, grid_paths, trace_flat, trace_samples, triangulate_grid,
+};
 use original::{CyclicMapping, ParametricSurfaceTexture, Sample, Surface, Vector};
 use std::f64::consts::TAU;
 
@@ -13,6 +15,7 @@ pub fn run(table: &Table) {
     meshes(table);
     lines(table);
     traces(table);
+    records(table);
 }
 
 fn seams(table: &Table) {
@@ -114,20 +117,13 @@ fn lines(table: &Table) {
 fn traces(table: &Table) {
     let grid = plane();
     let surface = Surface::from_grid(vectors(&grid), STEPS, STEPS);
-    let middle = STEPS as f64 / 2.0;
-    // A spiral whose samples are half a step apart.
-    let spiral = (0..=10_000).map(|i| {
-        let angle = f64::from(i).sqrt();
-        let radius = angle / 4.0;
-        [middle + radius * angle.cos(), middle + radius * angle.sin()]
-    });
     // From one side of the grid to the opposite one and back.
     let across = (0..=100).map(|i| {
         let (u, v) = (f64::from(i % 2) * STEPS as f64, f64::from(i) * 2.5 + 0.1);
         [u, v]
     });
     let rows: [(&str, Vec<_>); 2] = [
-        ("trace, 255 by 255, 10,000 half steps", spiral.collect()),
+        ("trace, 255 by 255, 10,000 half steps", spiral()),
         ("trace, 255 by 255, 100 steps across", across.collect()),
     ];
     for (name, pairs) in rows {
@@ -154,6 +150,58 @@ fn traces(table: &Table) {
     }
 }
 
+/// The entry that takes records beside the flat one, in the place of the original.
+fn records(table: &Table) {
+    let (grid, pairs) = (plane(), spiral());
+    let marks = vec![1; pairs.len()];
+    let samples: Vec<_> = pairs.iter().map(|&[u, v]| Record::at(u, v)).collect();
+    let most = 8 * pairs.len();
+    let lists = || {
+        (
+            vec![0.0; 3 * most],
+            vec![0; most],
+            vec![0; 2 * most],
+            vec![0.0; most],
+        )
+    };
+    let (mut by_records, mut by_flat) = (lists(), lists());
+    table.row(
+        "records beside flat, 10,000 half steps",
+        Side(
+            || (),
+            |()| trace_samples(&grid, STEPS, STEPS, &samples, lent(&mut by_records)),
+        ),
+        Side(
+            || (),
+            |()| {
+                let pairs = pairs.as_flattened();
+                trace_flat(&grid, STEPS, STEPS, pairs, &marks, lent(&mut by_flat))
+            },
+        ),
+    );
+    assert_eq!(by_records, by_flat);
+}
+
+fn lent(lists: &mut (Vec<f64>, Vec<usize>, Vec<usize>, Vec<f64>)) -> TraceLists<'_> {
+    TraceLists {
+        points: &mut lists.0,
+        starts: &mut lists.1,
+        sides: &mut lists.2,
+        fractions: &mut lists.3,
+    }
+}
+
+/// A spiral of 10,000 steps, its samples half a step apart.
+fn spiral() -> Vec<[f64; 2]> {
+    let middle = STEPS as f64 / 2.0;
+    let sample = |i| {
+        let angle = f64::from(i).sqrt();
+        let radius = angle / 4.0;
+        [middle + radius * angle.cos(), middle + radius * angle.sin()]
+    };
+    (0..=10_000).map(sample).collect()
+}
+
 /// A grid that nothing joins.
 fn plane() -> Vec<f64> {
     grid(|u, v| [u, v, (u * v * 1e-3).sin()])
@@ -165,7 +213,8 @@ fn grid(point: impl Fn(f64, f64) -> [f64; 3]) -> Vec<f64> {
     us.flat_map(|(u, v)| point(u as f64, v as f64)).collect()
 }
 
-fn vectors(numbers: &[f64]) -> Vec<Vector> {
+/// Points of three numbers each in the original's type.
+pub fn vectors(numbers: &[f64]) -> Vec<Vector> {
     let points = numbers.as_chunks().0.iter();
     points.map(|&[x, y, z]| Vector::new(x, y, z)).collect()
 }

@@ -52,8 +52,8 @@ impl Table {
     pub fn new(names: Vec<String>) -> Self {
         let head = format!("medians of {RUNS} runs each");
         println!(
-            "{head:48} {:>12} {:>12} {:>7}",
-            "library ns", "original ns", "ratio"
+            "{head:48} {:>12} {:>12} {:>7} {:>15}",
+            "library ns", "original ns", "ratio", "quartiles"
         );
         Self(names)
     }
@@ -67,17 +67,16 @@ impl Table {
         let runs: Vec<_> = (0..RUNS)
             .map(|_| [library.run(calls[0]), original.run(calls[1])])
             .collect();
-        println!(
-            "{name:48} {:12.0} {:12.0} {:7.3}",
-            median(runs.iter().map(|run| run[0])),
-            median(runs.iter().map(|run| run[1])),
-            median(runs.iter().map(|run| run[0] / run[1]))
-        );
+        let [_, library, _] = quartiles(runs.iter().map(|run| run[0]));
+        let [_, original, _] = quartiles(runs.iter().map(|run| run[1]));
+        let [low, ratio, high] = quartiles(runs.iter().map(|run| run[0] / run[1]));
+        println!("{name:48} {library:12.0} {original:12.0} {ratio:7.3} {low:7.3} {high:7.3}");
     }
 }
 
-fn median(values: impl Iterator<Item = f64>) -> f64 {
+/// The values a quarter, a half and three quarters of the way up.
+fn quartiles(values: impl Iterator<Item = f64>) -> [f64; 3] {
     let mut values: Vec<_> = values.collect();
     values.sort_by(f64::total_cmp);
-    values[values.len() / 2]
+    [1, 2, 3].map(|quarter| values[values.len() * quarter / 4])
 }

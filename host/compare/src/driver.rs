@@ -1,38 +1,91 @@
-//! Runs one comparison after another and counts them.
+//! Runs one comparison after another: on all its inputs, on a written case, or on what a fuzzer chose.
 
+use crate::case::Case;
+use crate::difference::{Difference, Saved};
+use crate::progress::Progress;
 use crate::random::Random;
-use crate::value::{Show, Value};
-use std::time::Instant;
+use crate::shrink::shrink;
+use crate::text::Text;
+use crate::value::Value;
+use std::mem;
+use std::time::Duration;
 
-/// Nothing, or the first difference in words.
-pub type Compared = Result<(), String>;
+/// Nothing, or why the run ends here.
+pub type Compared = Result<(), Ended>;
+
+#[derive(Debug, PartialEq)]
+pub enum Ended {
+    /// The library and the original differ.
+    Difference(Difference),
+    /// The written case is none of its comparison, as this sentence says.
+    Fault(String),
+}
+
+/// What the comparisons are run for.
+pub enum Task {
+    /// Each comparison on its inputs.
+    Run(Amount),
+    /// To learn how many random inputs each comparison has of its own.
+    Survey,
+    /// One comparison on the case that is written.
+    Replay(Saved),
+    /// One comparison, on the input that the bytes make: it has this number among those of random
+    /// inputs that are not large.
+    Chosen { turn: usize, bytes: Vec<u8> },
+}
+
+/// A comparison that has fewer random inputs of its own has few because they are large.
+pub const FEW: u64 = 20_000;
+
+/// How many random inputs a comparison takes.
+#[derive(Clone, Copy)]
+pub enum Amount {
+    /// As many as it has of its own.
+    Own,
+    /// So many; one whose inputs are large takes its share of them.
+    Each(u64),
+    /// `part` for every `whole` of its own, rounded up.
+    Share { part: u64, whole: u64 },
+}
+
+impl Amount {
+    fn of(self, own: u64) -> u64 {
+        match self {
+            Self::Own => own,
+            Self::Each(cases) if own < FEW => (cases * own / 1_000_000).max(own),
+            Self::Each(cases) => cases,
+            Self::Share { part, whole } => {
+                (u128::from(own) * u128::from(part)).div_ceil(u128::from(whole)) as u64
+            }
+        }
+    }
+}
 
 pub struct Driver {
+    pub task: Task,
     seed: u64,
-    cases: Option<u64>,
-    passed: u64,
+    /// How long a difference is made smaller.
+    shrinking: Duration,
+    tally: Vec<(String, u64)>,
 }
 
 impl Driver {
-    /// `cases`, where it is there, is how many random inputs a comparison takes.
-    pub fn new(seed: u64, cases: Option<u64>) -> Self {
+    pub fn new(task: Task, seed: u64, shrinking: Duration) -> Self {
         Self {
+            task,
             seed,
-            cases,
-            passed: 0,
+            shrinking,
+            tally: Vec::new(),
         }
     }
 
-    pub fn seed(&self) -> u64 {
-        self.seed
-    }
-
-    pub fn passed(&self) -> u64 {
-        self.passed
+    /// The comparisons that passed, and the inputs that each took.
+    pub fn tally(&self) -> &[(String, u64)] {
+        &self.tally
     }
 
     /// Holds `library` to `original` on random inputs: `count`, or what the command line asks for.
-    pub fn compare<I: Show, O: Value>(
+    pub fn compare<I: Case, O: Value>(
         &mut self,
         name: &str,
         count: u64,
@@ -40,46 +93,95 @@ impl Driver {
         library: impl FnMut(&I) -> O,
         original: impl FnMut(&I) -> O,
     ) -> Compared {
-        let mut random = Random::new(self.seed + self.passed);
-        let count = self.cases.map_or(count, |cases| asked(cases, count));
+        let (count, mut random) = match &mut self.task {
+            Task::Run(amount) => {
+                let seed = self.seed + self.tally.len() as u64;
+                (amount.of(count), Random::new(seed))
+            }
+            Task::Survey => {
+                self.tally.push((name.into(), count));
+                return Ok(());
+            }
+            Task::Replay(_) => return self.replay(name, library, original),
+            Task::Chosen { .. } if count < FEW => return Ok(()),
+            Task::Chosen { turn, bytes } => {
+                let now = *turn == 0;
+                *turn = turn.wrapping_sub(1);
+                if !now {
+                    return Ok(());
+                }
+                (1, Random::chosen(mem::take(bytes)))
+            }
+        };
         let inputs = (0..count).map(|_| input(&mut random));
-        self.compare_each(name, inputs, library, original)
+        self.hold(name, inputs, library, original)
     }
 
     /// Holds `library` to `original` on each of these inputs.
-    pub fn compare_each<I: Show, O: Value>(
+    pub fn compare_each<I: Case, O: Value>(
+        &mut self,
+        name: &str,
+        inputs: impl IntoIterator<Item = I>,
+        library: impl FnMut(&I) -> O,
+        original: impl FnMut(&I) -> O,
+    ) -> Compared {
+        match self.task {
+            Task::Run(_) => self.hold(name, inputs, library, original),
+            Task::Replay(_) => self.replay(name, library, original),
+            Task::Survey => {
+                self.tally.push((name.into(), 0));
+                Ok(())
+            }
+            Task::Chosen { .. } => Ok(()),
+        }
+    }
+
+    /// Runs the written case where it is of this comparison.
+    fn replay<I: Case, O: Value>(
+        &mut self,
+        name: &str,
+        library: impl FnMut(&I) -> O,
+        original: impl FnMut(&I) -> O,
+    ) -> Compared {
+        let Task::Replay(saved) = &self.task else {
+            return Ok(());
+        };
+        if saved.name != name {
+            return Ok(());
+        }
+        let case = saved.case().map_err(Ended::Fault)?;
+        self.hold(name, [case], library, original)
+    }
+
+    fn hold<I: Case, O: Value>(
         &mut self,
         name: &str,
         inputs: impl IntoIterator<Item = I>,
         mut library: impl FnMut(&I) -> O,
         mut original: impl FnMut(&I) -> O,
     ) -> Compared {
-        let start = Instant::now();
-        let mut count = 0;
+        let mut progress = Progress::new(name);
         for given in inputs {
-            let (ours, theirs) = (library(&given), original(&given));
-            if !ours.same(&theirs) {
-                let (given, ours, theirs) = (given.show(), ours.show(), theirs.show());
-                return Err(format!(
-                    "{name} of {given}\n  library  {ours}\n  original {theirs}"
-                ));
+            if !library(&given).same(&original(&given)) {
+                progress.end();
+                let differs = |input: &I| !library(input).same(&original(input));
+                let least = shrink(given, self.shrinking, differs);
+                let mut case = Text::default();
+                least.write(&mut case);
+                return Err(Ended::Difference(Difference {
+                    name: name.into(),
+                    case: case.into_string(),
+                    library: library(&least).show(),
+                    original: original(&least).show(),
+                }));
             }
-            count += 1;
+            progress.step();
         }
-        self.passed += 1;
-        let rate = count as f64 / start.elapsed().as_secs_f64() / 1e6;
-        println!("  {name}: {count} inputs, no difference ({rate:.3} million a second)");
+        progress.end();
+        let (count, rate) = (progress.count(), progress.rate());
+        println!("  {name}: {count} inputs, no difference ({rate:.0} a second)");
+        self.tally.push((name.into(), count));
         Ok(())
-    }
-}
-
-/// How many inputs a comparison takes that has `count` of its own where `cases` are asked for: one whose
-/// inputs are large, and so few, takes its share of them.
-fn asked(cases: u64, count: u64) -> u64 {
-    if count < 20_000 {
-        (cases * count / 1_000_000).max(count)
-    } else {
-        cases
     }
 }
 
@@ -88,25 +190,82 @@ mod tests {
     use super::*;
     use crate::inputs::any;
 
+    fn driver(task: Task) -> Driver {
+        Driver::new(task, 1, Duration::from_secs(20))
+    }
+
     /// What the driver says of a `library` that stands in for x.floor().
-    fn floor(library: impl Fn(f64) -> f64) -> Compared {
+    fn floor(task: Task, library: impl Fn(f64) -> f64) -> Compared {
         let original = |x: &f64| x.floor();
-        Driver::new(1, None).compare("floor", 100_000, any, |&x| library(x), original)
+        driver(task).compare("floor", 100_000, any, |&x| library(x), original)
+    }
+
+    fn difference(library: impl Fn(f64) -> f64) -> Difference {
+        match floor(Task::Run(Amount::Own), library) {
+            Err(Ended::Difference(difference)) => difference,
+            other => panic!("{other:?} where a difference should be"),
+        }
     }
 
     #[test]
     fn the_same_function_passes() {
-        assert_eq!(floor(f64::floor), Ok(()));
+        assert_eq!(floor(Task::Run(Amount::Own), f64::floor), Ok(()));
     }
 
     #[test]
-    fn a_floor_toward_zero_is_found() {
-        let difference = floor(f64::trunc).expect_err("-0.5 is among the inputs");
-        assert!(difference.starts_with("floor of "), "{difference}");
+    fn a_floor_toward_zero_is_found_and_made_small() {
+        let difference = difference(f64::trunc);
+        assert_eq!(difference.name, "floor");
+        assert_eq!(difference.case, "BFE0000000000000(-0.5)");
     }
 
     #[test]
-    fn a_lost_sign_of_zero_is_found() {
-        assert!(floor(|x| x.floor() + 0.0).is_err());
+    fn a_lost_sign_of_zero_is_found_and_made_small() {
+        let difference = difference(|x| x.floor() + 0.0);
+        assert_eq!(difference.case, "8000000000000000(-0.0)");
+    }
+
+    #[test]
+    fn a_bad_case_is_told_in_a_sentence() {
+        let told = |case: &str| {
+            let saved = Saved::read(&format!("comparison floor\n{case}")).expect("it has a name");
+            match floor(Task::Replay(saved), f64::floor) {
+                Err(Ended::Fault(fault)) => fault,
+                other => panic!("{other:?} where a fault should be"),
+            }
+        };
+        assert_eq!(
+            told(""),
+            "it ends where a float by its 16 digits should stand"
+        );
+        assert_eq!(
+            told("1.5"),
+            "1.5 stands where a float by its 16 digits should"
+        );
+        assert_eq!(told("3FF0000000000000 7"), "7 stands where it should end");
+    }
+
+    #[test]
+    fn a_share_is_rounded_up() {
+        let share = Amount::Share {
+            part: 1_000,
+            whole: 3,
+        };
+        assert_eq!((share.of(1), share.of(3)), (334, 1_000));
+        assert_eq!(Amount::Each(5_000_000).of(60), 300);
+        assert_eq!(Amount::Each(7).of(20_000), 7);
+    }
+
+    #[test]
+    fn chosen_bytes_make_one_input_of_one_comparison() {
+        let mut driver = driver(Task::Chosen {
+            turn: 1,
+            bytes: vec![0, 13],
+        });
+        for name in ["first", "second", "third"] {
+            let told = driver.compare(name, FEW, any, |&x| x, |_| 1.0);
+            assert_eq!(told, Ok(()));
+        }
+        assert_eq!(driver.tally(), [("second".into(), 1)]);
     }
 }

@@ -24,9 +24,9 @@ pub fn compare(driver: &mut Driver) -> Compared {
     driver.compare(
         "clamp",
         COUNT,
-        |random| ends(any(random), number(random), number(random)),
-        |&[x, lo, hi]| float::clamp(x, lo, hi),
-        |&[x, lo, hi]| x.clamp(lo, hi),
+        |random| [any(random), number(random), number(random)],
+        |&[x, a, b]| clamped(x, a, b, float::clamp),
+        |&[x, a, b]| clamped(x, a, b, f64::clamp),
     )?;
     binary(driver, "total_cmp", number, float::total_cmp, |x, y| {
         x.total_cmp(&y)
@@ -74,7 +74,11 @@ fn settled(x: f64, y: f64, max: impl Fn(f64, f64) -> f64) -> f64 {
     }
 }
 
-/// A value and two ends in order: where they are not, `f64::clamp` panics.
-fn ends(x: f64, a: f64, b: f64) -> [f64; 3] {
-    if a <= b { [x, a, b] } else { [x, b, a] }
+/// A value clamped to two ends in order: where they are not, `f64::clamp` panics.
+fn clamped(x: f64, a: f64, b: f64, clamp: impl Fn(f64, f64, f64) -> f64) -> f64 {
+    if a <= b {
+        clamp(x, a, b)
+    } else {
+        clamp(x, b, a)
+    }
 }

@@ -1,9 +1,9 @@
 //! Grids whose opposite lines meet by a mapping, nearly meet, or do not.
 
+use crate::case::{Smaller, case, plainer_everywhere, stretches, without};
 use crate::inputs::near;
 use crate::random::Random;
 use crate::seams::{mapping, to_original};
-use crate::value::Show;
 use merlontrispa::Mapping;
 
 /// A grid of `u_steps` by `v_steps` cells, three numbers for each point.
@@ -14,12 +14,7 @@ pub struct Grid {
     pub numbers: Vec<f64>,
 }
 
-impl Show for Grid {
-    fn show(&self) -> String {
-        let (m, n) = (self.u_steps, self.v_steps);
-        format!("M {m}, N {n}, grid {}", self.numbers.show())
-    }
-}
+case!(Grid { u_steps, v_steps, numbers }, first Grid::simpler);
 
 impl Grid {
     /// The grid whose point of each number is given.
@@ -31,6 +26,48 @@ impl Grid {
             numbers: (0..points).flat_map(point).collect(),
         }
     }
+
+    /// Fewer lines, or points that still coincide where these do.
+    fn simpler(&self) -> Smaller<Self> {
+        let this = self.clone();
+        let plainer =
+            plainer_everywhere(&self.numbers).map(move |numbers| Self { numbers, ..this });
+        Box::new(self.fewer_lines().chain(plainer))
+    }
+
+    /// Grids without some of the lines along v or along u, where this one has as many numbers as its
+    /// steps want.
+    pub fn fewer_lines(&self) -> Smaller<Self> {
+        let (m, n) = (self.u_steps, self.v_steps);
+        let points: Vec<_> = self.numbers.as_chunks::<3>().0.to_vec();
+        if m.min(n) == 0 || m.max(n) > 255 || self.numbers.len() != 3 * (m + 1) * (n + 1) {
+            return Box::new(std::iter::empty());
+        }
+        let part = move |us: &[usize], vs: &[usize]| {
+            Self::new(us.len() - 1, vs.len() - 1, |i| {
+                points[us[i / vs.len()] * (n + 1) + vs[i % vs.len()]]
+            })
+        };
+        let (us, vs): (Vec<_>, Vec<_>) = ((0..=m).collect(), (0..=n).collect());
+        let other = (us.clone(), vs.clone(), part.clone());
+        let along_v = fewer(&us).map(move |us| part(&us, &vs));
+        let (us, vs, part) = other;
+        let along_u = fewer(&vs).map(move |vs| part(&us, &vs));
+        Box::new(along_v.chain(along_u))
+    }
+}
+
+/// The lines without a stretch of them, alone or with its mirror image, so that a reversed seam stays
+/// one; at least two.
+fn fewer(lines: &[usize]) -> impl Iterator<Item = Vec<usize>> + use<> {
+    let lines = lines.to_vec();
+    let left = stretches(lines.len()).flat_map(move |gone| {
+        let mirrored = lines.len() - gone.end..lines.len() - gone.start;
+        let both = |i: &usize| !gone.contains(i) && !mirrored.contains(i);
+        let without_both = (0..lines.len()).filter(both).map(|i| lines[i]).collect();
+        [without(&lines, &gone), without_both]
+    });
+    left.filter(|left| left.len() >= 2)
 }
 
 /// How the opposite lines of a grid meet.

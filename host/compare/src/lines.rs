@@ -1,27 +1,40 @@
 //! Grid lines against the original's, and lines read back against its `Paths`.
 
+use crate::case::{Smaller, case};
 use crate::driver::{Compared, Driver};
 use crate::grids::{Grid, any_grid, any_steps};
 use crate::inputs::whole;
-use crate::lists::{fill, floats, grid_refusal, length, numbers, spoil};
+use crate::lists::{fewer_cells, fill, floats, grid_refusal, length, numbers, spoil};
 use crate::random::Random;
+use crate::record::{Call, Record, Recorded};
 use crate::seams::vectors;
-use crate::value::Show;
 use merlontrispa::{Drawn, Lines, Refusal, grid_paths};
 use original::{ParametricSurfaceTexture, Paths, Surface, Vector};
 
 /// A grid and how long the lists are that are lent.
+#[derive(Clone)]
 struct Input {
     grid: Grid,
     points: usize,
     starts: usize,
 }
 
-impl Show for Input {
-    fn show(&self) -> String {
-        let (grid, points, starts) = (self.grid.show(), self.points, self.starts);
-        format!("{grid}, lists of {points} and {starts}")
+case!(Input { grid, points, starts }, first Input::fewer_cells);
+
+impl Input {
+    fn fewer_cells(&self) -> Smaller<Self> {
+        let fewer = fewer_cells(&self.grid, [self.points, self.starts], least);
+        Box::new(fewer.map(|(grid, [points, starts])| Self {
+            grid,
+            points,
+            starts,
+        }))
     }
+}
+
+/// The least lengths of the lists that are taken.
+fn least(m: usize, n: usize) -> [usize; 2] {
+    [6 * (m + 1) * (n + 1), m + n + 2]
 }
 
 /// An answer and the two lists after the call.
@@ -62,7 +75,10 @@ fn library(input: &Input) -> Output {
 
 fn original(input: &Input) -> Output {
     let (mut points, mut starts) = (floats(input.points), numbers(input.starts));
-    let room = |m, n| input.points >= 6 * (m + 1) * (n + 1) && input.starts >= m + n + 2;
+    let room = |m, n| {
+        let [points, starts] = least(m, n);
+        input.points >= points && input.starts >= starts
+    };
     if let Some(refusal) = grid_refusal(&input.grid, room) {
         return (Err(refusal), (points, starts));
     }
@@ -128,10 +144,11 @@ fn walked(input: &Input) -> Vec<Vec<f64>> {
 
 fn drawable(random: &mut Random) -> Input {
     let (m, n) = (any_steps(random), any_steps(random));
+    let [points, starts] = least(m, n);
     Input {
         grid: any_grid(random, m, n),
-        points: length(random, 6 * (m + 1) * (n + 1)),
-        starts: length(random, m + n + 2),
+        points: length(random, points),
+        starts: length(random, starts),
     }
 }
 
@@ -142,6 +159,7 @@ fn faulty(random: &mut Random) -> Input {
 }
 
 /// Lists, counts and an index that may or may not fit each other.
+#[derive(Clone)]
 struct Listed {
     points: Vec<f64>,
     starts: Vec<usize>,
@@ -149,15 +167,12 @@ struct Listed {
     index: usize,
 }
 
-impl Show for Listed {
-    fn show(&self) -> String {
-        let (points, starts, drawn) = (self.points.show(), self.starts.show(), self.drawn);
-        format!(
-            "points {points}, starts {starts}, {drawn:?}, index {}",
-            self.index
-        )
-    }
-}
+case!(Listed {
+    points,
+    starts,
+    drawn,
+    index
+});
 
 impl Listed {
     fn lines(&self) -> Lines<'_> {
@@ -231,9 +246,66 @@ fn any_lists(random: &mut Random) -> Listed {
     }
 }
 
+/// Grids, and lines of any lists, for the record.
+pub fn record(record: &mut Record) {
+    let mut random = record.random();
+    for _ in 0..4_000 {
+        record.offer(drawable(&mut random).recorded());
+        record.offer(faulty(&mut random).recorded());
+    }
+    let grid = any_grid(&mut random, 12, 9);
+    let many = Input {
+        grid,
+        points: 6 * 13 * 10 + 2,
+        starts: 24,
+    };
+    record.keep(many.recorded().reaching("many cells"));
+    for _ in 0..40 {
+        record.keep(any_lists(&mut random).recorded());
+    }
+}
+
+impl Input {
+    fn recorded(&self) -> Recorded {
+        let Grid {
+            u_steps,
+            v_steps,
+            ref numbers,
+        } = self.grid;
+        let (told, (points, starts)) = original(self);
+        Recorded::new(
+            Call::GridPaths,
+            told.err(),
+            &[u_steps as u64, v_steps as u64],
+        )
+        .floats(numbers)
+        .told(told.map(|drawn| [drawn.points, drawn.lines]))
+        .floats(&points)
+        .numbers(&starts)
+    }
+}
+
+impl Listed {
+    fn recorded(&self) -> Recorded {
+        let Drawn { points, lines } = self.drawn;
+        let numbers = [points, lines, self.index].map(|n| n as u64);
+        let told = self.span();
+        let last = told.is_ok() && self.index + 1 == lines;
+        Recorded::new(Call::Line, told.err(), &numbers)
+            .held_to_scope()
+            .floats(&self.points)
+            .numbers(&self.starts)
+            .told(told)
+            .floats(&self.part())
+            .reaching_if(last, "the last line")
+            .reaching_if(told.is_ok_and(|[start, end]| start == end), "an empty line")
+    }
+}
+
 #[cfg(test)]
 mod tests {
     use super::*;
+    use crate::planted::found;
 
     #[test]
     fn many_lines_are_there_and_many_are_not() {
@@ -241,5 +313,22 @@ mod tests {
         let there = (0..10_000).filter(|_| any_lists(&mut random).span().is_ok());
         let there = there.count();
         assert!((2_000..8_000).contains(&there), "{there}");
+    }
+
+    /// A line that is there only if it is not empty.
+    #[test]
+    fn a_refused_empty_line_is_found() {
+        let strict = |listed: &Listed| match listed.span()? {
+            [start, end] if start == end => Err(Refusal::NotThere),
+            span => Ok(span),
+        };
+        let case = found(
+            |driver| driver.compare("planted", 1_000, any_lists, strict, Listed::span),
+            |driver| driver.compare("planted", 1_000, any_lists, Listed::line_span, Listed::span),
+        );
+        assert_eq!(
+            case,
+            "points [ ] starts [ 0 ] drawn points 0 lines 1 index 0"
+        );
     }
 }

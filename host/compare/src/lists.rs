@@ -5,6 +5,26 @@ use crate::inputs::{COORDINATE_EDGES, COORDINATE_FAULTS, coordinates_fit};
 use crate::random::Random;
 use merlontrispa::Refusal;
 
+/// Grids of fewer cells, each with lists of these lengths, and with lists that are as far from the least
+/// as these are.
+pub fn fewer_cells(
+    grid: &Grid,
+    lengths: [usize; 2],
+    least: fn(usize, usize) -> [usize; 2],
+) -> impl Iterator<Item = (Grid, [usize; 2])> + use<> {
+    let (m, n) = (grid.u_steps, grid.v_steps);
+    grid.fewer_lines().flat_map(move |grid| {
+        let (before, after) = (least(m, n), least(grid.u_steps, grid.v_steps));
+        let moved = [0, 1].map(|i| as_far(lengths[i], before[i], after[i]));
+        [(grid.clone(), moved), (grid, lengths)]
+    })
+}
+
+/// The length that is as far from `after` as this one from `before`.
+pub fn as_far(length: usize, before: usize, after: usize) -> usize {
+    (after + length).saturating_sub(before)
+}
+
 /// A list of numbers before a call.
 pub fn numbers(length: usize) -> Vec<usize> {
     (0..length).map(|i| !i).collect()

@@ -1,14 +1,28 @@
 //! Compares the library with the original, bit by bit, on random and edge inputs.
 //!
-//!     compare [--seed NUMBER] [--cases NUMBER] [LAYER..]
+//!     compare [--seed NUMBER] [--cases NUMBER | --total NUMBER] [--shrink SECONDS] [--write FILE] [LAYER..]
+//!     compare --replay FILE
+//!     compare --bytes FILE [LAYER..]
+//!     compare [--seed NUMBER] --record FILE
 //!
-//! `--cases` says how many random inputs each comparison takes, in the place of a number of its own; one
-//! on large grids takes its share of them.
-//! The first difference ends the run: the inputs are printed by their bits, and the exit status is 1.
-//! Where the sources of the original are absent nothing is compared, and the exit status is 2.
+//! Without a number each comparison takes a number of random inputs of its own. `--cases` says how many
+//! each takes; one on large grids takes its share of them. `--total` says how many all take together: the
+//! layers share them as `run::LAYERS` says, and the comparisons of a layer in the proportion of their own
+//! numbers. Lists of inputs that are not random are run whole besides.
+//!
+//! The first difference ends the run with status 1. It is made smaller, for 20 seconds or so many as
+//! `--shrink` says, printed by its bits, and written to difference.txt or the file that `--write` names.
+//! `--replay` runs the written case alone: status 1 while it differs, 0 when it does no longer. `--bytes`
+//! runs one case that the bytes of a file choose (`-` is stdin), as a fuzzer wants it.
+//! `--record` writes the cases that `crates/replay` runs, and says what they reach.
+//! Where the sources of the original are absent nothing is compared, and the status is 2.
 
 use std::process::ExitCode;
 
+#[cfg(larnt)]
+mod case;
+#[cfg(larnt)]
+mod difference;
 #[cfg(larnt)]
 mod driver;
 #[cfg(larnt)]
@@ -23,12 +37,26 @@ mod lines;
 mod lists;
 #[cfg(larnt)]
 mod meshes;
+#[cfg(all(larnt, test))]
+mod planted;
+#[cfg(larnt)]
+mod progress;
 #[cfg(larnt)]
 mod random;
+#[cfg(larnt)]
+mod record;
+#[cfg(larnt)]
+mod records;
+#[cfg(larnt)]
+mod request;
 #[cfg(larnt)]
 mod run;
 #[cfg(larnt)]
 mod seams;
+#[cfg(larnt)]
+mod shrink;
+#[cfg(larnt)]
+mod text;
 #[cfg(larnt)]
 mod textures;
 #[cfg(larnt)]

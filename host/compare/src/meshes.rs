@@ -1,26 +1,39 @@
 //! Triangulation against what the original hands to its mesh builder.
 
+use crate::case::{Smaller, case};
 use crate::driver::{Compared, Driver};
 use crate::grids::{Grid, Joining, any_grid, any_steps};
-use crate::lists::{fill, grid_refusal, length, numbers, spoil};
+use crate::lists::{fewer_cells, fill, grid_refusal, length, numbers, spoil};
 use crate::random::Random;
-use crate::seams::{found, mapping, vectors};
-use crate::value::Show;
+use crate::record::{Call, Record, Recorded};
+use crate::seams::{found, kind, mapping, seam_words, vectors};
 use merlontrispa::{Mapping, Refusal, Seams, Triangulation, triangulate_grid};
 use original::{Surface, Vector};
 
 /// A grid and how long the lists are that are lent.
+#[derive(Clone)]
 struct Input {
     grid: Grid,
     triangles: usize,
     flipped: usize,
 }
 
-impl Show for Input {
-    fn show(&self) -> String {
-        let (grid, triangles, flipped) = (self.grid.show(), self.triangles, self.flipped);
-        format!("{grid}, lists of {triangles} and {flipped}")
+case!(Input { grid, triangles, flipped }, first Input::fewer_cells);
+
+impl Input {
+    fn fewer_cells(&self) -> Smaller<Self> {
+        let fewer = fewer_cells(&self.grid, [self.triangles, self.flipped], least);
+        Box::new(fewer.map(|(grid, [triangles, flipped])| Self {
+            grid,
+            triangles,
+            flipped,
+        }))
     }
+}
+
+/// The least lengths of the lists that are taken.
+fn least(m: usize, n: usize) -> [usize; 2] {
+    [6 * m * n, 2 * (m + n)]
 }
 
 /// An answer and the two lists after the call.
@@ -111,17 +124,18 @@ fn seams(points: &[Vector], u_steps: usize, v_steps: usize) -> Seams {
 /// The refusal that applies.
 fn refusal(input: &Input) -> Option<Refusal> {
     grid_refusal(&input.grid, |m, n| {
-        input.triangles >= 6 * m * n && input.flipped >= 2 * (m + n)
+        let [triangles, flipped] = least(m, n);
+        input.triangles >= triangles && input.flipped >= flipped
     })
 }
 
 /// A grid with lists that are just long enough.
 fn exact(grid: Grid) -> Input {
-    let (m, n) = (grid.u_steps, grid.v_steps);
+    let [triangles, flipped] = least(grid.u_steps, grid.v_steps);
     Input {
         grid,
-        triangles: 6 * m * n,
-        flipped: 2 * (m + n),
+        triangles,
+        flipped,
     }
 }
 
@@ -218,9 +232,56 @@ fn faulty(random: &mut Random) -> Input {
     input
 }
 
+/// Grids for the record.
+pub fn record(record: &mut Record) {
+    for input in joinings() {
+        record.offer(input.recorded());
+    }
+    let mut random = record.random();
+    for _ in 0..4_000 {
+        record.offer(planted(&mut random).recorded());
+        record.offer(faulty(&mut random).recorded());
+    }
+    for _ in 0..2 {
+        let many = exact(any_grid(&mut random, 12, 9));
+        record.keep(many.recorded().reaching("many cells"));
+    }
+}
+
+impl Input {
+    fn recorded(&self) -> Recorded {
+        let Grid {
+            u_steps,
+            v_steps,
+            ref numbers,
+        } = self.grid;
+        let (told, [triangles, flipped]) = original(self);
+        let steps = [u_steps as u64, v_steps as u64];
+        let case = Recorded::new(Call::TriangulateGrid, told.err(), &steps).floats(numbers);
+        let case = match told {
+            Err(refusal) => case.told(Err(refusal)).words(&[]).words(&[]),
+            Ok(told) => {
+                let Seams { u, v } = told.seams;
+                let joined = format!("u {}, v {}", kind(u.mapping), kind(v.mapping));
+                case.told(Ok([told.triangles, told.flipped]))
+                    .words(&seam_words(&u))
+                    .words(&seam_words(&v))
+                    .reaching(&joined)
+                    .reaching_if(
+                        told.triangles < 2 * u_steps * v_steps,
+                        "a triangle left out",
+                    )
+                    .reaching_if(told.flipped > 0, "flipped pairs")
+            }
+        };
+        case.numbers(&triangles).numbers(&flipped)
+    }
+}
+
 #[cfg(test)]
 mod tests {
     use super::*;
+    use crate::planted::found;
     use std::collections::HashSet;
 
     /// Direction and offset.
@@ -249,5 +310,24 @@ mod tests {
             counts[usize::from(number)] += 1;
         }
         assert!(counts.iter().all(|&count| count > 500), "{counts:?}");
+    }
+
+    /// A triangulation that says of no pair that it is flipped.
+    #[test]
+    fn a_lost_flipped_pair_is_found() {
+        let blind = |input: &Input| {
+            let (mut told, mut lists) = original(input);
+            if let Ok(told) = &mut told {
+                told.flipped = 0;
+                lists[1].fill(0);
+            }
+            (told, lists)
+        };
+        let case = found(
+            |driver| driver.compare("planted", 1_000, planted, blind, original),
+            |driver| driver.compare("planted", 1_000, planted, library, original),
+        );
+        let grid = "u_steps 1 v_steps 3 numbers [ o o 0.0 0.0 1.0 o o 0.0 0.0 1.0 o o ]";
+        assert_eq!(case, format!("grid {grid} triangles 18 flipped 8"));
     }
 }

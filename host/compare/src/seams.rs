@@ -1,22 +1,69 @@
 //! Mappings and the seam search against the original's, comparisons counted.
 
+use crate::case::{Smaller, case, plainer_everywhere, stretches, without};
 use crate::driver::{Compared, Driver};
 use crate::inputs::{COORDINATE_EDGES, COORDINATE_FAULTS, EPS, coordinates_fit, near, whole};
 use crate::random::Random;
-use crate::value::Show;
+use crate::record::{Call, Record, Recorded};
 use merlontrispa::{Mapping, Refusal, Seam};
 use original::{CyclicMapping, Vector};
+use std::collections::HashSet;
+use std::iter;
 
 /// Two rows of points, three numbers each.
+#[derive(Clone)]
 struct Rows {
     a: Vec<f64>,
     b: Vec<f64>,
 }
 
-impl Show for Rows {
-    fn show(&self) -> String {
-        format!("a {}, b {}", self.a.show(), self.b.show())
+case!(Rows { a, b }, first Rows::simpler);
+
+impl Rows {
+    /// Rows without the same places of both, without the same points, or of points that still coincide.
+    fn simpler(&self) -> Smaller<Self> {
+        let (first, second) = (self.clone(), self.clone());
+        let places = stretches(self.a.len().min(self.b.len()) / 3);
+        let fewer_places = places.map(move |places| {
+            let numbers = 3 * places.start..3 * places.end;
+            Self {
+                a: without(&first.a, &numbers),
+                b: without(&first.b, &numbers),
+            }
+        });
+        let points = distinct(&self.a);
+        let fewer_points = stretches(points.len()).map(move |stretch| {
+            let gone: HashSet<_> = points[stretch].iter().copied().collect();
+            Self {
+                a: without_points(&second.a, &gone),
+                b: without_points(&second.b, &gone),
+            }
+        });
+        let length = self.a.len();
+        let numbers = [&self.a[..], &self.b].concat();
+        let plainer = plainer_everywhere(&numbers).map(move |mut a| Self {
+            b: a.split_off(length),
+            a,
+        });
+        Box::new(fewer_places.chain(fewer_points).chain(plainer))
     }
+}
+
+/// The points of a row by their bits, each once.
+fn distinct(row: &[f64]) -> Vec<[u64; 3]> {
+    let mut seen = HashSet::new();
+    let points = row.as_chunks().0.iter().map(bits);
+    points.filter(|&point| seen.insert(point)).collect()
+}
+
+fn without_points(row: &[f64], gone: &HashSet<[u64; 3]>) -> Vec<f64> {
+    let (points, rest) = row.as_chunks();
+    let left = points.iter().filter(|point| !gone.contains(&bits(point)));
+    left.flatten().chain(rest).copied().collect()
+}
+
+fn bits(point: &[f64; 3]) -> [u64; 3] {
+    point.map(f64::to_bits)
 }
 
 pub fn compare(driver: &mut Driver) -> Compared {
@@ -64,7 +111,7 @@ pub fn compare(driver: &mut Driver) -> Compared {
     search(driver, "rows of up to 65,536 points", long_rows())?;
     driver.compare(
         "new_vector, planted",
-        1_000_000,
+        2_000_000,
         planted,
         library_search,
         original_search,
@@ -279,47 +326,51 @@ fn fitting(points: &[[f64; 3]], closed: bool, reverse: bool, offset: usize) -> R
 
 /// The longest rows that are taken: a seam at the first, the second and the last offset, and none.
 fn long_rows() -> impl Iterator<Item = Rows> {
-    let points: Vec<_> = (0..65_536).map(|j| [f64::from(j), 0.5, -1.0]).collect();
+    let points = || -> Vec<_> { (0..65_536).map(|j| [f64::from(j), 0.5, -1.0]).collect() };
     let found = [(true, 0), (true, 1), (true, 65_534), (false, 0)];
-    let found = found.into_iter().flat_map(|(closed, offset)| {
-        [false, true].map(|reverse| fitting(&points, closed, reverse, offset))
+    let found = found.into_iter().flat_map(move |(closed, offset)| {
+        [false, true].map(|reverse| fitting(&points(), closed, reverse, offset))
     });
-    let mut rows: Vec<_> = found.collect();
-    let mut none = fitting(&points, true, false, 65_534);
-    none.b[3 * 65_534] = -1.0;
-    rows.push(none);
-    rows.into_iter()
+    let none = move || {
+        let mut rows = fitting(&points(), true, false, 65_534);
+        rows.b[3 * 65_534] = -1.0;
+        rows
+    };
+    found.chain(iter::once_with(none))
 }
 
 /// Rows as long as is allowed and longer, with each coordinate at an edge.
-fn limits() -> Vec<Rows> {
+fn limits() -> impl Iterator<Item = Rows> {
     let lengths = [
         0, 1, 2, 3, 5, 6, 196_605, 196_608, 196_609, 196_610, 196_611,
     ];
-    let mut rows = Vec::new();
-    for a in lengths {
-        for b in lengths {
-            for last in [1.0, f64::NAN] {
-                let mut row = Rows {
-                    a: vec![1.0; a],
-                    b: vec![1.0; b],
-                };
-                if let Some(x) = row.b.last_mut() {
-                    *x = last;
-                }
-                rows.push(row);
+    let pairs = lengths
+        .into_iter()
+        .flat_map(move |a| lengths.map(|b| (a, b)));
+    let long = pairs.flat_map(|(a, b)| {
+        [1.0, f64::NAN].map(|last| {
+            let mut rows = Rows {
+                a: vec![1.0; a],
+                b: vec![1.0; b],
+            };
+            if let Some(x) = rows.b.last_mut() {
+                *x = last;
             }
-        }
-    }
-    for edge in COORDINATE_EDGES.into_iter().chain(COORDINATE_FAULTS) {
-        for place in 0..6 {
-            let (mut a, mut b) = (vec![edge; 6], vec![edge; 6]);
-            a[place] = 2.0;
-            b[place] = 2.0;
-            rows.push(Rows { a, b });
-        }
-    }
-    rows
+            rows
+        })
+    });
+    let edges = COORDINATE_EDGES.into_iter().chain(COORDINATE_FAULTS);
+    let at_edges = edges.flat_map(|edge| {
+        (0..6).map(move |place| {
+            let mut row = vec![edge; 6];
+            row[place] = 2.0;
+            Rows {
+                a: row.clone(),
+                b: row,
+            }
+        })
+    });
+    long.chain(at_edges)
 }
 
 /// Rows with none, one or both of the faults that are refused, or with coordinates at their limits.
@@ -339,9 +390,104 @@ fn faulty(random: &mut Random) -> Rows {
     rows
 }
 
+/// Mappings and rows for the record.
+pub fn record(record: &mut Record) {
+    for direction in [Direction::AToB, Direction::BToA] {
+        let mut random = record.random();
+        for _ in 0..40 {
+            let (mapping, index) = any_mapping(&mut random);
+            record.keep(direction.recorded(mapping, index));
+        }
+    }
+    let x = |xs: &[f64]| xs.iter().flat_map(|&x| [x, 0.0, 0.0]).collect();
+    let zeros = |a, b| Rows {
+        a: vec![0.0; a],
+        b: vec![0.0; b],
+    };
+    for rows in [
+        Rows {
+            a: x(&[0.0, 1.0, 2.0, 3.0]),
+            b: x(&[3.0, 2.0, 1.0, 0.0]),
+        },
+        Rows {
+            a: x(&[0.0, 1.0, 2.0, 0.0]),
+            b: x(&[1.0, 2.0, 0.0, 1.0]),
+        },
+        Rows {
+            a: x(&[0.0, 1.0, 2.0]),
+            b: x(&[1.0, 2.0, 3.0]),
+        },
+        zeros(196_608, 3),
+        zeros(196_611, 0),
+        zeros(0, 0),
+        zeros(3, 3),
+        zeros(6, 9),
+    ] {
+        record.keep(rows.recorded());
+    }
+    let mut random = record.random();
+    for _ in 0..10_000 {
+        record.offer(planted(&mut random).recorded());
+        record.offer(faulty(&mut random).recorded());
+    }
+}
+
+/// How a mapping is recorded: its direction, 0 where there is none, offset and steps.
+fn words(mapping: Option<Mapping>) -> [u64; 3] {
+    match mapping {
+        None => [0; 3],
+        Some(Mapping::Forward { offset, steps }) => [1, offset as u64, steps as u64],
+        Some(Mapping::Reverse { offset, steps }) => [2, offset as u64, steps as u64],
+    }
+}
+
+/// The name of a direction and an offset.
+pub fn kind(mapping: Option<Mapping>) -> &'static str {
+    match mapping {
+        None => "none",
+        Some(Mapping::Forward { offset: 0, .. }) => "forward at 0",
+        Some(Mapping::Forward { .. }) => "forward at an offset",
+        Some(Mapping::Reverse { offset: 0, .. }) => "reverse at 0",
+        Some(Mapping::Reverse { .. }) => "reverse at an offset",
+    }
+}
+
+/// How a seam is recorded: its mapping and the comparisons.
+pub fn seam_words(seam: &Seam) -> Vec<u64> {
+    [&words(seam.mapping)[..], &[seam.comparisons]].concat()
+}
+
+impl Direction {
+    fn recorded(self, mapping: Mapping, index: usize) -> Recorded {
+        let call = match self {
+            Self::AToB => Call::MapIndex,
+            Self::BToA => Call::MapIndexInv,
+        };
+        let told = self.original(mapping, index);
+        let [direction, offset, steps] = words(Some(mapping));
+        let numbers = [direction - 1, offset, steps, index as u64];
+        Recorded::new(call, told.err(), &numbers).told(told.map(|index| [index, 0]))
+    }
+}
+
+impl Rows {
+    fn recorded(&self) -> Recorded {
+        let told = original_search(self);
+        let case = Recorded::new(Call::NewVector, told.err(), &[])
+            .floats(&self.a)
+            .floats(&self.b)
+            .told(told.map(|_| [0, 0]));
+        match told {
+            Ok(seam) => case.words(&seam_words(&seam)).reaching(kind(seam.mapping)),
+            Err(_) => case,
+        }
+    }
+}
+
 #[cfg(test)]
 mod tests {
     use super::*;
+    use crate::planted::found;
 
     #[test]
     fn planted_rows_fit_or_just_do_not() {
@@ -364,6 +510,29 @@ mod tests {
         assert!(
             [forward, reverse, late, none].iter().all(|&n| n > 1_000),
             "{forward} {reverse} {late} {none}"
+        );
+    }
+
+    /// A search that gives up where the rows are closed and offset 0 does not fit.
+    #[test]
+    fn a_search_of_offset_0_alone_is_found() {
+        let lazy = |rows: &Rows| {
+            let mut seam = original_search(rows)?;
+            if let Some(Mapping::Forward { offset, .. } | Mapping::Reverse { offset, .. }) =
+                seam.mapping
+                && offset > 0
+            {
+                seam.mapping = None;
+            }
+            Ok(seam)
+        };
+        let case = found(
+            |driver| driver.compare("planted", 1_000, planted, lazy, original_search),
+            |driver| driver.compare("planted", 1_000, planted, library_search, original_search),
+        );
+        assert_eq!(
+            case,
+            "a [ o 0.0 0.0 1.0 o ] b [ 0.0 0.0 1.0 o 0.0 0.0 1.0 ]"
         );
     }
 }

@@ -1,18 +1,22 @@
 //! Plans, angles and sample points of textures against the original's: its counts, and the lines of whole
 //! swirls and spirals, which the library draws alone but for the cosine and the sine.
 
+use crate::case::case;
 use crate::driver::{Compared, Driver};
 use crate::grids::{Grid, any_grid};
 use crate::inputs::{EPS, any, whole};
 use crate::lines::coordinates;
+use crate::lists::grid_refusal;
 use crate::random::Random;
+use crate::record::{Call, Record, Recorded, bits};
 use crate::seams::vectors;
-use crate::value::Show;
-use merlontrispa::{Lines, Plan, Refusal, Texture, TraceLists, trace_flat};
+use crate::value::Value;
+use merlontrispa::{Plan, Refusal, Texture};
 use original::{
-    ParametricSurfaceTexture, Paths, Surface, Vector, radial_sample_count, spiral_sample_count,
+    ParametricSurfaceTexture, Surface, Vector, radial_sample_count, spiral_sample_count,
     texture_spacing,
 };
+use std::cell::LazyCell;
 use std::f64::consts::TAU;
 
 const SPACINGS: [f64; 19] = [
@@ -59,41 +63,26 @@ const ARMS: [usize; 6] = [0, 1, 2, 64, 65, usize::MAX];
 const STEPS: [usize; 7] = [0, 1, 2, 3, 254, 255, 256];
 
 /// A texture on a surface of so many cells.
+#[derive(Clone)]
 struct Input {
     texture: Texture,
     m: usize,
     n: usize,
 }
 
-impl Show for Input {
-    fn show(&self) -> String {
-        let numbers = match self.texture {
-            Texture::Grid => "grid".into(),
-            Texture::Swirl { spacing, twist } => {
-                format!("swirl {}, {}", spacing.show(), twist.show())
-            }
-            Texture::Spiral { spacing, arms } => format!("spiral {}, {arms}", spacing.show()),
-        };
-        format!("{numbers}, M {}, N {}", self.m, self.n)
-    }
-}
+case!(Input { texture, m, n });
 
 /// A texture on a grid.
+#[derive(Clone)]
 struct Scene {
     texture: Texture,
     grid: Grid,
 }
 
-impl Show for Scene {
-    fn show(&self) -> String {
-        let texture = self.texture;
-        let (m, n) = (self.grid.u_steps, self.grid.v_steps);
-        format!("{}, {}", Input { texture, m, n }.show(), self.grid.show())
-    }
-}
+case!(Scene { texture, grid });
 
 pub fn compare(driver: &mut Driver) -> Compared {
-    let radii = radii();
+    let radii = LazyCell::new(radii);
     let library = |input: &Input| input.texture.plan(input.m, input.n);
     let original = |input: &Input| original_plan(&radii, input);
     driver.compare_each("plan, edges", edges(), library, original)?;
@@ -148,88 +137,33 @@ fn original_plan(radii: &[f64], input: &Input) -> Result<Plan, Refusal> {
     Ok(Plan { rays, samples })
 }
 
-fn surface(grid: &Grid) -> Surface {
-    Surface::from_grid(vectors(&grid.numbers), grid.u_steps, grid.v_steps)
-}
+/// The numbers of each line, or a refusal.
+type DrawnLines = Result<Vec<Vec<f64>>, Refusal>;
 
-/// The numbers of each line, or nothing where the original panics.
-fn numbers(paths: Option<Paths<Vector>>) -> Vec<Vec<f64>> {
-    paths.map_or_else(
-        || vec![vec![f64::NAN]],
-        |paths| {
-            paths
-                .iter_paths()
-                .map(|line| coordinates(line).collect())
-                .collect()
-        },
-    )
-}
-
-/// What the original draws.
-fn original_lines(scene: &Scene) -> Vec<Vec<f64>> {
+/// What the original draws; where it panics, 11 is due.
+fn original_lines(scene: &Scene) -> DrawnLines {
+    if let Some(refusal) = grid_refusal(&scene.grid, |_, _| true) {
+        return Err(refusal);
+    }
     let texture = match scene.texture {
         Texture::Grid => ParametricSurfaceTexture::Grid,
         Texture::Swirl { spacing, twist } => ParametricSurfaceTexture::Swirl { spacing, twist },
         Texture::Spiral { spacing, arms } => ParametricSurfaceTexture::Spiral { spacing, arms },
     };
-    numbers(surface(&scene.grid).paths(texture))
+    let grid = &scene.grid;
+    let mut surface = Surface::from_grid(vectors(&grid.numbers), grid.u_steps, grid.v_steps);
+    let paths = surface.paths(texture).ok_or(Refusal::NoStep)?;
+    let lines = paths.iter_paths().map(|line| coordinates(line).collect());
+    Ok(lines.collect())
 }
 
-/// What the library draws, ray by ray: its plan, angles, points and trace, with the host's cosine and sine.
-fn library_lines(scene: &Scene) -> Vec<Vec<f64>> {
-    let Scene { texture, ref grid } = *scene;
-    let (m, n) = (grid.u_steps, grid.v_steps);
-    let plan = texture.plan(m, n).expect("the scenes are planned");
-    let sample = |ray, i| {
-        let angle = texture.angle(m, n, ray, i).expect("the sample is there");
-        texture
-            .sample_point(m, n, ray, i, [angle.cos(), angle.sin()])
-            .expect("the sample is there")
-    };
-    let mut all = Vec::new();
-    for ray in 0..plan.rays {
-        let pairs: Vec<_> = (0..=plan.samples).flat_map(|i| sample(ray, i)).collect();
-        match traced(grid, &pairs) {
-            Ok(lines) => all.extend(lines),
-            Err(_) => return numbers(None),
-        }
-    }
-    all
-}
-
-/// The lines of a curve without breaks, in lists that grow until they hold it.
-fn traced(grid: &Grid, pairs: &[f64]) -> Result<Vec<Vec<f64>>, Refusal> {
-    let marks = vec![1; pairs.len() / 2];
-    let mut room = 1 << 12;
-    loop {
-        let (mut points, mut starts) = (vec![0.0; 3 * room], vec![0; room]);
-        let (mut sides, mut fractions) = (vec![0; 2 * room], vec![0.0; room]);
-        let lists = TraceLists {
-            points: &mut points,
-            starts: &mut starts,
-            sides: &mut sides,
-            fractions: &mut fractions,
-        };
-        match trace_flat(
-            &grid.numbers,
-            grid.u_steps,
-            grid.v_steps,
-            pairs,
-            &marks,
-            lists,
-        ) {
-            Err(Refusal::Full) => room *= 4,
-            Err(refusal) => return Err(refusal),
-            Ok(drawn) => {
-                let lines = Lines {
-                    points: &points,
-                    starts: &starts,
-                    drawn,
-                };
-                return Ok((0..drawn.lines).map(|i| lines.get(i).to_vec()).collect());
-            }
-        }
-    }
+/// What the library draws: its plan, angles, points and traces, with the host's cosine and sine.
+fn library_lines(scene: &Scene) -> DrawnLines {
+    let grid = &scene.grid;
+    let surface = merlontrispa::Surface::new(&grid.numbers, grid.u_steps, grid.v_steps)?;
+    let lines = surface.texture_lines(scene.texture)?;
+    let lines = lines.iter().map(|line| line.as_flattened().to_vec());
+    Ok(lines.collect())
 }
 
 /// Each edge of a spacing with each of a twist and of arms, on surfaces at the limits.
@@ -316,4 +250,180 @@ fn any_scene(random: &mut Random) -> Scene {
     let [m, n] = [0; 2].map(|_| 1 + random.below(12) as usize);
     let grid = any_grid(random, m, n);
     Scene { texture, grid }
+}
+
+/// Plans, angles and points for the record.
+pub fn record(record: &mut Record) {
+    let radii = radii();
+    let mut random = record.random();
+    for _ in 0..200 {
+        let scene = any_scene(&mut random);
+        assert!(
+            drawn_alike(&radii, &scene),
+            "a sample is not the original's"
+        );
+    }
+    let all: Vec<_> = edges().collect();
+    for _ in 0..4_000 {
+        let input = match random.below(4) {
+            0 => any_input(&mut random),
+            1 => {
+                let Scene { texture, grid } = any_scene(&mut random);
+                let (m, n) = (grid.u_steps, grid.v_steps);
+                Input { texture, m, n }
+            }
+            _ => {
+                let Input { texture, m, n } = all[random.below(all.len() as u64) as usize];
+                Input { texture, m, n }
+            }
+        };
+        let plan = original_plan(&radii, &input);
+        record.offer(input.planned(plan));
+        for _ in 0..2 {
+            let (ray, sample) = match plan {
+                Ok(plan) => (
+                    up_to(&mut random, plan.rays),
+                    up_to(&mut random, plan.samples),
+                ),
+                Err(_) => (0, 0),
+            };
+            let direction = match random.below(4) {
+                0 => random.of(&[
+                    [1.0, 0.0],
+                    [-0.0, -1.0],
+                    [1f64.next_up(), 0.0],
+                    [0.0, f64::NAN],
+                ]),
+                _ => [2.0 * random.unit() - 1.0, 2.0 * random.unit() - 1.0],
+            };
+            record.offer(input.turned(&radii, plan, ray, sample));
+            record.offer(input.placed(&radii, plan, ray, sample, direction));
+        }
+    }
+}
+
+/// Mostly at most `top`.
+fn up_to(random: &mut Random, top: usize) -> usize {
+    random.below(top as u64 + 2) as usize
+}
+
+impl Input {
+    /// The texture's kind and numbers, M and N, and what follows.
+    fn words(&self, rest: &[u64]) -> Vec<u64> {
+        let [kind, spacing, twist, arms] = match self.texture {
+            Texture::Grid => [0; 4],
+            Texture::Swirl { spacing, twist } => [1, bits(spacing), bits(twist), 0],
+            Texture::Spiral { spacing, arms } => [2, bits(spacing), 0, arms as u64],
+        };
+        let steps = [self.m as u64, self.n as u64];
+        [&[kind, spacing, twist, arms], &steps[..], rest].concat()
+    }
+
+    fn name(&self) -> &'static str {
+        match self.texture {
+            Texture::Grid => "a grid",
+            Texture::Swirl { .. } => "a swirl",
+            Texture::Spiral { .. } => "a spiral",
+        }
+    }
+
+    fn planned(&self, plan: Result<Plan, Refusal>) -> Recorded {
+        Recorded::new(Call::Plan, plan.err(), &self.words(&[]))
+            .told(plan.map(|plan| [plan.rays, plan.samples]))
+            .reaching_if(plan.is_ok(), self.name())
+    }
+
+    fn turned(&self, radii: &[f64], plan: Result<Plan, Refusal>, ray: usize, i: usize) -> Recorded {
+        let told = self.sample(radii, plan, ray, i).map(|[angle, _]| angle);
+        let numbers = self.words(&[ray as u64, i as u64]);
+        let case =
+            Recorded::new(Call::Angle, told.err(), &numbers).reaching_if(told.is_ok(), self.name());
+        match told {
+            Ok(angle) => case.words(&[0, bits(angle)]),
+            Err(refusal) => case.told(Err(refusal)),
+        }
+    }
+
+    fn placed(
+        &self,
+        radii: &[f64],
+        plan: Result<Plan, Refusal>,
+        ray: usize,
+        i: usize,
+        [cosine, sine]: [f64; 2],
+    ) -> Recorded {
+        let fits = |x: f64| x.abs() <= 1.0;
+        let told = match plan {
+            Ok(_) if !fits(cosine) || !fits(sine) => Err(Refusal::Direction),
+            _ => self.sample(radii, plan, ray, i),
+        };
+        let numbers = self.words(&[ray as u64, i as u64, bits(cosine), bits(sine)]);
+        let case = Recorded::new(Call::SamplePoint, told.err(), &numbers)
+            .reaching_if(told.is_ok(), self.name());
+        match told {
+            Ok([_, distance]) => {
+                let point = self.point(distance, [cosine, sine]);
+                case.words(&[0, bits(point[0]), bits(point[1])])
+            }
+            Err(refusal) => case.told(Err(refusal)),
+        }
+    }
+
+    /// The angle of a sample and how far it is from the centre. `drawn_alike` holds them to the original, which
+    /// has them inside its loops.
+    fn sample(
+        &self,
+        radii: &[f64],
+        plan: Result<Plan, Refusal>,
+        ray: usize,
+        i: usize,
+    ) -> Result<[f64; 2], Refusal> {
+        let Plan { rays, samples } = plan?;
+        if ray >= rays || i > samples {
+            return Err(Refusal::NotThere);
+        }
+        let radius = radii[self.m.max(self.n)];
+        let [ray, rays, i, count] = [ray, rays, i, samples].map(|n| n as f64);
+        let base = ray / rays * TAU;
+        Ok(match self.texture {
+            Texture::Grid => [0.0, 0.0],
+            Texture::Swirl { twist, .. } => [base + TAU * twist * i / count, radius * i / count],
+            Texture::Spiral { spacing, .. } => {
+                let turns = (radius / texture_spacing(spacing)).ceil().max(1.0);
+                let t = i / count;
+                [base + t * TAU * turns, radius * (1.0 - t)]
+            }
+        })
+    }
+
+    /// The point at a distance from the centre.
+    fn point(&self, distance: f64, [cosine, sine]: [f64; 2]) -> [f64; 2] {
+        let [u, v] = [self.m, self.n].map(|steps| steps as f64 * 0.5);
+        [u + cosine * distance, v + sine * distance]
+    }
+}
+
+/// Whether the samples that are recorded draw what the original draws of the texture, bit by bit.
+fn drawn_alike(radii: &[f64], scene: &Scene) -> bool {
+    let Scene { texture, ref grid } = *scene;
+    let (m, n) = (grid.u_steps, grid.v_steps);
+    let input = Input { texture, m, n };
+    let plan = original_plan(radii, &input);
+    let surface = Surface::from_grid(vectors(&grid.numbers), m, n);
+    let ray_lines = |ray| {
+        let samples = plan.map_or(0, |plan| plan.samples);
+        let ray: Vec<_> = (0..=samples)
+            .map(|i| {
+                let [angle, distance] = input.sample(radii, plan, ray, i).ok()?;
+                let [u, v] = input.point(distance, [angle.cos(), angle.sin()]);
+                Some((u, v))
+            })
+            .collect();
+        let paths = surface.trace(&ray).ok_or(Refusal::NoStep)?;
+        let lines = paths.iter_paths().map(|line| coordinates(line).collect());
+        Ok(lines.collect::<Vec<_>>())
+    };
+    let rays = plan.map_or(0, |plan| plan.rays);
+    let drawn: Result<Vec<_>, Refusal> = (0..rays).map(ray_lines).collect();
+    original_lines(scene).same(&drawn.map(|rays| rays.concat()))
 }

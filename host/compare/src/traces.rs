@@ -1,12 +1,15 @@
 //! The trace of flat samples against the original's, bit by bit, with the sides and fractions of its points.
 
+use crate::case::{Case, Smaller, case, stretches, without};
 use crate::driver::{Compared, Driver};
 use crate::grids::{Grid, any_grid, any_steps};
 use crate::inputs::{EPS, near};
 use crate::lines::{coordinates, firsts};
-use crate::lists::{fill, floats, grid_refusal, numbers, spoil};
+use crate::lists::{as_far, fill, floats, grid_refusal, numbers, spoil};
 use crate::random::Random;
+use crate::record::{Call, Record, Recorded};
 use crate::seams::vectors;
+use crate::text::{Text, Words};
 use crate::value::{Show, Value};
 use crate::walks::{Need, replay};
 use merlontrispa::{Drawn, Refusal, TraceLists, trace_flat};
@@ -26,28 +29,27 @@ pub fn compare(driver: &mut Driver) -> Compared {
             original,
         )?;
     }
-    let mut random = Random::new(driver.seed());
-    let few = scenes(&mut random, 200, |random| 1 + random.below(4) as usize);
+    let mut few = Scenes::new(200, |random| 1 + random.below(4) as usize);
     driver.compare(
         "trace_flat, few cells",
         2_000_000,
-        |random| traced(random, &few),
+        |random| traced(random, &mut few),
         library,
         original,
     )?;
-    let many = scenes(&mut random, 60, any_steps);
+    let mut many = Scenes::new(60, any_steps);
     driver.compare(
         "trace_flat, up to 255 by 255 cells",
         100_000,
-        |random| traced(random, &many),
+        |random| traced(random, &mut many),
         library,
         original,
     )?;
-    let most = scenes(&mut random, 2, |_| 255);
+    let mut most = Scenes::new(2, |_| 255);
     driver.compare(
         "trace_flat, 255 by 255 cells",
         3_000,
-        |random| traced(random, &most),
+        |random| traced(random, &mut most),
         library,
         original,
     )?;
@@ -55,14 +57,14 @@ pub fn compare(driver: &mut Driver) -> Compared {
 }
 
 /// A grid in the library's form and, where it is taken, in the original's.
-struct Scene {
-    grid: Grid,
+pub struct Scene {
+    pub grid: Grid,
     points: Vec<Vector>,
     surface: Option<Surface>,
 }
 
 impl Scene {
-    fn new(grid: Grid) -> Self {
+    pub fn new(grid: Grid) -> Self {
         let points = vectors(&grid.numbers);
         let taken = grid_refusal(&grid, |_, _| true).is_none();
         let surface = taken.then(|| Surface::from_grid(points.clone(), grid.u_steps, grid.v_steps));
@@ -76,24 +78,76 @@ impl Scene {
 
 /// How long the lists are that are lent.
 #[derive(Debug, Clone, Copy)]
-struct Room {
+pub struct Room {
     points: usize,
     starts: usize,
     sides: usize,
-    fractions: usize,
+    pub fractions: usize,
 }
 
-struct Input {
-    scene: Rc<Scene>,
+case!(Room {
+    points,
+    starts,
+    sides,
+    fractions
+});
+
+impl Room {
+    /// Room that is as far from what is needed `after` as this is from what was needed `before`.
+    fn as_far(self, before: Need, after: Need) -> Self {
+        Self {
+            points: as_far(self.points, 3 * before.points, 3 * after.points),
+            starts: as_far(self.starts, before.lines, after.lines),
+            sides: as_far(self.sides, 2 * before.points, 2 * after.points),
+            fractions: as_far(self.fractions, before.points, after.points),
+        }
+    }
+}
+
+/// What an input is made of.
+#[derive(Clone)]
+struct Curve {
+    grid: Grid,
     pairs: Vec<f64>,
     marks: Vec<u8>,
+    room: Room,
+}
+
+case!(Curve { grid, pairs, marks, room }, first Curve::fewer_samples);
+
+impl Curve {
+    fn fewer_samples(&self) -> Smaller<Self> {
+        let this = self.clone();
+        let samples = self.marks.len().min(self.pairs.len() / 2);
+        Box::new(stretches(samples).map(move |samples| Self {
+            pairs: without(&this.pairs, &(2 * samples.start..2 * samples.end)),
+            marks: without(&this.marks, &samples),
+            ..this.clone()
+        }))
+    }
+
+    fn input(self, room: impl FnOnce(Need) -> Room) -> Input {
+        Input::new(
+            &Rc::new(Scene::new(self.grid)),
+            self.pairs,
+            self.marks,
+            room,
+        )
+    }
+}
+
+#[derive(Clone)]
+pub struct Input {
+    scene: Rc<Scene>,
+    pub pairs: Vec<f64>,
+    pub marks: Vec<u8>,
     room: Room,
     /// What the original's walk makes, unless the call is refused before it.
     walk: Result<Vec<Made>, Refusal>,
 }
 
 impl Input {
-    fn new(
+    pub fn new(
         scene: &Rc<Scene>,
         pairs: Vec<f64>,
         marks: Vec<u8>,
@@ -106,24 +160,47 @@ impl Input {
                 Ok(surface.walk(&samples(&pairs, &marks)))
             }
         };
-        let need = walk.as_deref().map_or_else(|_| Need::default(), Need::of);
         Self {
             scene: Rc::clone(scene),
             pairs,
             marks,
-            room: room(need),
+            room: room(need(&walk)),
             walk,
+        }
+    }
+
+    fn curve(&self) -> Curve {
+        Curve {
+            grid: self.scene.grid.clone(),
+            pairs: self.pairs.clone(),
+            marks: self.marks.clone(),
+            room: self.room,
         }
     }
 }
 
-impl Show for Input {
-    fn show(&self) -> String {
-        let (grid, pairs) = (self.scene.grid.show(), self.pairs.show());
-        format!(
-            "{grid}, pairs {pairs}, marks {:?}, {:?}",
-            self.marks, self.room
-        )
+fn need(walk: &Result<Vec<Made>, Refusal>) -> Need {
+    walk.as_deref().map_or_else(|_| Need::default(), Need::of)
+}
+
+impl Case for Input {
+    fn write(&self, text: &mut Text) {
+        self.curve().write(text);
+    }
+
+    fn read(words: &mut Words<'_>) -> Result<Self, String> {
+        let curve = Curve::read(words)?;
+        let room = curve.room;
+        Ok(curve.input(|_| room))
+    }
+
+    fn smaller(&self) -> Smaller<Self> {
+        let before = need(&self.walk);
+        Box::new(self.curve().smaller().flat_map(move |curve| {
+            let room = curve.room;
+            let moved = curve.clone().input(|after| room.as_far(before, after));
+            [moved, curve.input(|_| room)]
+        }))
     }
 }
 
@@ -158,7 +235,7 @@ fn refusal(scene: &Scene, pairs: &[f64], marks: &[u8]) -> Option<Refusal> {
 }
 
 /// An answer, the four lists after the call, and the points made again from p, q and t.
-struct Output {
+pub struct Output {
     told: Result<Drawn, Refusal>,
     points: Vec<f64>,
     starts: Vec<usize>,
@@ -211,22 +288,34 @@ impl Value for Output {
     }
 }
 
-fn library(input: &Input) -> Output {
+pub fn library(input: &Input) -> Output {
+    let (pairs, marks) = (&input.pairs, &input.marks);
+    called(input, |grid, lists| {
+        trace_flat(
+            &grid.numbers,
+            grid.u_steps,
+            grid.v_steps,
+            pairs,
+            marks,
+            lists,
+        )
+    })
+}
+
+/// What a call of the library leaves.
+pub fn called(
+    input: &Input,
+    call: impl FnOnce(&Grid, TraceLists<'_>) -> Result<Drawn, Refusal>,
+) -> Output {
     let Scene { grid, points, .. } = &*input.scene;
     let mut output = Output::before(input.room);
-    output.told = trace_flat(
-        &grid.numbers,
-        grid.u_steps,
-        grid.v_steps,
-        &input.pairs,
-        &input.marks,
-        TraceLists {
-            points: &mut output.points,
-            starts: &mut output.starts,
-            sides: &mut output.sides,
-            fractions: &mut output.fractions,
-        },
-    );
+    let lists = TraceLists {
+        points: &mut output.points,
+        starts: &mut output.starts,
+        sides: &mut output.sides,
+        fractions: &mut output.fractions,
+    };
+    output.told = call(grid, lists);
     if let Ok(drawn) = output.told {
         let made = output.sides.as_chunks().0.iter().zip(&output.fractions);
         let made = made.take(drawn.points).map(|(&[p, q], &t)| {
@@ -239,7 +328,7 @@ fn library(input: &Input) -> Output {
     output
 }
 
-fn original(input: &Input) -> Output {
+pub fn original(input: &Input) -> Output {
     let mut output = Output::before(input.room);
     let walk = match &input.walk {
         Ok(walk) => walk,
@@ -287,29 +376,52 @@ fn original(input: &Input) -> Output {
 }
 
 /// A grid that nothing joins.
-fn bent(u_steps: usize, v_steps: usize) -> Grid {
+pub fn bent(u_steps: usize, v_steps: usize) -> Grid {
     Grid::new(u_steps, v_steps, |i| {
         let (u, v) = (i / (v_steps + 1), i % (v_steps + 1));
         [u as f64 + 0.1, v as f64 * 1.7, (3 * u + v * v) as f64]
     })
 }
 
-/// Grids of all kinds, now and then with coordinates at their limits.
-fn scenes(
-    random: &mut Random,
-    count: usize,
-    steps: impl Fn(&mut Random) -> usize,
-) -> Vec<Rc<Scene>> {
-    let mut scene = |_| {
-        let (m, n) = (steps(random), steps(random));
+/// Some grids of all kinds, now and then with coordinates at their limits. Another takes the place of one
+/// of them at every thousandth input or so.
+pub struct Scenes<S> {
+    scenes: Vec<Rc<Scene>>,
+    most: usize,
+    steps: S,
+}
+
+impl<S: Fn(&mut Random) -> usize> Scenes<S> {
+    pub fn new(most: usize, steps: S) -> Self {
+        Self {
+            scenes: Vec::new(),
+            most,
+            steps,
+        }
+    }
+
+    fn any(&mut self, random: &mut Random) -> &Rc<Scene> {
+        let count = self.scenes.len();
+        if count < self.most {
+            self.scenes.push(self.another(random));
+            return &self.scenes[count];
+        }
+        let place = random.below(count as u64) as usize;
+        if random.below(1_000) == 0 {
+            self.scenes[place] = self.another(random);
+        }
+        &self.scenes[place]
+    }
+
+    fn another(&self, random: &mut Random) -> Rc<Scene> {
+        let (m, n) = ((self.steps)(random), (self.steps)(random));
         let mut grid = any_grid(random, m, n);
         if random.below(8) == 0 {
             let scale = random.of(&[EPS, 1e-12, 4_294_967_296.0, 1e-300]);
             grid.numbers.iter_mut().for_each(|x| *x *= scale);
         }
         Rc::new(Scene::new(grid))
-    };
-    (0..count).map(&mut scene).collect()
+    }
 }
 
 /// The edges of an axis of so many steps.
@@ -350,7 +462,7 @@ fn steps_between_edges(scene: &Rc<Scene>) -> impl Iterator<Item = Input> {
 }
 
 /// Lists that hold what is needed and a little more.
-fn spare(need: Need, more: usize) -> Room {
+pub fn spare(need: Need, more: usize) -> Room {
     Room {
         points: 3 * need.points + more,
         starts: need.lines + more,
@@ -360,8 +472,8 @@ fn spare(need: Need, more: usize) -> Room {
 }
 
 /// Samples on one of the scenes, and lists that just hold what is needed, just do not, or have more room.
-fn traced(random: &mut Random, scenes: &[Rc<Scene>]) -> Input {
-    let scene = &scenes[random.below(scenes.len() as u64) as usize];
+pub fn traced(random: &mut Random, scenes: &mut Scenes<impl Fn(&mut Random) -> usize>) -> Input {
+    let scene = scenes.any(random);
     let (pairs, marks) = any_samples(random, scene.grid.u_steps, scene.grid.v_steps);
     Input::new(scene, pairs, marks, |need| any_room(random, need))
 }
@@ -463,7 +575,7 @@ fn any_coordinate(random: &mut Random, steps: usize, far: f64) -> f64 {
 }
 
 /// Any set of the faults that are refused before the walk, or none.
-fn faulty(random: &mut Random) -> Input {
+pub fn faulty(random: &mut Random) -> Input {
     let (m, n) = (1 + random.below(3) as usize, 1 + random.below(3) as usize);
     let mut grid = any_grid(random, m, n);
     if random.below(2) == 0 {
@@ -499,9 +611,119 @@ fn faulty(random: &mut Random) -> Input {
     })
 }
 
+/// Traces for the record.
+pub fn record(record: &mut Record) {
+    let cell = Rc::new(Scene::new(bent(1, 1)));
+    for [from, to] in [
+        [[0.0, 0.25], [0.75, 0.25]],
+        [[0.0, 0.0], [0.5, -0.5]],
+        [[0.25, 0.25], [0.75, 0.75]],
+        [[1.0, FAR], [1.0, 1.0 + EPS]],
+    ] {
+        let input = Input::new(&cell, [from, to].concat(), vec![1, 1], |need| {
+            spare(need, 1)
+        });
+        record.keep(input.recorded());
+    }
+    for count in [65_537, 65_538] {
+        let breaks = Input::new(&cell, vec![0.0; 2 * count], vec![0; count], |need| {
+            spare(need, 1)
+        });
+        record.keep(breaks.recorded());
+    }
+    let mut random = record.random();
+    let mut few = Scenes::new(60, |random: &mut Random| 1 + random.below(4) as usize);
+    for _ in 0..20_000 {
+        record.offer(traced(&mut random, &mut few).recorded());
+        record.offer(faulty(&mut random).recorded());
+    }
+    let mut many = Scenes::new(2, |random: &mut Random| 8 + random.below(4) as usize);
+    for _ in 0..3 {
+        record.keep(
+            traced(&mut random, &mut many)
+                .recorded()
+                .reaching("many cells"),
+        );
+    }
+}
+
+impl Input {
+    fn recorded(&self) -> Recorded {
+        let Grid {
+            u_steps,
+            v_steps,
+            ref numbers,
+        } = self.scene.grid;
+        let output = original(self);
+        let told = output.told;
+        let case = Recorded::new(
+            Call::TraceFlat,
+            told.err(),
+            &[u_steps as u64, v_steps as u64],
+        )
+        .floats(numbers)
+        .floats(&self.pairs)
+        .bytes(&self.marks)
+        .told(told.map(|drawn| [drawn.points, drawn.lines]))
+        .floats(&output.points)
+        .numbers(&output.starts)
+        .numbers(&output.sides)
+        .floats(&output.fractions);
+        match told {
+            Ok(drawn) => self.reached(case, drawn),
+            Err(_) => case,
+        }
+    }
+
+    /// What a trace that is drawn reaches: the kinds of its events, by their sides, and how its lines end.
+    fn reached(&self, case: Recorded, drawn: Drawn) -> Recorded {
+        let walk = self.walk.as_deref().unwrap_or_default();
+        let v_steps = self.scene.grid.v_steps;
+        let sides: Vec<_> = walk.iter().filter_map(|made| Some(made.point?.1)).collect();
+        let steps = samples(&self.pairs, &self.marks);
+        let steps: Vec<_> = steps
+            .windows(2)
+            .filter_map(|pair| Some([pair[0]?, pair[1]?]))
+            .collect();
+        let whole = |x: f64| x == x.trunc();
+        let at_end = |&[from, to]: &[(f64, f64); 2]| {
+            [from, to]
+                .iter()
+                .any(|&(u, v)| whole(u) || whole(v) || whole(u + v))
+        };
+        // From a line down: the numerator is 0 and the denominator negative.
+        let at_minus_zero = |&[from, to]: &[(f64, f64); 2]| {
+            whole(from.0) && to.0 < from.0 || whole(from.1) && to.1 < from.1
+        };
+        let kept = walk.iter().filter(|made| made.close != Some(true)).count();
+        case.reaching_if(sides.iter().any(|side| side.q == side.p + 1), "a U event")
+            .reaching_if(
+                sides.iter().any(|side| side.q == side.p + v_steps + 1),
+                "a V event",
+            )
+            .reaching_if(
+                sides.iter().any(|side| side.p == side.q + v_steps),
+                "a diagonal event",
+            )
+            .reaching_if(
+                drawn.points > 0 && steps.iter().any(at_end),
+                "an event at an end",
+            )
+            .reaching_if(
+                drawn.points > 0 && steps.iter().any(at_minus_zero),
+                "an event at -0",
+            )
+            .reaching_if(kept < walk.len(), "a point close to the last one")
+            .reaching_if(drawn.points < kept, "a line of one point")
+            .reaching_if(drawn.lines > 1, "several lines")
+            .reaching_if(drawn.lines > 0 && self.marks.contains(&0), "a break")
+    }
+}
+
 #[cfg(test)]
 mod tests {
     use super::*;
+    use crate::planted::found;
 
     /// How often each refusal is told, and at 0 how often there is none.
     fn refusals(inputs: impl Iterator<Item = Input>) -> [u32; 13] {
@@ -516,8 +738,8 @@ mod tests {
     #[test]
     fn walks_end_in_each_way() {
         let mut random = Random::new(1);
-        let few = scenes(&mut random, 50, |random| 1 + random.below(4) as usize);
-        let counts = refusals((0..20_000).map(|_| traced(&mut random, &few)));
+        let mut few = Scenes::new(50, |random| 1 + random.below(4) as usize);
+        let counts = refusals((0..20_000).map(|_| traced(&mut random, &mut few)));
         let [drawn, no_step, full] = [0, 11, 12].map(|number| counts[number]);
         assert!(drawn > 5_000 && no_step > 50 && full > 1_000, "{counts:?}");
     }
@@ -528,5 +750,56 @@ mod tests {
         let counts = refusals((0..20_000).map(|_| faulty(&mut random)));
         let least = [0, 1, 2, 4, 9, 10].map(|number| counts[number]);
         assert!(least.iter().all(|&count| count > 500), "{counts:?}");
+    }
+
+    /// A trace that forgets the last point of the last line.
+    #[test]
+    fn a_lost_point_is_found() {
+        let short = |input: &Input| {
+            let mut output = original(input);
+            if let Ok(drawn) = &mut output.told {
+                drawn.points = drawn.points.saturating_sub(1);
+            }
+            output
+        };
+        let compare = |driver: &mut Driver, library: &dyn Fn(&Input) -> Output| {
+            let mut many = Scenes::new(60, |random| 1 + random.below(20) as usize);
+            let input = |random: &mut Random| traced(random, &mut many);
+            driver.compare("planted", 1_000, input, library, original)
+        };
+        let case = found(
+            |driver| compare(driver, &short),
+            |driver| compare(driver, &library),
+        );
+        let grid = "u_steps 1 v_steps 1 numbers [ o o o 0.0 0.0 1.0 ]";
+        let curve = "pairs [ 1.0 1.0 0.0 0.0 ] marks [ 1 1 ]";
+        let room = "points 6 starts 1 sides 4 fractions 2";
+        assert_eq!(case, format!("grid {grid} {curve} room {room}"));
+    }
+
+    /// A trace that says 12 where one list has just the room.
+    #[test]
+    fn a_full_list_told_too_early_is_found() {
+        let early = |input: &Input| {
+            let mut output = original(input);
+            if output.told.is_ok() && input.room.fractions == need(&input.walk).points {
+                output.told = Err(Refusal::Full);
+                output.clear();
+                output.remade.clear();
+            }
+            output
+        };
+        let compare = |driver: &mut Driver, library: &dyn Fn(&Input) -> Output| {
+            let mut few = Scenes::new(60, |random| 1 + random.below(4) as usize);
+            let input = |random: &mut Random| traced(random, &mut few);
+            driver.compare("planted", 1_000, input, library, original)
+        };
+        let case = found(
+            |driver| compare(driver, &early),
+            |driver| compare(driver, &library),
+        );
+        let grid = "u_steps 1 v_steps 1 numbers [ o o o o ]";
+        let room = "points 0 starts 0 sides 0 fractions 0";
+        assert_eq!(case, format!("grid {grid} pairs [ ] marks [ ] room {room}"));
     }
 }

@@ -1,6 +1,6 @@
 //! What is compared and how it is shown: floats by their bits, and any NaN with any NaN.
 
-use merlontrispa::{Drawn, Mapping, Plan, Refusal, Seam, Triangulation, Vector};
+use merlontrispa::{Drawn, Plan, Refusal, Seam, Triangulation, Vector};
 use std::cmp::Ordering;
 
 pub trait Show {
@@ -45,7 +45,6 @@ plain!(
     usize,
     Ordering,
     Drawn,
-    Mapping,
     Plan,
     Refusal,
     Seam,

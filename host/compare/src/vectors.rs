@@ -3,6 +3,7 @@
 use crate::driver::{Compared, Driver};
 use crate::inputs::{any, near};
 use crate::random::Random;
+use crate::record::{Call, Record, Recorded, bits};
 use merlontrispa::Vector;
 
 const COUNT: u64 = 10_000_000;
@@ -63,6 +64,38 @@ fn close_or_not(random: &mut Random) -> [Vector; 2] {
         _ => Vector::new(near(random, a.x), near(random, a.y), near(random, a.z)),
     };
     [a, b]
+}
+
+/// Operations for the record.
+pub fn record(record: &mut Record) {
+    let mut random = record.random();
+    let words = |v: Vector| [v.x, v.y, v.z].map(bits);
+    for _ in 0..6 {
+        let (a, b) = (vector(&mut random), vector(&mut random));
+        let [p, q] = [a, b].map(original);
+        let results = [
+            ("add", p.add(q)),
+            ("sub", p.sub(q)),
+            ("mul_scalar", p.mul_scalar(b.x)),
+        ];
+        for (operation, (name, result)) in (0..).zip(results) {
+            let case = Recorded::new(Call::Vector, None, &[operation]).reaching(name);
+            let result = words(from_original(result));
+            record.keep(case.words(&words(a)).words(&words(b)).words(&result));
+        }
+        let [a, b] = close_or_not(&mut random);
+        let close = original(a).all_close(original(b));
+        let case = Recorded::new(Call::Vector, None, &[3]).reaching(if close {
+            "all_close"
+        } else {
+            "not all_close"
+        });
+        record.keep(
+            case.words(&words(a))
+                .words(&words(b))
+                .words(&[close.into()]),
+        );
+    }
 }
 
 #[cfg(test)]

@@ -7,12 +7,12 @@ mod camera;
 mod drawing;
 mod formula;
 mod options;
-mod surface;
+mod parametric;
 mod svg;
 
 use camera::Camera;
 use drawing::Drawing;
-use merlontrispa::{Mapping, Refusal, Seam, Texture};
+use merlontrispa::{Mapping, Refusal, Seam, Surface, Texture};
 use options::{Options, Request};
 use std::io::Write;
 use std::process::ExitCode;
@@ -51,9 +51,12 @@ fn failed(sentence: &str, status: u8) -> ExitCode {
     ExitCode::from(status)
 }
 
+fn refused(refusal: Refusal) -> String {
+    format!("the library refuses this with {refusal}")
+}
+
 /// Draws the card, writes it, and says what is on it.
 fn draw(options: &Options) -> Result<(), String> {
-    let refused = |refusal: Refusal| format!("the library refuses this with {refusal}");
     let [m, n] = options.steps;
     // The plan refuses bad steps before a grid of so many points is made.
     let plan = options.texture.plan(m, n).map_err(refused)?;
@@ -64,8 +67,13 @@ fn draw(options: &Options) -> Result<(), String> {
         ));
     }
     let grid = options.surface.grid(options.steps);
-    let drawing = Drawing::new(&grid, options.texture).map_err(refused)?;
-    let camera = Camera::fitting(grid.points())
+    let surface = Surface::new(&grid, m, n).map_err(|refusal| {
+        let first = options.surface.first_refused(options.steps);
+        let first = first.map(|first| format!("; the first is {first}"));
+        refused(refusal) + &first.unwrap_or_default()
+    })?;
+    let drawing = Drawing::new(surface, options.texture).map_err(refused)?;
+    let camera = Camera::fitting(surface.points())
         .ok_or("all points of this surface are seen at one place, and there is nothing to draw")?;
     let title = title(options);
     let text = svg::card(&drawing, &camera, options.style, &title);
@@ -106,8 +114,8 @@ fn summary(drawing: &Drawing) -> String {
         "seams: u {}; v {}\n{} lines, {} points; {} triangles, {} flipped pairs",
         seam(drawing.seams.u),
         seam(drawing.seams.v),
-        drawing.lines.len(),
-        drawing.lines.iter().map(Vec::len).sum::<usize>(),
+        drawing.lines.iter().len(),
+        drawing.lines.points.len(),
         drawing.triangles,
         drawing.flipped.len() / 2,
     )

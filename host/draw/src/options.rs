@@ -1,7 +1,7 @@
 //! The options of the command line. Each fault is one sentence.
 
 use crate::formula::{Formula, constant};
-use crate::surface::{NAMES, Surface};
+use crate::parametric::{NAMES, ParametricSurface};
 use crate::svg::Style;
 use merlontrispa::Texture;
 use std::collections::BTreeMap;
@@ -20,6 +20,9 @@ const WITH_VALUE: [&str; 9] = [
 
 const WITHOUT_VALUE: [&str; 4] = ["--seams", "--flipped", "--plain", "--help"];
 
+/// The library takes 1 for a spacing that is not above this, or not finite.
+const LEAST_SPACING: f64 = 1e-9;
+
 const SPACING: f64 = 3.0;
 const TWIST: f64 = 0.5;
 const ARMS: usize = 2;
@@ -34,7 +37,7 @@ pub enum Request {
 /// What is to be drawn, and where to.
 #[derive(Debug, Clone, PartialEq)]
 pub struct Options {
-    pub surface: Surface,
+    pub surface: ParametricSurface,
     pub steps: [usize; 2],
     pub texture: Texture,
     pub style: Style,
@@ -131,7 +134,7 @@ impl Given {
         self.options.contains_key(name)
     }
 
-    fn surface(&self) -> Result<Surface, String> {
+    fn surface(&self) -> Result<ParametricSurface, String> {
         let mut surface = match (&self.surface, self.value("--formula")) {
             (Some(name), Some(_)) => {
                 return Err(format!(
@@ -139,7 +142,7 @@ impl Given {
                 ));
             }
             (None, Some(text)) => Formula::parse(text)
-                .map(Surface::own)
+                .map(ParametricSurface::own)
                 .map_err(|fault| format!("in the formula, {}", fault.show(text)))?,
             (name, None) => named(name.as_deref().unwrap_or("torus"))?,
         };
@@ -215,8 +218,10 @@ impl Given {
 
     fn spacing(&self) -> Result<f64, String> {
         match self.number("--spacing")?.unwrap_or(SPACING) {
-            spacing if spacing > 0.0 => Ok(spacing),
-            _ => Err("--spacing wants a number above 0".into()),
+            spacing if spacing.is_finite() && spacing > LEAST_SPACING => Ok(spacing),
+            _ => Err(format!(
+                "--spacing wants a finite number above {LEAST_SPACING:?}"
+            )),
         }
     }
 
@@ -239,8 +244,8 @@ impl Given {
     }
 }
 
-fn named(name: &str) -> Result<Surface, String> {
-    Surface::named(name).ok_or_else(|| {
+fn named(name: &str) -> Result<ParametricSurface, String> {
+    ParametricSurface::named(name).ok_or_else(|| {
         let names = NAMES.join(", ");
         format!("there is no surface '{name}': the names are {names}")
     })
@@ -266,7 +271,7 @@ mod tests {
     #[test]
     fn nothing_given_is_a_torus() {
         let options = card("");
-        assert_eq!(Some(options.surface), Surface::named("torus"));
+        assert_eq!(Some(options.surface), ParametricSurface::named("torus"));
         assert_eq!(options.texture, Texture::Grid);
         assert_eq!(options.style, Style::default());
         assert_eq!(options.output, "card.svg");
@@ -333,8 +338,10 @@ mod tests {
                 "--spacing 1",
                 "--spacing goes with --texture swirl or spiral",
             ),
-            ("--texture swirl --spacing 0", "above 0"),
-            ("--texture swirl --spacing nan", "above 0"),
+            ("--texture swirl --spacing 0", "above 1e-9"),
+            ("--texture swirl --spacing 1e-9", "above 1e-9"),
+            ("--texture swirl --spacing nan", "a finite number"),
+            ("--texture swirl --spacing inf", "a finite number"),
             ("--texture swirl --twist much", "--twist wants a number"),
             ("--texture spiral --arms 0", "--arms wants a count"),
             ("--texture spiral --arms 1.5", "--arms wants a count"),

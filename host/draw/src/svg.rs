@@ -1,8 +1,8 @@
 //! The card as an SVG file, in mm.
 
 use crate::camera::{CARD, Camera, Seen};
-use crate::drawing::{Drawing, Line};
-use merlontrispa::Mapping;
+use crate::drawing::{Drawing, Point};
+use merlontrispa::{Mapping, OwnedLines};
 use std::fmt::{Arguments, Write};
 
 const INK: &str = "#16324f";
@@ -30,8 +30,8 @@ pub struct Style {
 
 /// The file's text.
 pub fn card(drawing: &Drawing, camera: &Camera, style: Style, title: &str) -> String {
-    let see = |line: &Line| -> Vec<Seen> { line.iter().map(|p| camera.see(*p)).collect() };
-    let see_all = |lines: &[Line]| -> Vec<Vec<Seen>> { lines.iter().map(see).collect() };
+    let see = |line: &[Point]| -> Vec<Seen> { line.iter().map(|p| camera.see(*p)).collect() };
+    let see_all = |lines: &OwnedLines| -> Vec<Vec<Seen>> { lines.iter().map(see).collect() };
     let mut sheet = Sheet::new(title);
     if style.flipped {
         sheet.triangles(drawing.flipped.iter().map(|t| t.map(|p| camera.see(p))));
@@ -178,8 +178,8 @@ fn places(points: &[Seen]) -> String {
 #[cfg(test)]
 mod tests {
     use super::*;
-    use crate::surface::{NAMES, Surface};
-    use merlontrispa::Texture;
+    use crate::parametric::{NAMES, ParametricSurface};
+    use merlontrispa::{Surface, Texture};
 
     const TEXTURES: [Texture; 3] = [
         Texture::Grid,
@@ -202,9 +202,12 @@ mod tests {
     const PLAIN: Style = Style { plain: true, ..ALL };
 
     fn drawn(name: &str, texture: Texture, style: Style) -> (Drawing, String) {
-        let grid = Surface::named(name).expect("a name").grid([24, 18]);
-        let drawing = Drawing::new(&grid, texture).expect("a drawing");
-        let camera = Camera::fitting(grid.points()).expect("it is seen");
+        let grid = ParametricSurface::named(name)
+            .expect("a name")
+            .grid([24, 18]);
+        let surface = Surface::new(&grid, 24, 18).expect("a surface");
+        let drawing = Drawing::new(surface, texture).expect("a drawing");
+        let camera = Camera::fitting(surface.points()).expect("it is seen");
         let text = card(&drawing, &camera, style, name);
         (drawing, text)
     }
@@ -234,10 +237,14 @@ mod tests {
         for name in NAMES {
             for texture in TEXTURES {
                 let (drawing, text) = drawn(name, texture, PLAIN);
-                assert!(!drawing.lines.is_empty());
+                assert!(drawing.lines.iter().len() > 0);
                 let count = |class, element| elements(&text, class, element).len();
-                assert_eq!(count("texture", "polyline"), drawing.lines.len(), "{name}");
-                assert_eq!(count("rim", "polyline"), drawing.rim.len(), "{name}");
+                assert_eq!(
+                    count("texture", "polyline"),
+                    drawing.lines.iter().len(),
+                    "{name}"
+                );
+                assert_eq!(count("rim", "polyline"), drawing.rim.iter().len(), "{name}");
                 assert_eq!(count("flipped", "polygon"), drawing.flipped.len(), "{name}");
                 let seams = count("forward-seam", "polyline") + count("reversed-seam", "polyline");
                 assert_eq!(seams, drawing.joined.len(), "{name}");

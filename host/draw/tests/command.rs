@@ -55,13 +55,9 @@ fn a_fault_in_a_formula_is_pointed_at() {
 
 #[test]
 fn a_refusal_has_its_number_and_its_sentence() {
-    let cases: [(&[&str], &str); 6] = [
+    let cases: [(&[&str], &str); 5] = [
         (&["--steps", "256x3"], "1: M or N outside 1 to 255"),
         (&["--steps", "3x0"], "1: M or N outside 1 to 255"),
-        (
-            &["--formula", "x = 1/u; y = v; z = 0"],
-            "4: a grid or row coordinate not finite or over 2^40 in magnitude",
-        ),
         (
             &["--texture", "swirl", "--twist", "65"],
             "5: twist not finite or over 64 in magnitude, or arms over 64",
@@ -82,6 +78,30 @@ fn a_refusal_has_its_number_and_its_sentence() {
             said,
             format!("draw: the library refuses this with {refusal}\n")
         );
+    }
+}
+
+#[test]
+fn a_formula_that_is_refused_is_told_where() {
+    let sqrt = "x = u; y = sqrt(1 - v); z = 0";
+    let cases: [(&[&str], &str); 3] = [
+        (&["x = 1/u; y = v; z = 0"], "x = inf at u = 0.0, v = 0.0"),
+        (
+            &[sqrt, "--v", "0..2", "--steps", "3x4"],
+            "y = NaN at u = 0.0, v = 1.5",
+        ),
+        (
+            &["x = u; y = v; z = 2^u", "--u", "0..50", "--steps", "50x2"],
+            "z = 2199023255552.0 at u = 41.0, v = 0.0",
+        ),
+    ];
+    for (words, first) in cases {
+        let (status, said) = failure(&[&["-o", "-", "--formula"], words].concat());
+        assert_eq!(status, 1, "{words:?}");
+        let refusal = "4: a grid or row coordinate not finite or over 2^40 in magnitude";
+        let expected =
+            format!("draw: the library refuses this with {refusal}; the first is {first}\n");
+        assert_eq!(said, expected);
     }
 }
 

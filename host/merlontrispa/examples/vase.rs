@@ -4,7 +4,7 @@
 //! cargo run --release --example vase >vase.svg
 //! ```
 
-use merlontrispa::{Plan, Refusal, Surface, Texture};
+use merlontrispa::{Refusal, Surface, Texture};
 use std::f64::consts::TAU;
 
 /// Steps around the vase.
@@ -26,47 +26,24 @@ fn grid() -> Vec<f64> {
     (0..=M).flat_map(column).collect()
 }
 
-/// The samples of a ray. Each lies at an angle whose cosine and sine are the host's.
-fn ray_samples(texture: Texture, plan: Plan, ray: usize) -> Result<Vec<Option<[f64; 2]>>, Refusal> {
-    let sample_point = |sample| {
-        let (sine, cosine) = texture.angle(M, N, ray, sample)?.sin_cos();
-        let point = texture.sample_point(M, N, ray, sample, [cosine, sine])?;
-        Ok(Some(point))
-    };
-    (0..=plan.samples).map(sample_point).collect()
-}
-
 /// A point on paper: from the side, a little from above.
 fn projected([x, y, z]: [f64; 3]) -> String {
     format!("{:.2},{:.2}", 60.0 * x, 20.0 * y - 60.0 * z)
-}
-
-/// The lines of a texture on a surface, each as an element of SVG.
-fn polylines(surface: Surface<'_>, texture: Texture) -> Result<Vec<String>, Refusal> {
-    let plan = texture.plan(M, N)?;
-    let mut polylines = Vec::new();
-    for ray in 0..plan.rays {
-        let trace = surface.trace(&ray_samples(texture, plan, ray)?)?;
-        for line in &trace.lines {
-            let points: Vec<_> = line.iter().map(|point| projected(*point)).collect();
-            polylines.push(format!(r#"<polyline points="{}"/>"#, points.join(" ")));
-        }
-    }
-    Ok(polylines)
 }
 
 fn main() -> Result<(), Refusal> {
     let grid = grid();
     let surface = Surface::new(&grid, M, N)?;
     let (spacing, twist) = (3.0, 0.5);
-    let polylines = polylines(surface, Texture::Swirl { spacing, twist })?;
+    let lines = surface.texture_lines(Texture::Swirl { spacing, twist })?;
     eprintln!("seam in u: {:?}", surface.seams().u.mapping);
-    eprintln!("{} lines", polylines.len());
+    eprintln!("{} lines", lines.iter().len());
 
     println!(r#"<svg xmlns="http://www.w3.org/2000/svg" viewBox="-100 -220 200 260">"#);
     println!(r#"<g fill="none" stroke="black" stroke-width="0.3">"#);
-    for polyline in polylines {
-        println!("{polyline}");
+    for line in &lines {
+        let points: Vec<_> = line.iter().map(|point| projected(*point)).collect();
+        println!(r#"<polyline points="{}"/>"#, points.join(" "));
     }
     println!("</g>\n</svg>");
     Ok(())

@@ -6,7 +6,7 @@
 //! `tests/declarations.rs` holds the structs and the functions to `crates`, from which the library is
 //! built, as it does `include/merlontrispa.h`.
 
-use crate::{Drawn, Lines, Refusal, TraceLists, Vector};
+use crate::{Drawn, Lines, Refusal, Sample, TraceLists, Vector};
 
 /// An index, or the number of a refusal.
 #[repr(C)]
@@ -235,6 +235,23 @@ unsafe extern "C" {
         fractions: *mut f64,
         fractions_len: usize,
     ) -> PathsAnswer;
+
+    fn mt_trace_samples(
+        grid: *const f64,
+        grid_len: usize,
+        m: usize,
+        n: usize,
+        samples: *const Sample,
+        samples_len: usize,
+        points: *mut f64,
+        points_len: usize,
+        starts: *mut usize,
+        starts_len: usize,
+        sides: *mut usize,
+        sides_len: usize,
+        fractions: *mut f64,
+        fractions_len: usize,
+    ) -> PathsAnswer;
 }
 
 pub fn new_vector(a: &[f64], b: &[f64]) -> RowsAnswer {
@@ -351,6 +368,41 @@ pub fn trace_flat(
             pairs.len(),
             marks.as_ptr(),
             marks.len(),
+            points.as_mut_ptr(),
+            points.len(),
+            starts.as_mut_ptr(),
+            starts.len(),
+            sides.as_mut_ptr(),
+            sides.len(),
+            fractions.as_mut_ptr(),
+            fractions.len(),
+        )
+    }
+}
+
+pub fn trace_samples(
+    grid: &[f64],
+    m: usize,
+    n: usize,
+    samples: &[Sample],
+    lists: TraceLists<'_>,
+) -> PathsAnswer {
+    let TraceLists {
+        points,
+        starts,
+        sides,
+        fractions,
+    } = lists;
+    // SAFETY: each pointer and length are those of a slice that is lent for the call, and a sample is
+    // laid out as C lays out its fields.
+    unsafe {
+        mt_trace_samples(
+            grid.as_ptr(),
+            grid.len(),
+            m,
+            n,
+            samples.as_ptr(),
+            samples.len(),
             points.as_mut_ptr(),
             points.len(),
             starts.as_mut_ptr(),

@@ -54,5 +54,5 @@ pub use mesh::{Mesh, Seams, Triangulation, triangulate_grid};
 pub use refusal::Refusal;
 pub use surface::Surface;
 pub use texture::{Plan, Texture};
-pub use trace::{OwnedTrace, Trace, TraceLists, trace_flat};
+pub use trace::{OwnedTrace, ParamPoint, Sample, Trace, TraceLists, trace_flat, trace_samples};
 pub use vector::Vector;

@@ -44,7 +44,7 @@ pub struct Drawn {
 }
 
 impl<'a> Lines<'a> {
-    /// The numbers of the points of a line: none where it is not there.
+    /// x, y and z of each point of a line: nothing where the line is not there.
     ///
     /// It is there if its index is below the line count, both counts fit their lists, and its start is
     /// at most its end, its end at most the point count. A line that is there may be empty.
@@ -53,10 +53,10 @@ impl<'a> Lines<'a> {
         &self.points[part.offset..part.offset + part.length]
     }
 
-    /// The numbers of the points of a line.
+    /// The number of the point at which a line starts, and of the one before which it ends.
     ///
     /// # Errors
-    /// 8 where the line is not there.
+    /// 8 where the line is not there, by the rule of [`Lines::get`].
     pub fn line_span(self, index: usize) -> Result<Range<usize>, Refusal> {
         let answer = boundary::line_span(self, index);
         Refusal::check(answer.refusal).map(|()| answer.start..answer.end)
@@ -158,6 +158,16 @@ impl<'a> IntoIterator for &'a OwnedLines {
 
     fn into_iter(self) -> LinesIter<'a> {
         self.iter()
+    }
+}
+
+/// Adds lines after those that are there.
+impl<'a> Extend<&'a [[f64; 3]]> for OwnedLines {
+    fn extend<I: IntoIterator<Item = &'a [[f64; 3]]>>(&mut self, lines: I) {
+        for line in lines {
+            self.starts.push(self.points.len());
+            self.points.extend_from_slice(line);
+        }
     }
 }
 

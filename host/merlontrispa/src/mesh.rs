@@ -35,8 +35,8 @@ pub struct Triangulation {
 /// ```
 /// let grid = [0.0, 0.0, 0.0, 0.0, 1.0, 0.0, 1.0, 0.0, 0.0, 1.0, 1.0, 5.0];
 /// let (mut triangles, mut flipped) = ([0; 6], [0; 4]);
-/// let told = merlontrispa::triangulate_grid(&grid, 1, 1, &mut triangles, &mut flipped)?;
-/// assert_eq!((told.triangles, told.flipped), (2, 0));
+/// let written = merlontrispa::triangulate_grid(&grid, 1, 1, &mut triangles, &mut flipped)?;
+/// assert_eq!((written.triangles, written.flipped), (2, 0));
 /// assert_eq!(triangles, [0, 2, 1, 2, 3, 1]);
 /// # Ok::<(), merlontrispa::Refusal>(())
 /// ```
@@ -80,17 +80,17 @@ impl Mesh {
         let (m, n) = (u_steps.min(255), v_steps.min(255));
         let mut triangles = vec![[0; 3]; 2 * m * n];
         let mut flipped = vec![[0; 2]; m + n];
-        let told = triangulate_grid(
+        let written = triangulate_grid(
             grid,
             u_steps,
             v_steps,
             triangles.as_flattened_mut(),
             flipped.as_flattened_mut(),
         )?;
-        triangles.truncate(told.triangles);
-        flipped.truncate(told.flipped);
+        triangles.truncate(written.triangles);
+        flipped.truncate(written.flipped);
         Ok(Self {
-            seams: told.seams,
+            seams: written.seams,
             triangles,
             flipped,
         })

@@ -2,6 +2,7 @@ use crate::lines::{Lines, OwnedLines, grid_paths};
 use crate::mapping::{Mapping, Seam};
 use crate::mesh::{Mesh, Seams, Triangulation, triangulate_grid};
 use crate::refusal::Refusal;
+use crate::texture::Texture;
 use crate::trace::{OwnedTrace, Trace, TraceLists, trace_flat};
 
 /// A surface sampled into a grid of points, checked once.
@@ -221,6 +222,51 @@ impl<'a> Surface<'a> {
                 }
             }
         }
+    }
+
+    /// Allocates lists and draws a texture into them: for [`Texture::Grid`] the lines of the grid, else
+    /// those of each ray, by [`Surface::trace`]. Cosine and sine are Rust's [`f64::sin_cos`]; who has
+    /// others takes [`Texture::sample_point`].
+    ///
+    /// # Errors
+    /// 5 for a twist or arms that are not allowed, 6 for more than 65,536 rays or samples per ray, 11.
+    ///
+    /// ```
+    /// use merlontrispa::{Surface, Texture};
+    ///
+    /// let grid = [0.0, 0.0, 0.0, 0.0, 1.0, 0.0, 1.0, 0.0, 0.0, 1.0, 1.0, 5.0];
+    /// let surface = Surface::new(&grid, 1, 1)?;
+    /// let lines = surface.texture_lines(Texture::Swirl { spacing: 1.0, twist: 0.0 })?;
+    /// // The first of five rays goes from the centre, which is on the diagonal, to the side u = 1.
+    /// assert_eq!(lines.iter().len(), 5);
+    /// assert_eq!(lines.iter().next(), Some(&[[0.5, 0.5, 0.0], [1.0, 0.5, 2.5]][..]));
+    /// # Ok::<(), merlontrispa::Refusal>(())
+    /// ```
+    pub fn texture_lines(self, texture: Texture) -> Result<OwnedLines, Refusal> {
+        if texture == Texture::Grid {
+            return Ok(self.grid_lines());
+        }
+        let plan = texture.plan(self.u_steps, self.v_steps)?;
+        let mut lines = OwnedLines::default();
+        for ray in 0..plan.rays {
+            let samples = (0..=plan.samples).map(|sample| self.sample(texture, ray, sample));
+            let samples: Vec<_> = samples.collect::<Result<_, _>>()?;
+            lines.extend(&self.trace(&samples)?.lines);
+        }
+        Ok(lines)
+    }
+
+    /// A sample of a ray, as [`Surface::trace`] takes it.
+    fn sample(
+        self,
+        texture: Texture,
+        ray: usize,
+        sample: usize,
+    ) -> Result<Option<[f64; 2]>, Refusal> {
+        let (m, n) = (self.u_steps, self.v_steps);
+        let (sine, cosine) = texture.angle(m, n, ray, sample)?.sin_cos();
+        let point = texture.sample_point(m, n, ray, sample, [cosine, sine])?;
+        Ok(Some(point))
     }
 }
 

@@ -3,7 +3,8 @@ use crate::refusal::Refusal;
 
 /// What is drawn on a surface of M by N cells.
 ///
-/// The cosine and the sine are the caller's, so that the answers do not rest on a mathematics library.
+/// The cosine and the sine are the caller's, so that the answers do not rest on a mathematics library;
+/// [`Surface::texture_lines`](crate::Surface::texture_lines) takes Rust's.
 ///
 /// ```
 /// use merlontrispa::Texture;

@@ -132,3 +132,77 @@ pub fn trace_flat(
 ) -> Result<Drawn, Refusal> {
     boundary::trace_flat(grid, u_steps, v_steps, pairs, marks, lists).into()
 }
+
+/// A point of the parameter plane.
+#[repr(C)]
+#[derive(Debug, Clone, Copy, PartialEq)]
+pub struct ParamPoint {
+    /// Steps along u.
+    pub u: f64,
+    /// Steps along v.
+    pub v: f64,
+}
+
+/// A sample of a curve.
+#[repr(C)]
+#[derive(Debug, Clone, Copy, PartialEq)]
+pub struct Sample {
+    /// 1 for a point, 0 for a break.
+    pub mark: u8,
+    /// The point; that of a break is not looked at.
+    pub point: ParamPoint,
+}
+
+impl Sample {
+    /// The end of a line: nothing is drawn between the samples around it.
+    pub const BREAK: Self = Self {
+        mark: 0,
+        point: ParamPoint { u: 0.0, v: 0.0 },
+    };
+
+    /// The curve goes through the point at u and v.
+    #[must_use]
+    pub const fn at(u: f64, v: f64) -> Self {
+        Self {
+            mark: 1,
+            point: ParamPoint { u, v },
+        }
+    }
+}
+
+/// What [`trace_flat`] draws of the samples' points and marks, with the same refusals.
+///
+/// The call flattens the samples into lists of its own, which take 1,114,129 bytes of the caller's stack
+/// whatever their number.
+///
+/// # Errors
+/// 1, 2 (more than 65,537 samples), 4, 9 and 10, which leave the lists as they were; 11 and 12, which
+/// leave them all zero.
+///
+/// ```
+/// use merlontrispa::{Sample, TraceLists, trace_samples};
+///
+/// let grid = [0.0, 0.0, 0.0, 0.0, 1.0, 0.0, 1.0, 0.0, 0.0, 1.0, 1.0, 5.0];
+/// let samples = [Sample::at(0.0, 0.25), Sample::at(0.75, 0.25), Sample::BREAK];
+/// let (mut points, mut starts) = ([0.0; 6], [0; 1]);
+/// let (mut sides, mut fractions) = ([0; 4], [0.0; 2]);
+/// let lists = TraceLists {
+///     points: &mut points,
+///     starts: &mut starts,
+///     sides: &mut sides,
+///     fractions: &mut fractions,
+/// };
+/// let drawn = trace_samples(&grid, 1, 1, &samples, lists)?;
+/// assert_eq!((drawn.points, drawn.lines), (2, 1));
+/// assert_eq!((sides, fractions), ([0, 1, 2, 1], [0.25, 0.25]));
+/// # Ok::<(), merlontrispa::Refusal>(())
+/// ```
+pub fn trace_samples(
+    grid: &[f64],
+    u_steps: usize,
+    v_steps: usize,
+    samples: &[Sample],
+    lists: TraceLists<'_>,
+) -> Result<Drawn, Refusal> {
+    boundary::trace_samples(grid, u_steps, v_steps, samples, lists).into()
+}

@@ -1,12 +1,17 @@
 //! What `Surface` adds to the library's calls: the same answers in types of Rust.
 
-use merlontrispa::{Drawn, Mapping, Refusal, Surface, Texture, TraceLists};
+use merlontrispa::{Drawn, Mapping, OwnedTrace, Refusal, Surface, Texture, TraceLists};
 use std::error::Error;
 
 /// The numbers of a grid whose points come from a formula.
 fn sampled(m: usize, n: usize, formula: impl Fn(usize, usize) -> [f64; 3]) -> Vec<f64> {
     let points = (0..=m).flat_map(|u| (0..=n).map(move |v| (u, v)));
     points.flat_map(|(u, v)| formula(u, v)).collect()
+}
+
+/// A flat surface with as many steps as there may be.
+fn largest() -> Vec<f64> {
+    sampled(255, 255, |u, v| [u as f64, v as f64, 0.0])
 }
 
 /// A surface of M = 5 and N = 3: its last column is its first, turned by `offset` or turned round.
@@ -45,8 +50,8 @@ fn seams_are_those_of_the_triangulation() {
 
 #[test]
 fn the_largest_surface_has_seams() {
-    let flat = sampled(255, 255, |u, v| [u as f64, v as f64, 0.0]);
-    let surface = Surface::new(&flat, 255, 255).expect("a grid");
+    let grid = largest();
+    let surface = Surface::new(&grid, 255, 255).expect("a grid");
     assert_eq!(surface.seams(), surface.triangulate().seams);
     assert_eq!(surface.triangulate().triangles.len(), 2 * 255 * 255);
     assert_eq!(surface.points()[256], [1.0, 0.0, 0.0]);
@@ -91,21 +96,38 @@ fn grid_lines_run_along_u_and_then_along_v() {
     assert_eq!(last, [0.0, 1.0, 2.0, 3.0].map(|v| [2.0, v, 0.0]));
 }
 
+/// A long line, a break and a point that makes no line.
+const SAMPLES: [Option<[f64; 2]>; 4] = [
+    Some([0.25, 0.5]),
+    Some([254.0, 253.0]),
+    None,
+    Some([1.0, 1.0]),
+];
+
 #[test]
 fn a_trace_finds_its_room() {
-    let grid = sampled(255, 255, |u, v| [u as f64, v as f64, 0.0]);
+    let grid = largest();
     let surface = Surface::new(&grid, 255, 255).expect("a grid");
-    let samples = [
-        Some([0.25, 0.5]),
-        Some([254.0, 253.0]),
-        None,
-        Some([1.0, 1.0]),
-    ];
-    let owned = surface.trace(&samples).expect("a trace");
-    let count = owned.lines.points.len();
+    let OwnedTrace {
+        lines,
+        sides,
+        fractions,
+    } = surface.trace(&SAMPLES).expect("a trace");
+    let count = lines.points.len();
     assert!(count > 700, "{count} points");
-    assert_eq!((owned.sides.len(), owned.fractions.len()), (count, count));
+    assert_eq!((sides.len(), fractions.len()), (count, count));
+    for ((point, side), t) in lines.points.iter().zip(sides).zip(fractions) {
+        let [p, q] = side.map(|number| surface.points()[number]);
+        assert_eq!(*point, [0, 1, 2].map(|i| (1.0 - t) * p[i] + t * q[i]));
+    }
+}
 
+#[test]
+fn a_trace_into_lists_that_just_hold_it_is_the_same() {
+    let grid = largest();
+    let surface = Surface::new(&grid, 255, 255).expect("a grid");
+    let owned = surface.trace(&SAMPLES).expect("a trace");
+    let count = owned.lines.points.len();
     let (mut points, mut starts) = (vec![0.0; 3 * count + 2], vec![0; 1]);
     let (mut sides, mut fractions) = (vec![0; 2 * count + 1], vec![0.0; count]);
     let mut lists = TraceLists {
@@ -125,16 +147,39 @@ fn a_trace_finds_its_room() {
         (lent.sides, lent.fractions),
         (&owned.sides[..], &owned.fractions[..])
     );
-    for ((point, side), t) in owned
-        .lines
-        .points
-        .iter()
-        .zip(&owned.sides)
-        .zip(&owned.fractions)
-    {
-        let [p, q] = side.map(|number| surface.points()[number]);
-        assert_eq!(*point, [0, 1, 2].map(|i| (1.0 - t) * p[i] + t * q[i]));
+}
+
+#[test]
+fn the_lines_of_a_texture_are_those_of_its_rays_in_turn() {
+    let (m, n) = (7, 4);
+    let grid = sampled(m, n, |u, v| [u as f64, v as f64, (u * v) as f64]);
+    let surface = Surface::new(&grid, m, n).expect("a grid");
+    let grid_lines = surface.texture_lines(Texture::Grid);
+    assert_eq!(grid_lines, Ok(surface.grid_lines()));
+
+    let (spacing, arms) = (0.7, 3);
+    let spiral = Texture::Spiral { spacing, arms };
+    let plan = spiral.plan(m, n).expect("a plan");
+    let mut rays = Vec::new();
+    for ray in 0..plan.rays {
+        let sample = |i| {
+            let angle = spiral.angle(m, n, ray, i)?;
+            spiral.sample_point(m, n, ray, i, [angle.cos(), angle.sin()])
+        };
+        let samples = (0..=plan.samples).map(|i| Some(sample(i).expect("a sample")));
+        let samples: Vec<_> = samples.collect();
+        rays.push(surface.trace(&samples).expect("a trace").lines);
     }
+    let lines = surface.texture_lines(spiral).expect("lines");
+    assert!(lines.iter().len() > plan.rays);
+    assert!(lines.iter().eq(rays.iter().flatten()));
+
+    let arms = 65;
+    let refused = surface.texture_lines(Texture::Spiral { spacing, arms });
+    assert_eq!(refused, Err(Refusal::Texture));
+    let (spacing, twist) = (1e-6, 0.0);
+    let refused = surface.texture_lines(Texture::Swirl { spacing, twist });
+    assert_eq!(refused, Err(Refusal::Count));
 }
 
 #[test]

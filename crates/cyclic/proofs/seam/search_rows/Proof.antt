@@ -1,7 +1,7 @@
 -- `cyclic::seam::search_rows` meets its contract. The outer loop's invariant: the whole search is the search of the offsets that are left, after the
--- comparisons so far. The inner loops': all points tried at an offset are the points that are left, after the comparisons so far, and k is the image of j.
+-- comparisons so far. The inner loops': all points tried at an offset are the points that are left, after one comparison for each before, and k is the image of j.
 -- At most 131,072 comparisons are made at an offset, so that their sum fits. Assumes nothing.
-use Prim.Native.Nat.{_+_, _-_}
+use Prim.Native.Nat.{_+_, _-_, _<_}
 use native.Mathlib.Omega.{arith}
 use mathlib.Core.Path.{sym, _∙_}
 use mathlib.Core.Logic.{⊎-elim}
@@ -10,24 +10,25 @@ use denote.Ref.{now}
 use Rattle.vector.specs.Vectors.{allClose}
 use Rattle.cyclic.specs.declared.mapping.CyclicMapping.the-variants.{Forward, Reverse}
 use Rattle.cyclic.specs.Search.{Row, rowOf}
-use Rattle.cyclic.proofs.Remains.{Trying, Searching, held, failed, first-point, next-point, last-point, far-point, all-offsets, one-offset, forward-fits, reverse-fits, next-offset, no-offset}
+use Rattle.cyclic.proofs.Remains.{Trying, Searching, held, failed, forward-known, reverse-known, first-point, next-point, last-point, far-point, all-offsets, one-offset, forward-fits, reverse-fits, next-offset, no-offset}
+use Rattle.cyclic.proofs.Mappings.{forward-first, reverse-first}
 use Rattle.cyclic.proofs.Rows.{inside}
 use Rattle.cyclic.proofs.seam.search_rows.Statement.{statement}
 use Rattle.cyclic.proofs.seam.search_rows.Tie as tie
 
 abbrev Inv-loop : tie.InvT-loop
-Inv-loop a a-start b b-start stride steps end comparisons₀ offset j₀ k₀ comparisons j k =
-    Trying allClose (rowOf a a-start stride) (rowOf b b-start stride) (Forward offset steps) comparisons₀ comparisons j k
+Inv-loop a a-start b b-start stride steps end comparisons offset j₀ k₀ j k =
+    Trying allClose (rowOf a a-start stride) (rowOf b b-start stride) (Forward offset steps) comparisons j k
 
 abbrev μ-loop : tie.MeasureT-loop
-μ-loop a a-start b b-start stride steps end comparisons₀ offset j₀ k₀ comparisons j k = steps - j
+μ-loop a a-start b b-start stride steps end comparisons offset j₀ k₀ j k = steps - j
 
 abbrev Inv-loop2 : tie.InvT-loop2
-Inv-loop2 a a-start b b-start stride steps end comparisons₀ offset j k j₀ k₀ comparisons j' k' =
-    Trying allClose (rowOf a a-start stride) (rowOf b b-start stride) (Reverse offset steps) comparisons₀ comparisons j' k'
+Inv-loop2 a a-start b b-start stride steps end comparisons offset j k j₀ k₀ j' k' =
+    Trying allClose (rowOf a a-start stride) (rowOf b b-start stride) (Reverse offset steps) comparisons j' k'
 
 abbrev μ-loop2 : tie.MeasureT-loop2
-μ-loop2 a a-start b b-start stride steps end comparisons₀ offset j k j₀ k₀ comparisons j' k' = steps - j'
+μ-loop2 a a-start b b-start stride steps end comparisons offset j k j₀ k₀ j' k' = steps - j'
 
 abbrev Inv-offsets : tie.InvT-offsets
 Inv-offsets a a-start b b-start stride steps end comparisons₀ offset₀ comparisons offset =
@@ -57,47 +58,52 @@ offsets-holds c =
 unjoined-requires : tie.Need-unjoined-requires Inv-loop μ-loop Inv-loop2 μ-loop2 Inv-offsets μ-offsets
 unjoined-requires c κs = search needs
 
-image-requires : tie.Need-image-requires Inv-loop μ-loop Inv-loop2 μ-loop2 Inv-offsets μ-offsets
-image-requires c κs = omega arith
+close-run-requires : tie.Need-close-run-requires Inv-loop μ-loop Inv-loop2 μ-loop2 Inv-offsets μ-offsets
+close-run-requires c κs = c .before .before .before .before .before .before .before .pre
+
+opposite-requires : tie.Need-opposite-requires Inv-loop μ-loop Inv-loop2 μ-loop2 Inv-offsets μ-offsets
+opposite-requires c κs = c .close-run .ensures .0
 
 loop-holds : tie.Need-loop-holds Inv-loop μ-loop Inv-loop2 μ-loop2 Inv-offsets μ-offsets
 loop-holds c =
-    let o = c .before .before in
+    let e = c .before in
+    let o = e .before in
     let s = o .before .before .before .before .before in
-    first-point allClose (rowA s) (rowB s) (Forward (o .offsets .offset) (s .args .steps)) (o .offsets .comparisons) (omega arith) (c .image .ensures)
+    let below : o .offsets .offset < s .args .steps = omega (arith, o .offsets .inv, e .if2 .left) in
+    ⊎-elim (λ w. rw (w .3) (forward-known allClose (rowA s) (rowB s) (o .offsets .offset) (s .args .steps) (o .offsets .comparisons) (w .1 .result) (w .0 .taken) (s .pre .steps-most, below, w .1 .ensures .0) (w .1 .ensures .1) (w .4 ∙ w .2 .ensures)))
+    (λ w. rw (w .1) (first-point allClose (rowA s) (rowB s) (Forward (o .offsets .offset) (s .args .steps)) (o .offsets .comparisons) (s .pre .steps-most, below, omega arith) (w .2 ∙ forward-first (o .offsets .offset) (s .args .steps) below (w .0 .left))))
+    (c .if3 .came)
 
-add-comparisons : tie.Need-add-comparisons Inv-loop μ-loop Inv-loop2 μ-loop2 Inv-offsets μ-offsets
-add-comparisons c = search needs
-
-mul-points-close :
-    tie.Need-mul-points-close Inv-loop μ-loop Inv-loop2 μ-loop2 Inv-offsets μ-offsets
+mul-points-close : tie.Need-mul-points-close Inv-loop μ-loop Inv-loop2 μ-loop2 Inv-offsets μ-offsets
 mul-points-close c =
     let s = c .before .before .before .before .before .before .before .before in
     omega (arith, inside (s .args .a-start) (s .args .steps) (s .args .stride) (c .loop .j) (s .pre .a-inside) (omega arith))
 
-add-points-close :
-    tie.Need-add-points-close Inv-loop μ-loop Inv-loop2 μ-loop2 Inv-offsets μ-offsets
+add-points-close : tie.Need-add-points-close Inv-loop μ-loop Inv-loop2 μ-loop2 Inv-offsets μ-offsets
 add-points-close c =
     let s = c .before .before .before .before .before .before .before .before in
     omega (arith, inside (s .args .a-start) (s .args .steps) (s .args .stride) (c .loop .j) (s .pre .a-inside) (omega arith))
 
-mul-points-close-2 :
-    tie.Need-mul-points-close-2 Inv-loop μ-loop Inv-loop2 μ-loop2 Inv-offsets μ-offsets
+mul-points-close-2 : tie.Need-mul-points-close-2 Inv-loop μ-loop Inv-loop2 μ-loop2 Inv-offsets μ-offsets
 mul-points-close-2 c =
     let s = c .before .before .before .before .before .before .before .before in
     omega (arith, inside (s .args .b-start) (s .args .steps) (s .args .stride) (c .loop .k) (s .pre .b-inside) (omega arith))
 
-add-points-close-2 :
-    tie.Need-add-points-close-2 Inv-loop μ-loop Inv-loop2 μ-loop2 Inv-offsets μ-offsets
+add-points-close-2 : tie.Need-add-points-close-2 Inv-loop μ-loop Inv-loop2 μ-loop2 Inv-offsets μ-offsets
 add-points-close-2 c =
     let s = c .before .before .before .before .before .before .before .before in
     omega (arith, inside (s .args .b-start) (s .args .steps) (s .args .stride) (c .loop .k) (s .pre .b-inside) (omega arith))
 
-points-close-requires :
-    tie.Need-points-close-requires Inv-loop μ-loop Inv-loop2 μ-loop2 Inv-offsets μ-offsets
+points-close-requires : tie.Need-points-close-requires Inv-loop μ-loop Inv-loop2 μ-loop2 Inv-offsets μ-offsets
 points-close-requires c κs =
     let s = c .before .before .before .before .before .before .before .before in
     (inside (s .args .a-start) (s .args .steps) (s .args .stride) (c .loop .j) (s .pre .a-inside) (omega arith), inside (s .args .b-start) (s .args .steps) (s .args .stride) (c .loop .k) (s .pre .b-inside) (omega arith))
+
+add-made : tie.Need-add-made Inv-loop μ-loop Inv-loop2 μ-loop2 Inv-offsets μ-offsets
+add-made c = search needs
+
+add-made-2 : tie.Need-add-made-2 Inv-loop μ-loop Inv-loop2 μ-loop2 Inv-offsets μ-offsets
+add-made-2 c = search needs
 
 joined-requires : tie.Need-joined-requires Inv-loop μ-loop Inv-loop2 μ-loop2 Inv-offsets μ-offsets
 joined-requires c κs = search needs
@@ -113,59 +119,74 @@ loop-less c = search needs
 
 loop-again : tie.Need-loop-again Inv-loop μ-loop Inv-loop2 μ-loop2 Inv-offsets μ-offsets
 loop-again c =
-    let p = c .before .before .before in
+    let h = c .before in
+    let i = h .before in
+    let p = i .before .before in
     let l = p .before in
-    let o = l .before .before .before in
+    let e = l .before .before in
+    let o = e .before in
     let s = o .before .before .before .before .before in
-    next-point allClose (rowA s) (rowB s) (Forward (o .offsets .offset) (s .args .steps)) (l .loop .comparisons) (l .loop .j) (l .loop .k) (omega arith) (c .before .if4 .left) (l .loop .inv)
-    (held (p .points-close .ensures) (c .before .before .if3 .left))
-    (c .ahead .ensures (l .loop .j) (omega arith) (l .loop .inv .mapped))
+    next-point allClose (rowA s) (rowB s) (Forward (o .offsets .offset) (s .args .steps)) (o .offsets .comparisons) (l .loop .j) (l .loop .k) (s .pre .steps-most, omega (arith, o .offsets .inv, e .if2 .left), l .loop .inv .point) (i .if5 .left) (l .loop .inv)
+    (held (p .points-close .ensures) (i .before .if4 .left))
+    (h .ahead .ensures (l .loop .j) (omega arith) (l .loop .inv .mapped))
 
-image-requires-2 :
-    tie.Need-image-requires-2 Inv-loop μ-loop Inv-loop2 μ-loop2 Inv-offsets μ-offsets
-image-requires-2 c κs = search needs
+add-comparisons : tie.Need-add-comparisons Inv-loop μ-loop Inv-loop2 μ-loop2 Inv-offsets μ-offsets
+add-comparisons c = search needs
+
+add-comparisons-2 : tie.Need-add-comparisons-2 Inv-loop μ-loop Inv-loop2 μ-loop2 Inv-offsets μ-offsets
+add-comparisons-2 c = search needs
+
+close-run-requires-2 : tie.Need-close-run-requires-2 Inv-loop μ-loop Inv-loop2 μ-loop2 Inv-offsets μ-offsets
+close-run-requires-2 c κs = c .before .before .before .before .before .before .before .before .before .before .before .before .pre
+
+opposite-requires-2 :
+    tie.Need-opposite-requires-2 Inv-loop μ-loop Inv-loop2 μ-loop2 Inv-offsets μ-offsets
+opposite-requires-2 c κs = c .close-run2 .ensures .0
 
 loop2-holds : tie.Need-loop2-holds Inv-loop μ-loop Inv-loop2 μ-loop2 Inv-offsets μ-offsets
 loop2-holds c =
-    let p = c .before .before in
+    let t = c .before .before in
+    let p = t .before in
     let l = p .before in
-    let o = l .before .before .before in
+    let e = l .before .before in
+    let o = e .before in
     let s = o .before .before .before .before .before in
-    first-point allClose (rowA s) (rowB s) (Reverse (o .offsets .offset) (s .args .steps)) (l .loop .comparisons + 1) (omega arith) (c .image2 .ensures)
+    let below : o .offsets .offset < s .args .steps = omega (arith, o .offsets .inv, e .if2 .left) in
+    let made = o .offsets .comparisons + (l .loop .j + 1) in
+    ⊎-elim (λ w. rw (w .3) (reverse-known allClose (rowA s) (rowB s) (o .offsets .offset) (s .args .steps) made (w .1 .result) (w .0 .taken) (s .pre .steps-most, below, w .1 .ensures .0) (w .1 .ensures .1) (w .4 ∙ w .2 .ensures)))
+    (λ w. rw (w .1) (first-point allClose (rowA s) (rowB s) (Reverse (o .offsets .offset) (s .args .steps)) made (s .pre .steps-most, below, omega arith) (w .2 ∙ reverse-first (o .offsets .offset) (s .args .steps) below (w .0 .left))))
+    (c .if6 .came)
 
-add-comparisons-2 :
-    tie.Need-add-comparisons-2 Inv-loop μ-loop Inv-loop2 μ-loop2 Inv-offsets μ-offsets
-add-comparisons-2 c = search needs
-
-mul-points-close-3 :
-    tie.Need-mul-points-close-3 Inv-loop μ-loop Inv-loop2 μ-loop2 Inv-offsets μ-offsets
+mul-points-close-3 : tie.Need-mul-points-close-3 Inv-loop μ-loop Inv-loop2 μ-loop2 Inv-offsets μ-offsets
 mul-points-close-3 c =
-    let s = c .before .before .before .before .before .before .before .before .before .before .before .before in
+    let s = c .before .before .before .before .before .before .before .before .before .before .before .before .before in
     omega (arith, inside (s .args .a-start) (s .args .steps) (s .args .stride) (c .loop2 .j) (s .pre .a-inside) (omega arith))
 
-add-points-close-3 :
-    tie.Need-add-points-close-3 Inv-loop μ-loop Inv-loop2 μ-loop2 Inv-offsets μ-offsets
+add-points-close-3 : tie.Need-add-points-close-3 Inv-loop μ-loop Inv-loop2 μ-loop2 Inv-offsets μ-offsets
 add-points-close-3 c =
-    let s = c .before .before .before .before .before .before .before .before .before .before .before .before in
+    let s = c .before .before .before .before .before .before .before .before .before .before .before .before .before in
     omega (arith, inside (s .args .a-start) (s .args .steps) (s .args .stride) (c .loop2 .j) (s .pre .a-inside) (omega arith))
 
-mul-points-close-4 :
-    tie.Need-mul-points-close-4 Inv-loop μ-loop Inv-loop2 μ-loop2 Inv-offsets μ-offsets
+mul-points-close-4 : tie.Need-mul-points-close-4 Inv-loop μ-loop Inv-loop2 μ-loop2 Inv-offsets μ-offsets
 mul-points-close-4 c =
-    let s = c .before .before .before .before .before .before .before .before .before .before .before .before in
+    let s = c .before .before .before .before .before .before .before .before .before .before .before .before .before in
     omega (arith, inside (s .args .b-start) (s .args .steps) (s .args .stride) (c .loop2 .k) (s .pre .b-inside) (omega arith))
 
-add-points-close-4 :
-    tie.Need-add-points-close-4 Inv-loop μ-loop Inv-loop2 μ-loop2 Inv-offsets μ-offsets
+add-points-close-4 : tie.Need-add-points-close-4 Inv-loop μ-loop Inv-loop2 μ-loop2 Inv-offsets μ-offsets
 add-points-close-4 c =
-    let s = c .before .before .before .before .before .before .before .before .before .before .before .before in
+    let s = c .before .before .before .before .before .before .before .before .before .before .before .before .before in
     omega (arith, inside (s .args .b-start) (s .args .steps) (s .args .stride) (c .loop2 .k) (s .pre .b-inside) (omega arith))
 
-points-close-requires-2 :
-    tie.Need-points-close-requires-2 Inv-loop μ-loop Inv-loop2 μ-loop2 Inv-offsets μ-offsets
+points-close-requires-2 : tie.Need-points-close-requires-2 Inv-loop μ-loop Inv-loop2 μ-loop2 Inv-offsets μ-offsets
 points-close-requires-2 c κs =
-    let s = c .before .before .before .before .before .before .before .before .before .before .before .before in
+    let s = c .before .before .before .before .before .before .before .before .before .before .before .before .before in
     (inside (s .args .a-start) (s .args .steps) (s .args .stride) (c .loop2 .j) (s .pre .a-inside) (omega arith), inside (s .args .b-start) (s .args .steps) (s .args .stride) (c .loop2 .k) (s .pre .b-inside) (omega arith))
+
+add-made-3 : tie.Need-add-made-3 Inv-loop μ-loop Inv-loop2 μ-loop2 Inv-offsets μ-offsets
+add-made-3 c = search needs
+
+add-made-4 : tie.Need-add-made-4 Inv-loop μ-loop Inv-loop2 μ-loop2 Inv-offsets μ-offsets
+add-made-4 c = search needs
 
 joined-requires-2 : tie.Need-joined-requires-2 Inv-loop μ-loop Inv-loop2 μ-loop2 Inv-offsets μ-offsets
 joined-requires-2 c κs = search needs
@@ -181,14 +202,25 @@ loop2-less c = search needs
 
 loop2-again : tie.Need-loop2-again Inv-loop μ-loop Inv-loop2 μ-loop2 Inv-offsets μ-offsets
 loop2-again c =
-    let p = c .before .before .before in
+    let h = c .before in
+    let i = h .before in
+    let q = i .before .before in
+    let r = q .before in
+    let t = r .before .before .before in
+    let p = t .before in
     let l = p .before in
-    let e = l .before .before .before .before .before .before in
+    let e = l .before .before in
     let o = e .before in
     let s = o .before .before .before .before .before in
-    next-point allClose (rowA s) (rowB s) (Reverse (o .offsets .offset) (s .args .steps)) (l .loop2 .comparisons) (l .loop2 .j) (l .loop2 .k) (s .pre .steps-most, omega (arith, o .offsets .inv, e .if2 .left), l .loop2 .inv .point) (c .before .if6 .left) (l .loop2 .inv)
-    (held (p .points-close2 .ensures) (c .before .before .if5 .left))
-    (c .back .ensures (l .loop2 .j) (omega arith) (l .loop2 .inv .mapped))
+    next-point allClose (rowA s) (rowB s) (Reverse (o .offsets .offset) (s .args .steps)) (o .offsets .comparisons + (l .loop .j + 1)) (r .loop2 .j) (r .loop2 .k) (s .pre .steps-most, omega (arith, o .offsets .inv, e .if2 .left), r .loop2 .inv .point) (i .if8 .left) (r .loop2 .inv)
+    (held (q .points-close2 .ensures) (i .before .if7 .left))
+    (h .back .ensures (r .loop2 .j) (omega arith) (r .loop2 .inv .mapped))
+
+add-comparisons-3 : tie.Need-add-comparisons-3 Inv-loop μ-loop Inv-loop2 μ-loop2 Inv-offsets μ-offsets
+add-comparisons-3 c = search needs
+
+add-comparisons-4 : tie.Need-add-comparisons-4 Inv-loop μ-loop Inv-loop2 μ-loop2 Inv-offsets μ-offsets
+add-comparisons-4 c = search needs
 
 add-offset : tie.Need-add-offset Inv-loop μ-loop Inv-loop2 μ-loop2 Inv-offsets μ-offsets
 add-offset c = search needs
@@ -198,17 +230,17 @@ offsets-less c = search needs
 
 offsets-again : tie.Need-offsets-again Inv-loop μ-loop Inv-loop2 μ-loop2 Inv-offsets μ-offsets
 offsets-again c =
-    let q = c .before in
+    let q = c .before .before in
     let r = q .before in
-    let t = r .before .before in
+    let t = r .before .before .before in
     let p = t .before in
     let l = p .before in
     let e = l .before .before in
     let o = e .before in
     let s = o .before .before .before .before .before in
-    next-offset allClose (rowA s) (rowB s) (s .args .steps) (o .before .if1 .end) (o .offsets .offset) (o .offsets .comparisons) (e .if2 .left) (o .offsets .inv) (omega arith)
-    (far-point allClose (rowA s) (rowB s) (Forward (o .offsets .offset) (s .args .steps)) (l .loop .comparisons) (l .loop .j) (l .loop .k) (l .loop .inv) (failed (p .points-close .ensures) (t .if3 .taken)))
-    (far-point allClose (rowA s) (rowB s) (Reverse (o .offsets .offset) (s .args .steps)) (r .loop2 .comparisons) (r .loop2 .j) (r .loop2 .k) (r .loop2 .inv) (failed (q .points-close2 .ensures) (c .if5 .taken)))
+    next-offset allClose (rowA s) (rowB s) (s .args .steps) (o .before .if1 .end) (o .offsets .offset) (o .offsets .comparisons) (e .if2 .left) (o .offsets .inv) (omega (arith, s .pre .steps-most, l .loop .inv .point, r .loop2 .inv .point))
+    (far-point allClose (rowA s) (rowB s) (Forward (o .offsets .offset) (s .args .steps)) (o .offsets .comparisons) (l .loop .j) (l .loop .k) (l .loop .inv) (failed (p .points-close .ensures) (t .if4 .taken)))
+    (far-point allClose (rowA s) (rowB s) (Reverse (o .offsets .offset) (s .args .steps)) (o .offsets .comparisons + (l .loop .j + 1)) (r .loop2 .j) (r .loop2 .k) (r .loop2 .inv) (failed (q .points-close2 .ensures) (c .before .if7 .taken)))
 
 returns : tie.Need-returns Inv-loop μ-loop Inv-loop2 μ-loop2 Inv-offsets μ-offsets
 returns c =
@@ -220,23 +252,22 @@ returns c =
 
 returns-2 : tie.Need-returns-2 Inv-loop μ-loop Inv-loop2 μ-loop2 Inv-offsets μ-offsets
 returns-2 c =
-    let i = c .before in
+    let i = c .before .before in
     let p = i .before .before in
     let l = p .before in
     let e = l .before .before in
     let o = e .before in
     let s = o .before .before .before .before .before in
-    let m = Forward (o .offsets .offset) (s .args .steps) in
     c .joined .ensures
     ∙ sym (forward-fits allClose (rowA s) (rowB s) (s .args .steps) (o .before .if1 .end) (o .offsets .offset) (o .offsets .comparisons) (e .if2 .left) (o .offsets .inv)
-    (last-point allClose (rowA s) (rowB s) m (l .loop .comparisons) (l .loop .j) (l .loop .k) (i .if4 .taken) (l .loop .inv) (held (p .points-close .ensures) (i .before .if3 .left))))
+    (last-point allClose (rowA s) (rowB s) (Forward (o .offsets .offset) (s .args .steps)) (o .offsets .comparisons) (l .loop .j) (l .loop .k) (i .if5 .taken) (l .loop .inv) (held (p .points-close .ensures) (i .before .if4 .left))))
 
 returns-3 : tie.Need-returns-3 Inv-loop μ-loop Inv-loop2 μ-loop2 Inv-offsets μ-offsets
 returns-3 c =
-    let i = c .before in
+    let i = c .before .before in
     let q = i .before .before in
     let r = q .before in
-    let t = r .before .before in
+    let t = r .before .before .before in
     let p = t .before in
     let l = p .before in
     let e = l .before .before in
@@ -244,8 +275,8 @@ returns-3 c =
     let s = o .before .before .before .before .before in
     c .joined2 .ensures
     ∙ sym (reverse-fits allClose (rowA s) (rowB s) (s .args .steps) (o .before .if1 .end) (o .offsets .offset) (o .offsets .comparisons) (e .if2 .left) (o .offsets .inv)
-    (far-point allClose (rowA s) (rowB s) (Forward (o .offsets .offset) (s .args .steps)) (l .loop .comparisons) (l .loop .j) (l .loop .k) (l .loop .inv) (failed (p .points-close .ensures) (t .if3 .taken)))
-    (last-point allClose (rowA s) (rowB s) (Reverse (o .offsets .offset) (s .args .steps)) (r .loop2 .comparisons) (r .loop2 .j) (r .loop2 .k) (i .if6 .taken) (r .loop2 .inv) (held (q .points-close2 .ensures) (i .before .if5 .left))))
+    (far-point allClose (rowA s) (rowB s) (Forward (o .offsets .offset) (s .args .steps)) (o .offsets .comparisons) (l .loop .j) (l .loop .k) (l .loop .inv) (failed (p .points-close .ensures) (t .if4 .taken)))
+    (last-point allClose (rowA s) (rowB s) (Reverse (o .offsets .offset) (s .args .steps)) (o .offsets .comparisons + (l .loop .j + 1)) (r .loop2 .j) (r .loop2 .k) (i .if8 .taken) (r .loop2 .inv) (held (q .points-close2 .ensures) (i .before .if7 .left))))
 
 pub search-rows-spec : {M : Type 1} → statement M
 search-rows-spec =
@@ -260,32 +291,40 @@ search-rows-spec =
     rows-closed-requires
     offsets-holds
     unjoined-requires
-    image-requires
+    close-run-requires
+    opposite-requires
     loop-holds
-    add-comparisons
     mul-points-close
     add-points-close
     mul-points-close-2
     add-points-close-2
     points-close-requires
+    add-made
+    add-made-2
     joined-requires
     ahead-requires
     add-j
     loop-less
     loop-again
-    image-requires-2
-    loop2-holds
+    add-comparisons
     add-comparisons-2
+    close-run-requires-2
+    opposite-requires-2
+    loop2-holds
     mul-points-close-3
     add-points-close-3
     mul-points-close-4
     add-points-close-4
     points-close-requires-2
+    add-made-3
+    add-made-4
     joined-requires-2
     back-requires
     add-j-2
     loop2-less
     loop2-again
+    add-comparisons-3
+    add-comparisons-4
     add-offset
     offsets-less
     offsets-again

@@ -3,7 +3,7 @@ use Prim.Native.Nat.{_+_, _*_, _≤_}
 use native.Mathlib.Omega.{arith}
 use Rattle.mesh.specs.Corners.{shapeOf}
 use Rattle.mesh.proofs.Cells.{cell-below}
-use Rattle.mesh.proofs.Numbers.{number-most, plus-most, cells-most, cell-counted}
+use Rattle.mesh.proofs.Numbers.{number-most, one-more-most, cells-most, cell-counted}
 use borrow.Author.Needs.{needs}
 use Rattle.mesh.proofs.flipped.count_cell.Statement.{statement}
 use Rattle.mesh.proofs.flipped.count_cell.Tie as tie
@@ -21,23 +21,23 @@ bound t =
 first-differs-requires : tie.Need-first-differs-requires
 first-differs-requires c κs = search needs
 
-plus-requires : tie.Need-plus-requires
-plus-requires c κs = omega (arith, bound (c .before))
+one-more-requires : tie.Need-one-more-requires
+one-more-requires c κs = omega (arith, bound (c .before))
 
 second-differs-requires : tie.Need-second-differs-requires
 second-differs-requires c κs = search needs
 
-plus-requires-2 : tie.Need-plus-requires-2
-plus-requires-2 c κs = omega (arith, c .before .plus .ensures, plus-most (c .before .before .before .args .count) (c .before .before .first-differs .result), bound (c .before .before .before))
+one-more-requires-2 : tie.Need-one-more-requires-2
+one-more-requires-2 c κs = omega (arith, c .before .one-more .ensures, one-more-most (c .before .before .before .args .count) (c .before .before .first-differs .result), bound (c .before .before .before))
 
 returns : tie.Need-returns
 returns c =
-    let g = c .before .before .plus in
+    let g = c .before .before .one-more in
     let t = c .before .before .before .before in
     let a = t .args in
-    cell-counted (shapeOf (a .surface)) (a .surface .n) (a .u) (a .v) (t .pre .1) (c .before .before .before .first-differs .ensures) (g .ensures) (c .before .second-differs .ensures) (c .plus2 .ensures)
+    cell-counted (shapeOf (a .surface)) (a .surface .n) (a .u) (a .v) (t .pre .1) (c .before .before .before .first-differs .ensures) (g .ensures) (c .before .second-differs .ensures) (c .one-more2 .ensures)
 
 pub count-cell-spec : {M : Type 1} → statement M
 count-cell-spec =
     tie.close
-    (tie.spec first-differs-requires plus-requires second-differs-requires plus-requires-2 returns)
+    (tie.spec first-differs-requires one-more-requires second-differs-requires one-more-requires-2 returns)

@@ -3,7 +3,7 @@ use Prim.Native.Nat.{ℕ, _+_, _-_, _*_, _≤_}
 use mathlib.Core.Path.{_≡_, refl, ap, _∙_}
 use native.Mathlib.Omega.{arith}
 use lib.ListN.{length, getD, length-set}
-use Rattle.surface.specs.Surface.{numberOf}
+use Rattle.surface.specs.Surface.{triangleNumber}
 use Rattle.mesh.specs.Corners.{shapeOf}
 use Rattle.mesh.proofs.Cells.{value-first, values-more}
 use Rattle.mesh.proofs.flipped.count_row.Statement.{statement}
@@ -12,9 +12,9 @@ use Rattle.mesh.proofs.flipped.count_row.Tie as tie
 abbrev Inv-loop : tie.InvT-loop
 Inv-loop surface u start counts₀ n count₀ v₀ counts count v =
     (v ≤ surface .n)
-    × (count ≡ numberOf (shapeOf surface) (2 * (u * surface .n + v)))
+    × (count ≡ triangleNumber (shapeOf surface) (2 * (u * surface .n + v)))
     × (length counts ≡ length counts₀)
-    × ((i : ℕ) → i ≤ v → getD counts i 0 ≡ numberOf (shapeOf surface) (2 * (u * surface .n + i)))
+    × ((i : ℕ) → i ≤ v → getD counts i 0 ≡ triangleNumber (shapeOf surface) (2 * (u * surface .n + i)))
 
 abbrev μ-loop : tie.MeasureT-loop
 μ-loop surface u start counts₀ n count₀ v₀ counts count v = surface .n - v
@@ -28,8 +28,8 @@ loop-holds c =
     let a = t .args in
     let s = shapeOf (a .surface) in
     let e : 2 * (a .u * a .surface .n) ≡ 2 * (a .u * a .surface .n + 0) = omega arith in
-    let z = t .pre .1 ∙ ap (numberOf s) e in
-    (omega arith, z, refl, value-first (λ (i : ℕ). numberOf s (2 * (a .u * a .surface .n + i))) (a .counts .now) (a .start) (omega arith) z)
+    let z = t .pre .1 ∙ ap (triangleNumber s) e in
+    (omega arith, z, refl, value-first (λ (i : ℕ). triangleNumber s (2 * (a .u * a .surface .n + i))) (a .counts .now) (a .start) (omega arith) z)
 
 count-cell-requires : tie.Need-count-cell-requires Inv-loop μ-loop
 count-cell-requires c κs =
@@ -59,7 +59,7 @@ loop-again c =
       omega arith,
       c .count-cell .ensures,
       length-set (w .counts) (w .v + 1) (c .count-cell .result) ∙ w .inv .2,
-      values-more (λ (i : ℕ). numberOf s (2 * (a .u * a .surface .n + i))) (w .counts) (w .v) (c .count-cell .result)
+      values-more (λ (i : ℕ). triangleNumber s (2 * (a .u * a .surface .n + i))) (w .counts) (w .v) (c .count-cell .result)
           (omega (arith, length-set (a .counts .now) 0 (a .start)))
           (w .inv .3)
           (c .count-cell .ensures),

@@ -2,8 +2,7 @@
 use mathlib.Core.Path.{ap, sym, _∙_}
 use Rattle.surface.specs.Surface.{Triangle, proper}
 use Rattle.mesh.specs.declared.corner.Cell.{Cell}
-use Rattle.mesh.specs.Corners.{firstOf}
-use Rattle.mesh.proofs.Cells.{slot-first}
+use Rattle.mesh.proofs.Cells.{firstOf, slot-first}
 use borrow.Author.Needs.{needs}
 use Rattle.mesh.proofs.flipped.first_differs.Statement.{statement}
 use Rattle.mesh.proofs.flipped.first_differs.Tie as tie

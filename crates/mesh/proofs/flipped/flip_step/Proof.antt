@@ -6,7 +6,7 @@ use lib.ListN.{getD}
 use borrow.Author.Needs.{needs}
 use borrow.Author.Tests.{not-true, not-false}
 use Rattle.cyclic.specs.declared.seam.Seam.the-variants.{Joined}
-use Rattle.surface.specs.Surface.{Pair, insert, ordered, numberOf, stepOn}
+use Rattle.surface.specs.Surface.{Pair, insert, ordered, triangleNumber, stepOn}
 use Rattle.surface.specs.Found.{ofMapping}
 use Rattle.mesh.specs.Corners.{shapeOf, Maps}
 use Rattle.mesh.specs.Held.{pairsIn}
@@ -25,10 +25,10 @@ on-there : (e : tie.Else1) → e .before .step-on .result < stepsOf (e .before .
 on-there e = omega (arith, e .if1 .left, e .before .before .rim-steps .ensures)
 
 -- where both triangles are there, their numbers
-low-number : (e : tie.Else2) → getD (e .before .before .before .before .before .before .before .before .before .args .low .now) (e .before .before .before .before .step-on .result) 0 ≡ numberOf (shapeOf (e .before .before .before .before .before .before .before .before .before .args .surface)) (lowOf (e .before .before .before .before .before .before .before .before .before .args .axis) (shapeOf (e .before .before .before .before .before .before .before .before .before .args .surface)) (e .before .before .before .before .step-on .result))
+low-number : (e : tie.Else2) → getD (e .before .before .before .before .before .before .before .before .before .args .low .now) (e .before .before .before .before .step-on .result) 0 ≡ triangleNumber (shapeOf (e .before .before .before .before .before .before .before .before .before .args .surface)) (lowOf (e .before .before .before .before .before .before .before .before .before .args .axis) (shapeOf (e .before .before .before .before .before .before .before .before .before .args .surface)) (e .before .before .before .before .step-on .result))
 low-number e = e .before .before .before .before .before .before .before .before .before .pre .1 .0 .before (e .before .before .before .before .step-on .result) (on-there (e .before .before .before))
 
-high-number : (e : tie.Else2) → getD (e .before .before .before .before .before .before .before .before .before .args .high .now) (e .before .before .before .before .before .before .before .before .before .args .i + 1) 0 ≡ numberOf (shapeOf (e .before .before .before .before .before .before .before .before .before .args .surface)) (highOf (e .before .before .before .before .before .before .before .before .before .args .axis) (shapeOf (e .before .before .before .before .before .before .before .before .before .args .surface)) (e .before .before .before .before .before .before .before .before .before .args .i)) + 1
+high-number : (e : tie.Else2) → getD (e .before .before .before .before .before .before .before .before .before .args .high .now) (e .before .before .before .before .before .before .before .before .before .args .i + 1) 0 ≡ triangleNumber (shapeOf (e .before .before .before .before .before .before .before .before .before .args .surface)) (highOf (e .before .before .before .before .before .before .before .before .before .args .axis) (shapeOf (e .before .before .before .before .before .before .before .before .before .args .surface)) (e .before .before .before .before .before .before .before .before .before .args .i)) + 1
 high-number e =
     let t = e .before .before .before .before .before .before .before .before .before in
     let a = t .args in
@@ -44,9 +44,9 @@ put e =
     let s = shapeOf (a .surface) in
     let on = e .before .before .before .before .step-on .result in
     let ps = pairsIn (a .count) (a .flipped .now) in
-    let y : getD (a .high .now) (a .i + 1) 0 - 1 ≡ numberOf s (highOf (a .axis) s (a .i)) = omega (arith, high-number e) in
+    let y : getD (a .high .now) (a .i + 1) 0 - 1 ≡ triangleNumber s (highOf (a .axis) s (a .i)) = omega (arith, high-number e) in
     ap (λ (k : ℕ). insert (ordered k (getD (a .high .now) (a .i + 1) 0 - 1)) ps) (low-number e)
-    ∙ ap (λ (k : ℕ). insert (ordered (numberOf s (lowOf (a .axis) s on)) k) ps) y
+    ∙ ap (λ (k : ℕ). insert (ordered (triangleNumber s (lowOf (a .axis) s on)) k) ps) y
     ∙ put-both (a .axis) s (ofMapping (a .mapping)) (a .i) ps (on-is (e .before .before .before .before)) (on-there (e .before .before .before)) (e .before .before .low-differs .ensures) (e .before .high-differs .ensures) (not-false _ (e .if2 .left))
 
 rim-steps-requires : tie.Need-rim-steps-requires

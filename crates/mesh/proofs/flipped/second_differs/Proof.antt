@@ -2,8 +2,7 @@
 use mathlib.Core.Path.{ap, sym, _∙_}
 use Rattle.surface.specs.Surface.{Triangle, proper}
 use Rattle.mesh.specs.declared.corner.Cell.{Cell}
-use Rattle.mesh.specs.Corners.{secondOf}
-use Rattle.mesh.proofs.Cells.{slot-second}
+use Rattle.mesh.proofs.Cells.{secondOf, slot-second}
 use borrow.Author.Needs.{needs}
 use Rattle.mesh.proofs.flipped.second_differs.Statement.{statement}
 use Rattle.mesh.proofs.flipped.second_differs.Tie as tie

@@ -3,7 +3,7 @@ use Prim.Native.Nat.{ℕ, _+_, _-_, _*_, _≤_}
 use mathlib.Core.Path.{_≡_, refl, ap, _∙_}
 use native.Mathlib.Omega.{arith}
 use lib.ListN.{length, getD, length-set}
-use Rattle.surface.specs.Surface.{kept, numberOf}
+use Rattle.surface.specs.Surface.{kept, triangleNumber}
 use Rattle.mesh.specs.Corners.{shapeOf}
 use Rattle.mesh.specs.Held.{trianglesIn}
 use Rattle.mesh.proofs.Cells.{none-held, value-first, held-count, values-more}
@@ -16,7 +16,7 @@ Inv-loop surface triangles₀ starts₀ m count₀ u₀ triangles starts count u
     × (trianglesIn count triangles ≡ kept (shapeOf surface) (2 * (u * surface .n)))
     × (length triangles ≡ length triangles₀)
     × (length starts ≡ length starts₀)
-    × ((i : ℕ) → i ≤ u → getD starts i 0 ≡ numberOf (shapeOf surface) (2 * (i * surface .n)))
+    × ((i : ℕ) → i ≤ u → getD starts i 0 ≡ triangleNumber (shapeOf surface) (2 * (i * surface .n)))
 
 abbrev μ-loop : tie.MeasureT-loop
 μ-loop surface triangles₀ starts₀ m count₀ u₀ triangles starts count u = surface .m - u
@@ -30,7 +30,7 @@ loop-holds c =
     let a = t .args in
     let s = shapeOf (a .surface) in
     let none = none-held s (a .surface .n) (a .triangles .now) in
-    (omega arith, none, refl, refl, value-first (λ (i : ℕ). numberOf s (2 * (i * a .surface .n))) (a .starts .now) 0 (omega arith) (held-count s (2 * (0 * a .surface .n)) 0 (a .triangles .now) none))
+    (omega arith, none, refl, refl, value-first (λ (i : ℕ). triangleNumber s (2 * (i * a .surface .n))) (a .starts .now) 0 (omega arith) (held-count s (2 * (0 * a .surface .n)) 0 (a .triangles .now) none))
 
 build-row-requires : tie.Need-build-row-requires Inv-loop μ-loop
 build-row-requires c κs =
@@ -62,7 +62,7 @@ loop-again c =
       b .ensures,
       omega (arith, b .kept .1 .1 .0),
       length-set (w .starts) (w .u + 1) (b .result) ∙ w .inv .3,
-      values-more (λ (i : ℕ). numberOf s (2 * (i * a .surface .n))) (w .starts) (w .u) (b .result)
+      values-more (λ (i : ℕ). triangleNumber s (2 * (i * a .surface .n))) (w .starts) (w .u) (b .result)
           (omega (arith, length-set (a .starts .now) 0 0))
           (w .inv .4)
           (held-count s (2 * ((w .u + 1) * a .surface .n)) (b .result) (b .last .1 .1 .0) (b .ensures)),

@@ -1,5 +1,5 @@
 -- `texture::plan::radial_sample_count` meets its contract: the operations are the definition's. Assumes nothing.
-use Rattle.texture.specs.Plan.{swirlSamples}
+use Rattle.texture.specs.Plan.{radialSampleCount}
 use Rattle.float.specs.Consts.{tau}
 use borrow.Author.Needs.{needs}
 use Rattle.texture.proofs.plan.radial_sample_count.Statement.{statement}
@@ -15,7 +15,7 @@ steps-along-requires : tie.Need-steps-along-requires
 steps-along-requires c κs = search needs
 
 returns : tie.Need-returns
-unfolding swirlSamples tau
+unfolding radialSampleCount tau
 returns c = cc
 
 pub radial-sample-count-spec : {M : Type 1} → statement M

@@ -1,5 +1,5 @@
 -- `texture::plan::spiral_sample_count` meets its contract: the operations are the definition's. Assumes nothing.
-use Rattle.texture.specs.Plan.{spiralSamples}
+use Rattle.texture.specs.Plan.{spiralSampleCount}
 use Rattle.float.specs.Consts.{tau}
 use borrow.Author.Needs.{needs}
 use Rattle.texture.proofs.plan.spiral_sample_count.Statement.{statement}
@@ -15,7 +15,7 @@ steps-along-requires : tie.Need-steps-along-requires
 steps-along-requires c κs = search needs
 
 returns : tie.Need-returns
-unfolding spiralSamples tau
+unfolding spiralSampleCount tau
 returns c = cc
 
 pub spiral-sample-count-spec : {M : Type 1} → statement M

@@ -1,5 +1,5 @@
 -- `texture::plan::texture_radius` meets its contract: the operations are the definition's. Assumes nothing.
-use Rattle.texture.specs.Plan.{radius}
+use Rattle.texture.specs.Plan.{textureRadius}
 use Rattle.float.specs.Consts.{sqrt2}
 use borrow.Author.Needs.{needs}
 use Rattle.texture.proofs.plan.texture_radius.Statement.{statement}
@@ -15,7 +15,7 @@ max-requires : tie.Need-max-requires
 max-requires c κs = search needs
 
 returns : tie.Need-returns
-unfolding radius sqrt2
+unfolding textureRadius sqrt2
 returns c = cc
 
 pub texture-radius-spec : {M : Type 1} → statement M

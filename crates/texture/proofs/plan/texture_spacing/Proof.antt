@@ -1,5 +1,5 @@
 -- `texture::plan::texture_spacing` meets its contract: the test is the definition's. Assumes nothing.
-use Rattle.texture.specs.Plan.{spacingOf}
+use Rattle.texture.specs.Plan.{textureSpacing}
 use Rattle.float.specs.Consts.{eps}
 use borrow.Author.Needs.{needs}
 use Rattle.texture.proofs.plan.texture_spacing.Statement.{statement}
@@ -9,11 +9,11 @@ is-finite-requires : tie.Need-is-finite-requires
 is-finite-requires c κs = search needs
 
 returns : tie.Need-returns
-unfolding spacingOf eps
+unfolding textureSpacing eps
 returns c = simp (← c .before .is-finite .ensures, c .if1 .taken)
 
 returns-2 : tie.Need-returns-2
-unfolding spacingOf eps
+unfolding textureSpacing eps
 returns-2 c = simp (← c .before .is-finite .ensures, c .if1 .left)
 
 pub texture-spacing-spec : {M : Type 1} → statement M

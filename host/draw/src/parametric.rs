@@ -1,11 +1,15 @@
 //! Surfaces: a formula, the ranges that u and v run through, and the grid of points that is taken of them.
 
 use crate::formula::Formula;
+use merlontrispa::float;
 use std::f64::consts::{PI, TAU};
+
+/// The largest magnitude of a coordinate that the library takes: beyond it is refusal 4.
+const LARGEST: f64 = (1_u64 << 40) as f64;
 
 /// A surface and how many steps show it well.
 #[derive(Debug, Clone, PartialEq)]
-pub struct Surface {
+pub struct ParametricSurface {
     pub name: &'static str,
     pub formula: Formula,
     pub u: [f64; 2],
@@ -26,7 +30,7 @@ pub const NAMES: [&str; 9] = [
     "klein-eight",
 ];
 
-impl Surface {
+impl ParametricSurface {
     /// A surface of the user's own: u and v run through a whole turn.
     pub fn own(formula: Formula) -> Self {
         Self {
@@ -62,37 +66,33 @@ impl Surface {
         })
     }
 
-    /// The points at so many steps.
-    pub fn grid(&self, [u_steps, v_steps]: [usize; 2]) -> Grid {
+    /// u and v of each point of a grid with so many steps, in the order of the points' numbers.
+    fn parameters(&self, [u_steps, v_steps]: [usize; 2]) -> impl Iterator<Item = [f64; 2]> {
         let step = |[from, to]: [f64; 2], i: usize, steps: usize| {
             from + i as f64 * ((to - from) / steps as f64)
         };
-        let mut numbers = Vec::with_capacity(3 * (u_steps + 1) * (v_steps + 1));
-        for i in 0..=u_steps {
-            for j in 0..=v_steps {
-                let (u, v) = (step(self.u, i, u_steps), step(self.v, j, v_steps));
-                numbers.extend(self.formula.at(u, v));
-            }
-        }
-        Grid {
-            numbers,
-            u_steps,
-            v_steps,
-        }
+        let column = move |i| {
+            let u = step(self.u, i, u_steps);
+            (0..=v_steps).map(move |j| [u, step(self.v, j, v_steps)])
+        };
+        (0..=u_steps).flat_map(column)
     }
-}
 
-/// The points of a surface as the library takes them.
-#[derive(Debug, Clone, PartialEq)]
-pub struct Grid {
-    pub numbers: Vec<f64>,
-    pub u_steps: usize,
-    pub v_steps: usize,
-}
+    /// The grid with so many steps, as the library takes it: x, y and z of each point.
+    pub fn grid(&self, steps: [usize; 2]) -> Vec<f64> {
+        let points = self
+            .parameters(steps)
+            .flat_map(|[u, v]| self.formula.at(u, v));
+        points.collect()
+    }
 
-impl Grid {
-    pub fn points(&self) -> &[[f64; 3]] {
-        self.numbers.as_chunks().0
+    /// Which coordinate of a grid is the first that is not finite or too large for the library, and where.
+    pub fn first_refused(&self, steps: [usize; 2]) -> Option<String> {
+        self.parameters(steps).find_map(|[u, v]| {
+            let mut coordinates = std::iter::zip(["x", "y", "z"], self.formula.at(u, v));
+            let (name, value) = coordinates.find(|(_, value)| !float::at_most(*value, LARGEST))?;
+            Some(format!("{name} = {value:?} at u = {u:?}, v = {v:?}"))
+        })
     }
 }
 
@@ -139,12 +139,12 @@ const KLEIN_EIGHT: &str = "
 #[cfg(test)]
 mod tests {
     use super::*;
-    use merlontrispa::{Mapping, Mesh};
+    use merlontrispa::{Mapping, Refusal, Surface};
 
     /// The seams of a named surface, and the count of its flipped pairs.
-    fn seams(name: &str, steps: [usize; 2]) -> (Option<Mapping>, Option<Mapping>, usize) {
-        let grid = Surface::named(name).expect("a name").grid(steps);
-        let mesh = Mesh::from_grid(&grid.numbers, steps[0], steps[1]).expect("a mesh");
+    fn seams(name: &str, [m, n]: [usize; 2]) -> (Option<Mapping>, Option<Mapping>, usize) {
+        let grid = ParametricSurface::named(name).expect("a name").grid([m, n]);
+        let mesh = Surface::new(&grid, m, n).expect("a surface").triangulate();
         (
             mesh.seams.u.mapping,
             mesh.seams.v.mapping,
@@ -188,12 +188,11 @@ mod tests {
 
     #[test]
     fn a_grid_has_its_points_in_the_order_of_the_library() {
-        let plane = Surface {
+        let plane = ParametricSurface {
             u: [0.0, 2.0],
             v: [0.0, 1.0],
-            ..Surface::named("plane").expect("a name")
+            ..ParametricSurface::named("plane").expect("a name")
         };
-        let grid = plane.grid([2, 1]);
         let expected = [
             [0.0, 0.0],
             [0.0, 1.0],
@@ -202,6 +201,41 @@ mod tests {
             [2.0, 0.0],
             [2.0, 1.0],
         ];
-        assert_eq!(grid.points(), expected.map(|[x, y]| [x, y, 0.0]));
+        let expected = expected.map(|[x, y]| [x, y, 0.0]);
+        assert_eq!(plane.grid([2, 1]), expected.as_flattened());
+    }
+
+    #[test]
+    fn the_first_coordinate_that_the_library_refuses_is_found() {
+        let steps @ [m, n] = [4, 2];
+        let cases = [
+            ("x = u; y = v; z = 2^40*u", None),
+            (
+                "x = u; y = v; z = -2^40*(1 + 2^-52)*u",
+                Some("z = -1099511627776.0002 at u = 1.0, v = 0.0"),
+            ),
+            (
+                "x = 1/(v - 1); y = sqrt(-1); z = 0",
+                Some("y = NaN at u = 0.0, v = 0.0"),
+            ),
+            (
+                "x = 1/(v - 1); y = sqrt(u); z = 1/u",
+                Some("z = inf at u = 0.0, v = 0.0"),
+            ),
+            (
+                "x = 1/(v - 1) + u; y = sqrt(-u); z = 0",
+                Some("x = inf at u = 0.0, v = 1.0"),
+            ),
+        ];
+        for (formula, expected) in cases {
+            let surface = ParametricSurface {
+                u: [0.0, 1.0],
+                v: [0.0, 2.0],
+                ..ParametricSurface::own(Formula::parse(formula).expect("a formula"))
+            };
+            let refused = Surface::new(&surface.grid(steps), m, n).err();
+            assert_eq!(refused, expected.map(|_| Refusal::Coordinate), "{formula}");
+            assert_eq!(surface.first_refused(steps).as_deref(), expected);
+        }
     }
 }

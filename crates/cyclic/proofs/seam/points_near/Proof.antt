@@ -1,0 +1,32 @@
+-- `cyclic::seam::points_near` meets its contract: differences below EPS make two points close. Assumes nothing.
+use borrow.Author.Needs.{needs}
+use mathlib.Core.Path.{ap₂, _∙_}
+use denote.Ref.{now}
+use lib.Ieee.{ofBits}
+use Rattle.float.specs.Consts.{eps}
+use Rattle.vector.specs.Vectors.{minus}
+use Rattle.vector.proofs.Close.{close-within}
+use Rattle.grid.specs.Grid.{pointAt}
+use Rattle.cyclic.proofs.seam.points_near.Statement.{statement}
+use Rattle.cyclic.proofs.seam.points_near.Tie as tie
+
+point-at-requires : tie.Need-point-at-requires
+point-at-requires c κs = search needs
+
+point-at-requires-2 : tie.Need-point-at-requires-2
+point-at-requires-2 c κs = search needs
+
+sub-requires : tie.Need-sub-requires
+sub-requires c κs = search needs
+
+returns : tie.Need-returns
+unfolding eps ofBits
+returns c =
+    let d = c .before .before .before .before .before .before in
+    let q = d .before in
+    let p = q .before in
+    let s = p .before .before .before .args in
+    λ h. close-within (pointAt (now (s .a)) (s .i)) (pointAt (now (s .b)) (s .k)) (d .sub .result) (d .sub .ensures ∙ ap₂ minus (p .point-at .ensures) (q .point-at2 .ensures)) h
+
+pub points-near-spec : {M : Type 1} → statement M
+points-near-spec = tie.close (tie.spec point-at-requires point-at-requires-2 sub-requires returns)

@@ -1,0 +1,6 @@
+-- What the proofs of this crate share.
+pub mod Laid
+pub mod Refused
+pub mod Arrays
+pub mod Zeros
+pub mod Steps

@@ -1,0 +1,37 @@
+-- More than 65,537 marks are refused whatever they are: 1 where M or N is wrong, else 2. Assumes nothing.
+use mathlib.Core.Path.{_≡_, refl, sym, _∙_}
+use mathlib.Core.Bool.{Bool, true, false, _&&_}
+use mathlib.Core.List.{List}
+use Prim.Native.Nat.{ℕ, _*_, _<_}
+use lib.Dec.{eqb}
+use lib.ListN.{length}
+use lib.Ieee.{Float}
+use borrow.Author.Tests.{lt-leb}
+use Rattle.refusal.specs.declared.Check.{Check}
+use Rattle.refusal.specs.declared.Check.the-variants.{Passed, Failed}
+use Rattle.refusal.specs.declared.Refusal.the-variants.{Steps, Length}
+use Rattle.refusal.specs.Refusals.{unless, andThen}
+use Rattle.grid.specs.Grid.{stepsFit, lengthFits, gridCheck}
+use Rattle.trace.specs.declared.page.Trace.the-variants.{Refused}
+use Rattle.trace.specs.Trace.{Lists, traceCheck, traceFlat, Traces}
+use Rattle.trace.proofs.Ended.{refused-before}
+
+module _ (g : List Float) (m n : ℕ) (pairs : List Float) (marks : List ℕ) (l : Lists) {b : Bool} (e : b ≡ stepsFit m n) where
+  wrong-steps : b ≡ false → traceCheck g m n pairs marks ≡ Failed Steps
+  unfolding traceCheck gridCheck
+  wrong-steps f = rw (← e, f)
+
+  too-many : b ≡ true → 65537 < length marks → traceCheck g m n pairs marks ≡ Failed Length
+  unfolding traceCheck gridCheck
+  too-many t h = rw (← e, t, lt-leb (length marks) 65537 h) (go (lengthFits g m n) (eqb (length pairs) (2 * length marks)) _ _)
+    where
+      go : (a c : Bool) (x y : Check) → andThen (unless a Length (andThen (unless (c && false) Length Passed) x)) y ≡ Failed Length
+      go true true x y = refl
+      go true false x y = refl
+      go false c x y = refl
+
+  pub steps-refused : b ≡ false → Traces (traceFlat g m n pairs marks l) (Refused Steps) (l .points) (l .starts) (l .sides) (l .fractions)
+  steps-refused f = refused-before g m n pairs marks l (sym (wrong-steps f)) refl
+
+  pub length-refused : b ≡ true → 65537 < length marks → Traces (traceFlat g m n pairs marks l) (Refused Length) (l .points) (l .starts) (l .sides) (l .fractions)
+  length-refused t h = refused-before g m n pairs marks l (sym (too-many t h)) refl

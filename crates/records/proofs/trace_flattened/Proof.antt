@@ -1,0 +1,76 @@
+-- `records::trace_flattened` meets its contract: proofs/Refused.antt has the answer for too many samples, and what is flattened is what the flat trace takes. Assumes nothing.
+use mathlib.Core.Path.{_∙_, sym, ap}
+use mathlib.Core.List.{List}
+use Prim.Native.Nat.{_*_, _≤_}
+use native.Mathlib.Omega.{arith}
+use denote.Ref.{now}
+use lib.ListN.{length}
+use lib.Seq.{length-take-le}
+use Rattle.trace.specs.Trace.{lists}
+use Rattle.records.specs.declared.Sample.{Sample}
+use Rattle.records.specs.Records.{pairsOf, marksOf}
+use Rattle.records.proofs.Laid.{marks-count}
+use Rattle.records.proofs.Refused.{steps-refused, length-refused}
+use borrow.Author.Needs.{needs}
+use Rattle.records.proofs.trace_flattened.Statement.{statement}
+use Rattle.records.proofs.trace_flattened.Tie as tie
+
+steps-fit-requires : tie.Need-steps-fit-requires
+steps-fit-requires c κs = search needs
+
+returns : tie.Need-returns
+returns c ss e _ =
+    let a = c .before .before .before .before .before .before .before .before .args in
+    length-refused (now (a .grid)) (a .m) (a .n) (pairsOf ss) (marksOf ss) (lists (now (a .points)) (now (a .starts)) (now (a .sides)) (now (a .fractions))) (c .before .steps-fit .ensures) (c .if2 .taken) (rw (marks-count ss, e) (c .before .before .if1 .taken))
+
+returns-2 : tie.Need-returns-2
+returns-2 c ss _ _ =
+    let a = c .before .before .before .before .before .before .before .before .args in
+    steps-refused (now (a .grid)) (a .m) (a .n) (pairsOf ss) (marksOf ss) (lists (now (a .points)) (now (a .starts)) (now (a .sides)) (now (a .fractions))) (c .before .steps-fit .ensures) (c .if2 .left)
+
+mul-end : tie.Need-mul-end
+mul-end c = search needs
+
+slice-aggregate-used-pairs : tie.Need-slice-aggregate-used-pairs
+slice-aggregate-used-pairs c = let a = c .before .before .before .before .before .before .before .before .before .args in sym (length-take-le (2 * a .count) (now (a .pairs)) (omega arith))
+
+slice-aggregate-used-marks : tie.Need-slice-aggregate-used-marks
+slice-aggregate-used-marks c = let a = c .before .before .before .before .before .before .before .before .before .before .args in sym (length-take-le (a .count) (now (a .marks)) (omega arith))
+
+trace-flat-requires : tie.Need-trace-flat-requires
+trace-flat-requires c κs = search needs
+
+same-length : tie.Need-same-length
+same-length c = search needs
+
+same-length-2 : tie.Need-same-length-2
+same-length-2 c = search needs
+
+same-length-3 : tie.Need-same-length-3
+same-length-3 c = search needs
+
+same-length-4 : tie.Need-same-length-4
+same-length-4 c = search needs
+
+returns-3 : tie.Need-returns-3
+returns-3 c ss e h =
+    let a = c .before .before .before .before .before .before .before .before .before .before .before .before .before .before .before .before .before .before .before .before .before .before .before .args in
+    let k = h (rw e (c .before .before .before .before .before .before .before .before .before .before .before .before .before .before .before .before .before .if1 .left)) in
+    rw (← k .0, ← k .1, e) (c .before .before .before .before .before .before .before .before .trace-flat .ensures .0)
+
+pub trace-flattened-spec : {M : Type 1} → statement M
+trace-flattened-spec =
+    tie.close
+    (tie.spec
+    steps-fit-requires
+    returns
+    returns-2
+    mul-end
+    slice-aggregate-used-pairs
+    slice-aggregate-used-marks
+    trace-flat-requires
+    same-length
+    same-length-2
+    same-length-3
+    same-length-4
+    returns-3)

@@ -1,0 +1,31 @@
+-- The joinings of a shape that the theorem is proved for: 01's, and request 8's where a corner passes the rules twice. Demand 3 is promised for the seams that are
+-- found (`CoveredJoining`); Joinings shows that these make such a shape. Assumes nothing.
+use Prim.Native.Nat.{ℕ, _≤_, _<_}
+use mathlib.Core.Path.{_≡_}
+use Rattle.surface.specs.Surface.{Seam, unjoined, forward, reverse, Rule, once, twice, Shape, Meets}
+
+-- "at offset 0, forward or reverse"
+abbrev pub AtZero : Seam → Type 0
+AtZero unjoined = ⊥
+AtZero (forward o) = o ≡ 0
+AtZero (reverse o) = o ≡ 0
+
+-- beside a seam that is "forward at offset 0": "forward at any offset or reverse at an offset other than 0"; in request 8 reverse at offset 0 too.
+-- Any offset is one of the row: below its steps.
+abbrev pub Beside : Rule → Seam → ℕ → Type 0
+Beside r unjoined steps = ⊥
+Beside r (forward o) steps = o < steps
+Beside once (reverse o) steps = (0 < o) × (o < steps)
+Beside twice (reverse o) steps = o < steps
+
+-- "neither seam found; one found, at offset 0, forward or reverse; both found, one forward at offset 0 and the other .."
+pub data Covered (s : Shape) : Type 0 where
+  neither : s .su ≡ unjoined → s .sv ≡ unjoined → Covered s
+  only-u : AtZero (s .su) → s .sv ≡ unjoined → Covered s
+  only-v : s .su ≡ unjoined → AtZero (s .sv) → Covered s
+  both-u : Beside (s .rule) (s .su) (s .N) → s .sv ≡ forward 0 → Covered s
+  both-v : s .su ≡ forward 0 → Beside (s .rule) (s .sv) (s .M) → Covered s
+
+-- for every covered joining with at least 3 steps each way
+abbrev pub CoveredMeets : Type 0
+CoveredMeets = (s : Shape) → 3 ≤ s .M → 3 ≤ s .N → Covered s → Meets s

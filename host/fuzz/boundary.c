@@ -1,0 +1,400 @@
+/* Calls the library through its C boundary with what a fuzzer's bytes say, and holds each answer to what
+   01 fixes for every call: which refusal applies, what a refusal leaves in the lent lists, zeros past the
+   counts, numbers inside the grid. A list lies against a page that cannot be touched, so that reading or
+   writing past it ends the process. */
+#include "input.h"
+#include "merlontrispa.h"
+
+#include <math.h>
+#include <stdio.h>
+#include <stdlib.h>
+#include <string.h>
+#include <unistd.h>
+
+/* Most of a grid's steps, a row's points and a curve's samples. */
+enum { MOST_STEPS = 7, MOST_POINTS = 24, MOST_SAMPLES = 24 };
+
+#define HOLDS(fact) \
+    do { \
+        if (!(fact)) { \
+            fprintf(stderr, "%s:%d: %s\n", __FILE__, __LINE__, #fact); \
+            abort(); \
+        } \
+    } while (0)
+
+/* A branch of its own for each number up to 12, so that the fuzzer sees which it was: a remark in the
+   machine code keeps the branches apart. */
+#define BRANCH(n) \
+    case n: \
+        __asm__ volatile("# " #n); \
+        break;
+static inline __attribute__((always_inline)) void noted(size_t number) {
+    switch (number) {
+        BRANCH(0) BRANCH(1) BRANCH(2) BRANCH(3) BRANCH(4) BRANCH(5) BRANCH(6)
+        BRANCH(7) BRANCH(8) BRANCH(9) BRANCH(10) BRANCH(11) BRANCH(12)
+    }
+}
+
+struct grid { size_t m, n, length; struct list list; };
+
+static int coordinate_fits(double x) {
+    return isfinite(x) && fabs(x) <= 0x1p40;
+}
+
+static struct list floats(struct input *input, int place, size_t length, int front) {
+    struct list list = lend(place, length * sizeof(double), front);
+    double *numbers = list.at;
+    for (size_t i = 0; i < length; i++) {
+        numbers[i] = number(input);
+    }
+    keep(&list);
+    return list;
+}
+
+static int all_fit(const struct list *list) {
+    const double *numbers = list->at;
+    for (size_t i = 0; i < list->bytes / sizeof(double); i++) {
+        if (!coordinate_fits(numbers[i])) {
+            return 0;
+        }
+    }
+    return 1;
+}
+
+static int steps_fit(size_t m, size_t n) {
+    return 1 <= m && m <= 255 && 1 <= n && n <= 255;
+}
+
+/* A grid of few cells, whose M, N or length may be wrong. */
+static struct grid any_grid(struct input *input, int front) {
+    size_t m = count(input, MOST_STEPS + 1), n = count(input, MOST_STEPS + 1);
+    size_t least = m <= MOST_STEPS && n <= MOST_STEPS ? 3 * (m + 1) * (n + 1) : 12;
+    size_t numbers = length(input, least);
+    /* Mostly as long as it has to be. */
+    numbers = byte(input) % 4 ? least : numbers;
+    return (struct grid){m, n, numbers, floats(input, 0, numbers, front)};
+}
+
+/* The first of 1, 2, 3 and 4 that applies. */
+static int grid_refusal(const struct grid *grid, int lengths, int room) {
+    if (!steps_fit(grid->m, grid->n)) {
+        return MT_STEPS;
+    }
+    if (!lengths || grid->length != 3 * (grid->m + 1) * (grid->n + 1)) {
+        return MT_LENGTH;
+    }
+    if (!room) {
+        return MT_ROOM;
+    }
+    return all_fit(&grid->list) ? MT_OK : MT_COORDINATE;
+}
+
+static int ascend(const size_t *numbers, size_t length) {
+    for (size_t i = 1; i < length; i++) {
+        if (numbers[i - 1] > numbers[i]) {
+            return 0;
+        }
+    }
+    return 1;
+}
+
+static int below(const size_t *numbers, size_t length, size_t limit) {
+    for (size_t i = 0; i < length; i++) {
+        if (numbers[i] >= limit) {
+            return 0;
+        }
+    }
+    return 1;
+}
+
+static void seam_holds(const mt_found_seam *seam, size_t steps) {
+    noted(seam->found ? 2 * (seam->offset > 0) + seam->reverse : 4);
+    HOLDS(seam->comparisons <= 2 + 2 * (uint64_t)steps * (steps + 1));
+    if (seam->found) {
+        HOLDS(seam->steps == steps && seam->offset < steps);
+    } else {
+        HOLDS(!seam->reverse && !seam->offset && !seam->steps);
+    }
+}
+
+static int seam_zero(const mt_found_seam *seam) {
+    return !seam->found && !seam->reverse && !seam->offset && !seam->steps && !seam->comparisons;
+}
+
+static void search(struct input *input) {
+    int front = byte(input) % 2;
+    size_t a_len = length(input, 3 * count(input, MOST_POINTS) % 96);
+    size_t b_len = byte(input) % 4 ? a_len : length(input, a_len);
+    struct list a = floats(input, 0, a_len, front), b = floats(input, 1, b_len, front);
+    mt_rows_answer told = mt_new_vector(a.at, a_len, b.at, b_len);
+    int fit = all_fit(&a) && all_fit(&b);
+    int refusal = a_len % 3 || b_len % 3 ? MT_LENGTH : fit ? MT_OK : MT_COORDINATE;
+    noted(told.refusal);
+    HOLDS(told.refusal == refusal);
+    HOLDS(untouched(&a) && untouched(&b));
+    if (refusal) {
+        HOLDS(seam_zero(&told.seam));
+        return;
+    }
+    if (a_len < 6 || a_len != b_len) {
+        HOLDS(!told.seam.found && !told.seam.comparisons);
+    } else {
+        seam_holds(&told.seam, a_len / 3 - 1);
+    }
+}
+
+static void map(struct input *input) {
+    size_t steps = count(input, 40), offset = count(input, 40), index = count(input, 41);
+    int reverse = byte(input) % 2, fits = steps && steps <= 65535 && offset < steps && index <= steps;
+    mt_index_answer there = mt_map_index(reverse, offset, steps, index);
+    mt_index_answer back = mt_map_index_inv(reverse, offset, steps, index);
+    HOLDS(there.refusal == (fits ? MT_OK : MT_NOT_THERE) && back.refusal == there.refusal);
+    HOLDS(there.index <= (fits ? steps : 0) && back.index <= (fits ? steps : 0));
+    if (fits && offset == 0) {
+        HOLDS(mt_map_index_inv(reverse, offset, steps, there.index).index == index);
+    }
+}
+
+static void triangulate(struct input *input) {
+    int front = byte(input) % 2;
+    struct grid grid = any_grid(input, front);
+    size_t m = grid.m, n = grid.n, small = m <= MOST_STEPS && n <= MOST_STEPS;
+    size_t triangles_len = length(input, small ? 6 * m * n : 6);
+    size_t flipped_len = length(input, small ? 2 * (m + n) : 4);
+    struct list triangles = lend(1, triangles_len * sizeof(size_t), front);
+    struct list flipped = lend(2, flipped_len * sizeof(size_t), front);
+    mt_mesh_answer told = mt_triangulate_grid(grid.list.at, grid.length, m, n, triangles.at,
+                                              triangles_len, flipped.at, flipped_len);
+    noted(told.refusal);
+    HOLDS(told.refusal == grid_refusal(&grid, 1, triangles_len >= 6 * m * n && flipped_len >= 2 * (m + n)));
+    HOLDS(untouched(&grid.list));
+    if (told.refusal) {
+        HOLDS(untouched(&triangles) && untouched(&flipped));
+        HOLDS(seam_zero(&told.u) && seam_zero(&told.v) && !told.triangles && !told.pairs);
+        return;
+    }
+    seam_holds(&told.u, n);
+    seam_holds(&told.v, m);
+    noted(told.pairs);
+    HOLDS(told.triangles <= 2 * m * n && told.pairs <= m + n);
+    HOLDS(below(triangles.at, 3 * told.triangles, (m + 1) * (n + 1)));
+    HOLDS(below(flipped.at, 2 * told.pairs, told.triangles));
+    HOLDS(zero_from(&triangles, 3 * told.triangles * sizeof(size_t)));
+    HOLDS(zero_from(&flipped, 2 * told.pairs * sizeof(size_t)));
+    const size_t *pairs = flipped.at;
+    for (size_t i = 0; i < 2 * told.pairs; i += 2) {
+        HOLDS(pairs[i] < pairs[i + 1]);
+        HOLDS(i == 0 || pairs[i - 2] < pairs[i] || (pairs[i - 2] == pairs[i] && pairs[i - 1] < pairs[i + 1]));
+    }
+}
+
+static void draw_grid(struct input *input) {
+    int front = byte(input) % 2;
+    struct grid grid = any_grid(input, front);
+    size_t m = grid.m, n = grid.n, small = m <= MOST_STEPS && n <= MOST_STEPS;
+    size_t points_len = length(input, small ? 6 * (m + 1) * (n + 1) : 24);
+    size_t starts_len = length(input, small ? m + n + 2 : 4);
+    struct list points = lend(1, points_len * sizeof(double), front);
+    struct list starts = lend(2, starts_len * sizeof(size_t), front);
+    mt_paths_answer told = mt_grid_paths(grid.list.at, grid.length, m, n, points.at, points_len,
+                                         starts.at, starts_len);
+    int room = points_len >= 6 * (m + 1) * (n + 1) && starts_len >= m + n + 2;
+    noted(told.refusal);
+    HOLDS(told.refusal == grid_refusal(&grid, 1, room));
+    HOLDS(untouched(&grid.list));
+    if (told.refusal) {
+        HOLDS(untouched(&points) && untouched(&starts) && !told.points && !told.lines);
+        return;
+    }
+    HOLDS(told.points == 2 * (m + 1) * (n + 1) && told.lines == m + n + 2);
+    HOLDS(ascend(starts.at, told.lines) && below(starts.at, told.lines, told.points));
+    HOLDS(all_fit(&points));
+    HOLDS(zero_from(&points, 3 * told.points * sizeof(double)));
+    HOLDS(zero_from(&starts, told.lines * sizeof(size_t)));
+}
+
+static void read_line(struct input *input) {
+    int front = byte(input) % 2;
+    size_t points_len = count(input, 30) % 30, starts_len = count(input, 12) % 12;
+    struct list points = lend(0, points_len * sizeof(double), front);
+    struct list starts = lend(1, starts_len * sizeof(size_t), front);
+    size_t *numbers = starts.at;
+    for (size_t i = 0; i < starts_len; i++) {
+        numbers[i] = count(input, 12);
+    }
+    keep(&starts);
+    size_t point_count = count(input, 11), line_count = count(input, 13), index = count(input, 13);
+    mt_span_answer span = mt_line_span(points.at, points_len, starts.at, starts_len, point_count,
+                                       line_count, index);
+    mt_part part = mt_get(points.at, points_len, starts.at, starts_len, point_count, line_count, index);
+    HOLDS(untouched(&points) && untouched(&starts));
+    int there = index < line_count && line_count <= starts_len && point_count <= points_len / 3;
+    size_t end = there && index + 1 < line_count ? numbers[index + 1] : point_count;
+    there = there && numbers[index] <= end && end <= point_count;
+    HOLDS(span.refusal == (there ? MT_OK : MT_NOT_THERE));
+    if (there) {
+        HOLDS(span.start == numbers[index] && span.end == end);
+        HOLDS(part.offset == 3 * span.start && part.length == 3 * (end - span.start));
+    } else {
+        HOLDS(!span.start && !span.end && !part.offset && !part.length);
+    }
+}
+
+/* What a curve is drawn into. */
+struct page { struct list points, starts, sides, fractions; };
+
+static int page_untouched(const struct page *page) {
+    return untouched(&page->points) && untouched(&page->starts) && untouched(&page->sides)
+        && untouched(&page->fractions);
+}
+
+/* Whether all places past so many points and lines are zero. */
+static int page_zero(const struct page *page, size_t points, size_t lines) {
+    return zero_from(&page->points, 3 * points * sizeof(double))
+        && zero_from(&page->starts, lines * sizeof(size_t))
+        && zero_from(&page->sides, 2 * points * sizeof(size_t))
+        && zero_from(&page->fractions, points * sizeof(double));
+}
+
+/* Each line has two points or more; each point is (1 - t) p + t q of two points of the grid. */
+static void drawn_holds(const struct grid *grid, const struct page *page, size_t points, size_t lines) {
+    const double *grid_at = grid->list.at, *points_at = page->points.at, *fractions = page->fractions.at;
+    const size_t *starts = page->starts.at, *sides = page->sides.at;
+    HOLDS(!points == !lines);
+    for (size_t i = 0; i < lines; i++) {
+        size_t end = i + 1 < lines ? starts[i + 1] : points;
+        HOLDS(starts[i] <= end && end - starts[i] >= 2);
+    }
+    HOLDS(below(sides, 2 * points, (grid->m + 1) * (grid->n + 1)));
+    for (size_t i = 0; i < points; i++) {
+        double t = fractions[i];
+        HOLDS(0 <= t && t <= 1);
+        for (size_t axis = 0; axis < 3; axis++) {
+            double p = grid_at[3 * sides[2 * i] + axis], q = grid_at[3 * sides[2 * i + 1] + axis];
+            double made = p * (1.0 - t) + q * t;
+            HOLDS(!memcmp(&made, &points_at[3 * i + axis], sizeof made));
+        }
+    }
+}
+
+/* The first of 9 and 10 that applies. */
+static int curve_refusal(const double *pairs, const uint8_t *marks, size_t samples) {
+    int refusal = MT_OK;
+    for (size_t i = 0; i < samples; i++) {
+        if (marks[i] > 1) {
+            return MT_MARK;
+        }
+        for (size_t k = 2 * i; k < 2 * i + 2; k++) {
+            if (marks[i] && !(isfinite(pairs[k]) && fabs(pairs[k]) <= 0x1p20)) {
+                refusal = MT_SAMPLE;
+            }
+        }
+    }
+    return refusal;
+}
+
+static struct list any_marks(struct input *input, size_t samples, int front) {
+    struct list list = lend(2, samples, front);
+    uint8_t *marks = list.at;
+    for (size_t i = 0; i < samples; i++) {
+        uint8_t mark = byte(input);
+        marks[i] = mark < 224 ? 1 : mark < 248 ? 0 : mark;
+    }
+    keep(&list);
+    return list;
+}
+
+static void trace(struct input *input) {
+    int front = byte(input) % 2;
+    struct grid grid = any_grid(input, front);
+    size_t samples = count(input, MOST_SAMPLES) % 64;
+    size_t pairs_len = byte(input) % 8 ? 2 * samples : length(input, 2 * samples);
+    struct list marks = any_marks(input, samples, front), pairs = floats(input, 1, pairs_len, front);
+    /* Where the bytes have come to an end there is still room. */
+    size_t room = (byte(input) + 16) % 256, lens[4] = {3 * room, room, 2 * room, room};
+    for (int i = 0; i < 4; i++) {
+        lens[i] = length(input, lens[i]);
+    }
+    struct page page = {
+        lend(3, lens[0] * sizeof(double), front), lend(4, lens[1] * sizeof(size_t), front),
+        lend(5, lens[2] * sizeof(size_t), front), lend(6, lens[3] * sizeof(double), front)};
+    mt_paths_answer told = mt_trace_flat(
+        grid.list.at, grid.length, grid.m, grid.n, pairs.at, pairs_len, marks.at, samples, page.points.at,
+        lens[0], page.starts.at, lens[1], page.sides.at, lens[2], page.fractions.at, lens[3]);
+    noted(told.refusal);
+    HOLDS(untouched(&grid.list) && untouched(&pairs) && untouched(&marks));
+    HOLDS(!told.refusal || (!told.points && !told.lines));
+    int refusal = grid_refusal(&grid, pairs_len == 2 * samples, 1);
+    if (!refusal) {
+        refusal = curve_refusal(pairs.at, marks.at, samples);
+    }
+    if (refusal) {
+        HOLDS(told.refusal == refusal && page_untouched(&page));
+    } else if (told.refusal) {
+        HOLDS(told.refusal == MT_NO_STEP || told.refusal == MT_FULL);
+        HOLDS(page_zero(&page, 0, 0));
+    } else {
+        noted(told.lines);
+        HOLDS(page_zero(&page, told.points, told.lines));
+        drawn_holds(&grid, &page, told.points, told.lines);
+    }
+}
+
+static void texture(struct input *input) {
+    uint8_t kind = byte(input) % 3;
+    double spacing = number(input), twist = kind == 1 ? number(input) : 0;
+    size_t arms = kind == 2 ? count(input, 66) : 0, m = count(input, 255), n = count(input, 255);
+    size_t ray = count(input, 70), sample = count(input, 200);
+    double cosine = number(input), sine = number(input);
+    mt_ray_counts counts = mt_plan(kind, spacing, twist, arms, m, n);
+    mt_ray_angle angle = mt_angle(kind, spacing, twist, arms, m, n, ray, sample);
+    mt_ray_point point = mt_sample_point(kind, spacing, twist, arms, m, n, ray, sample, cosine, sine);
+    int fits = fabs(twist) <= 64 && arms <= 64;
+    int refusal = !steps_fit(m, n) ? MT_STEPS : !fits ? MT_TEXTURE : counts.refusal ? MT_COUNT : MT_OK;
+    noted(point.refusal);
+    HOLDS(counts.refusal == refusal && counts.rays <= (refusal ? 0 : 65536));
+    HOLDS(counts.samples <= (refusal ? 0 : 65536));
+    int there = ray < counts.rays && sample <= counts.samples;
+    HOLDS(angle.refusal == (refusal ? refusal : there ? MT_OK : MT_NOT_THERE));
+    HOLDS(isfinite(angle.angle) && (!angle.refusal || angle.angle == 0));
+    int turned = fabs(cosine) <= 1 && fabs(sine) <= 1;
+    HOLDS(point.refusal == (refusal ? refusal : !turned ? MT_DIRECTION : angle.refusal));
+    HOLDS(isfinite(point.u) && isfinite(point.v) && (!point.refusal || (point.u == 0 && point.v == 0)));
+}
+
+/* The first byte chooses the call, and the rest what it takes. */
+static void run(const uint8_t *bytes, size_t size) {
+    static void (*const calls[])(struct input *) = {trace,     triangulate, search, draw_grid,
+                                                    read_line, map,         texture};
+    struct input input = {bytes, bytes + size};
+    calls[byte(&input) % (sizeof calls / sizeof *calls)](&input);
+}
+
+#ifdef __AFL_FUZZ_INIT
+__AFL_FUZZ_INIT();
+
+int main(void) {
+    __AFL_INIT();
+    const uint8_t *bytes = __AFL_FUZZ_TESTCASE_BUF;
+    while (__AFL_LOOP(10000))
+        run(bytes, __AFL_FUZZ_TESTCASE_LEN);
+    return 0;
+}
+#else
+/* Runs the bytes of each file that is named. */
+int main(int argc, char **argv) {
+    static uint8_t bytes[1 << 16];
+    for (int i = 1; i < argc; i++) {
+        FILE *file = fopen(argv[i], "rb");
+        if (!file) {
+            perror(argv[i]);
+            return 2;
+        }
+        size_t size = fread(bytes, 1, sizeof bytes, file);
+        fclose(file);
+        run(bytes, size);
+    }
+    printf("boundary: %d inputs, all as it should be\n", argc - 1);
+    return 0;
+}
+#endif
