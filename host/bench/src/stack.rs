@@ -6,7 +6,8 @@
 //! halving. What a call takes is the depth that it costs against a call of nothing, in bytes.
 
 use merlontrispa::{
-    Drawn, Lines, Mapping, Texture, TraceLists, grid_paths, trace_flat, triangulate_grid,
+    Drawn, Lines, Mapping, Sample, Texture, TraceLists, grid_paths, trace_flat, trace_samples,
+    triangulate_grid,
 };
 use std::env;
 use std::f64::consts::TAU;
@@ -15,7 +16,7 @@ use std::process::{Command, ExitCode, Stdio};
 use std::thread;
 
 /// The stack of the thread.
-const STACK: usize = 1 << 20;
+const STACK: usize = 1 << 22;
 
 /// More frames than fit.
 const TOO_DEEP: usize = STACK / 16;
@@ -26,7 +27,7 @@ const STEPS: usize = 255;
 /// The word that has this program try one depth.
 pub const CHILD: &str = "--stack-child";
 
-const CALLS: [&str; 10] = [
+const CALLS: [&str; 11] = [
     "new_vector",
     "map_index",
     "map_index_inv",
@@ -34,6 +35,7 @@ const CALLS: [&str; 10] = [
     "grid_paths",
     "line_span and get",
     "trace_flat",
+    "trace_samples",
     "plan",
     "angle",
     "sample_point",
@@ -163,7 +165,19 @@ fn named(name: &str) -> Option<Box<dyn FnMut() -> bool + Send>> {
                 lines.line_span(1).is_ok() && !lines.get(1).is_empty()
             })
         }
-        "trace_flat" => across(),
+        "trace_flat" => {
+            let (pairs, marks) = (across(), vec![1; 100]);
+            drawing(move |grid, lists| {
+                trace_flat(grid, STEPS, STEPS, pairs.as_flattened(), &marks, lists).is_ok()
+            })
+        }
+        "trace_samples" => {
+            let samples: Vec<_> = across()
+                .into_iter()
+                .map(|[u, v]| Sample::at(u, v))
+                .collect();
+            drawing(move |grid, lists| trace_samples(grid, STEPS, STEPS, &samples, lists).is_ok())
+        }
         "plan" => Box::new(move || texture.plan(STEPS, STEPS).is_ok()),
         "angle" => Box::new(move || texture.angle(STEPS, STEPS, 63, 1).is_ok()),
         "sample_point" => Box::new(move || {
@@ -174,13 +188,18 @@ fn named(name: &str) -> Option<Box<dyn FnMut() -> bool + Send>> {
     })
 }
 
-/// A trace from corner to corner and back, with as many events as a step has.
-fn across() -> Box<dyn FnMut() -> bool + Send> {
+/// Samples from corner to corner and back.
+fn across() -> Vec<[f64; 2]> {
     let top = STEPS as f64;
-    let pairs: Vec<_> = (0..100)
-        .flat_map(|i| [f64::from(i % 2) * top, f64::from(i % 2) * (top - 0.3) + 0.1])
-        .collect();
-    let (grid, marks, most) = (klein(), vec![1; pairs.len() / 2], 1_024 * 100);
+    let ends = [[0.0, 0.1], [top, top - 0.2]];
+    ends.into_iter().cycle().take(100).collect()
+}
+
+/// A call that traces 100 samples, with lists of its own.
+fn drawing(
+    trace: impl Fn(&[f64], TraceLists<'_>) -> bool + Send + 'static,
+) -> Box<dyn FnMut() -> bool + Send> {
+    let (grid, most) = (klein(), 1_024 * 100);
     let (mut points, mut starts) = (vec![0.0; 3 * most], vec![0; most]);
     let (mut sides, mut fractions) = (vec![0; 2 * most], vec![0.0; most]);
     Box::new(move || {
@@ -190,7 +209,7 @@ fn across() -> Box<dyn FnMut() -> bool + Send> {
             sides: &mut sides,
             fractions: &mut fractions,
         };
-        trace_flat(&grid, STEPS, STEPS, &pairs, &marks, lists).is_ok()
+        trace(&grid, lists)
     })
 }
 

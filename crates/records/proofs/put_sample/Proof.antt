@@ -1,4 +1,5 @@
 -- `records::put_sample` meets its contract, by its one test. Assumes nothing.
+use native.Mathlib.Omega.{arith}
 use borrow.Author.Tests.{lt-ltb, le-ltb}
 use borrow.Author.Needs.{needs}
 use Rattle.records.proofs.put_sample.Statement.{statement}
@@ -29,10 +30,16 @@ element-write-marks : tie.Need-element-write-marks
 element-write-marks c = search needs
 
 returns : tie.Need-returns
-returns c = let t = lt-ltb (c .before .before .args .i) 65537 (c .before .if1 .taken) in (rw t, rw t)
+returns c =
+    let h = c .before .if1 .taken in
+    let t = lt-ltb (c .before .before .args .i) 65537 (omega arith) in
+    (rw t, rw t)
 
 returns-2 : tie.Need-returns-2
-returns-2 c = let t = le-ltb (c .before .args .i) 65537 (c .if1 .left) in (rw t, rw t)
+returns-2 c =
+    let h = c .if1 .left in
+    let t = le-ltb (c .before .args .i) 65537 (omega arith) in
+    (rw t, rw t)
 
 pub put-sample-spec : {M : Type 1} → statement M
 put-sample-spec =
