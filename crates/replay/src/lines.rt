@@ -1,15 +1,15 @@
 // Grid lines, and a line as a part of the points.
-use crate::lists::fill_floats;
-use crate::lists::fill_numbers;
-use crate::lists::read_floats;
-use crate::lists::read_numbers;
-use crate::lists::same_floats;
-use crate::lists::same_numbers;
-use crate::rooms;
-use crate::words::field;
-use crate::words::is_refused;
-use crate::words::is_told;
-use crate::words::number;
+use cases::lists::fill_floats;
+use cases::lists::fill_numbers;
+use cases::lists::read_floats;
+use cases::lists::read_numbers;
+use cases::lists::same_floats;
+use cases::lists::same_numbers;
+use cases::rooms;
+use cases::words::field;
+use cases::words::is_refused;
+use cases::words::is_told;
+use cases::words::number;
 use path::GridPathsAnswer;
 use path::LineAnswer;
 

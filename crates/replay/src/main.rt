@@ -2,15 +2,13 @@
 // original gave or 01's table of refusals fixes, and every lent list afterwards. It writes the number of each case in
 // which the library differs, and how many cases there were.
 mod lines;
-mod lists;
 mod meshes;
-mod rooms;
 mod seams;
 mod textures;
 mod traces;
 mod vectors;
-mod words;
 
+use cases::words;
 use libc::STDIN_FILENO;
 use libc::STDOUT_FILENO;
 ghost use Prim.Native.Nat.{_≤_};

@@ -1,13 +1,13 @@
 // Triangles and flipped pairs.
-use crate::lists::fill_numbers;
-use crate::lists::read_floats;
-use crate::lists::same_numbers;
-use crate::rooms;
 use crate::seams::same_seam;
-use crate::words::field;
-use crate::words::is_refused;
-use crate::words::is_told;
-use crate::words::number;
+use cases::lists::fill_numbers;
+use cases::lists::read_floats;
+use cases::lists::same_numbers;
+use cases::rooms;
+use cases::words::field;
+use cases::words::is_refused;
+use cases::words::is_told;
+use cases::words::number;
 use mesh::Triangulation;
 
 fn compare_mesh(

@@ -1,10 +1,10 @@
 // Mappings and the seam search.
-use crate::lists::read_floats;
-use crate::rooms;
-use crate::words::field;
-use crate::words::is_refused;
-use crate::words::number;
-use crate::words::word;
+use cases::lists::read_floats;
+use cases::rooms;
+use cases::words::field;
+use cases::words::is_refused;
+use cases::words::number;
+use cases::words::word;
 use cyclic::mapping::CyclicMapping;
 use cyclic::mapping::MappedIndex;
 use cyclic::seam::Seam;

@@ -1,11 +1,11 @@
 // Plans, angles and sample points.
-use crate::words::field;
-use crate::words::float;
-use crate::words::is_refused;
-use crate::words::is_told;
-use crate::words::number;
-use crate::words::same_float;
-use crate::words::word;
+use cases::words::field;
+use cases::words::float;
+use cases::words::is_refused;
+use cases::words::is_told;
+use cases::words::number;
+use cases::words::same_float;
+use cases::words::word;
 use texture::plan::ParametricSurfaceTexture;
 use texture::plan::PlanAnswer;
 use texture::sample::AngleAnswer;

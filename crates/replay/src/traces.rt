@@ -1,15 +1,15 @@
 // The trace of flat samples.
-use crate::lists::fill_floats;
-use crate::lists::fill_numbers;
-use crate::lists::read_bytes;
-use crate::lists::read_floats;
-use crate::lists::same_floats;
-use crate::lists::same_numbers;
-use crate::rooms;
-use crate::words::field;
-use crate::words::is_refused;
-use crate::words::is_told;
-use crate::words::number;
+use cases::lists::fill_floats;
+use cases::lists::fill_numbers;
+use cases::lists::read_bytes;
+use cases::lists::read_floats;
+use cases::lists::same_floats;
+use cases::lists::same_numbers;
+use cases::rooms;
+use cases::words::field;
+use cases::words::is_refused;
+use cases::words::is_told;
+use cases::words::number;
 use trace::page::Trace;
 
 // The call, and what it answers and leaves.

@@ -1,8 +1,8 @@
 // The Vector operations.
-use crate::words::field;
-use crate::words::float;
-use crate::words::same_float;
-use crate::words::word;
+use cases::words::field;
+use cases::words::float;
+use cases::words::same_float;
+use cases::words::word;
 use vector::Vector;
 
 // The Vector whose components are words 0, 1 and 2.
