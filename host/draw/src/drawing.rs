@@ -67,7 +67,7 @@ fn edges(surface: Surface<'_>, seams: Seams) -> [(Seam, [usize; 2]); 2] {
 #[cfg(test)]
 mod tests {
     use super::*;
-    use crate::parametric::{NAMES, ParametricSurface};
+    use options::{NAMES, ParametricSurface};
 
     fn grid(name: &str, steps: [usize; 2]) -> Vec<f64> {
         ParametricSurface::named(name).expect("a name").grid(steps)

@@ -5,9 +5,6 @@
 
 mod camera;
 mod drawing;
-mod formula;
-mod options;
-mod parametric;
 mod svg;
 
 use camera::Camera;
@@ -26,13 +23,7 @@ const STDOUT: &str = "-";
 const SAMPLES: usize = 1_000_000;
 
 fn main() -> ExitCode {
-    let words = std::env::args_os().skip(1);
-    let words: Result<Vec<_>, _> = words.map(|word| word.into_string()).collect();
-    let request = match words {
-        Ok(words) => Request::parse(words),
-        Err(_) => Err("the options are not all in UTF-8".to_string()),
-    };
-    match request {
+    match Request::given() {
         Err(sentence) => failed(&sentence, 2),
         Ok(Request::Help) => ended(write(STDOUT, HELP)),
         Ok(Request::Card(options)) => ended(draw(&options)),
@@ -58,8 +49,9 @@ fn refused(refusal: Refusal) -> String {
 /// Draws the card, writes it, and says what is on it.
 fn draw(options: &Options) -> Result<(), String> {
     let [m, n] = options.steps;
+    let texture = texture(options);
     // The plan refuses bad steps before a grid of so many points is made.
-    let plan = options.texture.plan(m, n).map_err(refused)?;
+    let plan = texture.plan(m, n).map_err(refused)?;
     let samples = plan.rays * plan.samples;
     if samples > SAMPLES {
         return Err(format!(
@@ -72,7 +64,7 @@ fn draw(options: &Options) -> Result<(), String> {
         let first = first.map(|first| format!("; the first is {first}"));
         refused(refusal) + &first.unwrap_or_default()
     })?;
-    let drawing = Drawing::new(surface, options.texture).map_err(refused)?;
+    let drawing = Drawing::new(surface, texture).map_err(refused)?;
     let camera = Camera::fitting(surface.points())
         .ok_or("all points of this surface are seen at one place, and there is nothing to draw")?;
     let title = title(options);
@@ -85,6 +77,15 @@ fn draw(options: &Options) -> Result<(), String> {
     Ok(())
 }
 
+/// The texture, as the library has it.
+fn texture(options: &Options) -> Texture {
+    match options.texture {
+        options::Texture::Grid => Texture::Grid,
+        options::Texture::Swirl { spacing, twist } => Texture::Swirl { spacing, twist },
+        options::Texture::Spiral { spacing, arms } => Texture::Spiral { spacing, arms },
+    }
+}
+
 fn write(output: &str, text: &str) -> Result<(), String> {
     let written = match output {
         STDOUT => std::io::stdout().lock().write_all(text.as_bytes()),
@@ -94,7 +95,7 @@ fn write(output: &str, text: &str) -> Result<(), String> {
 }
 
 fn title(options: &Options) -> String {
-    let texture = match options.texture {
+    let texture = match texture(options) {
         Texture::Grid => "grid".to_string(),
         Texture::Swirl { spacing, twist } => format!("swirl, spacing {spacing}, twist {twist}"),
         Texture::Spiral { spacing, arms } => format!("spiral, spacing {spacing}, arms {arms}"),

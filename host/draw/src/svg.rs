@@ -3,6 +3,7 @@
 use crate::camera::{CARD, Camera, Seen};
 use crate::drawing::{Drawing, Point};
 use merlontrispa::{Mapping, OwnedLines};
+use options::Style;
 use std::fmt::{Arguments, Write};
 
 const INK: &str = "#16324f";
@@ -16,17 +17,6 @@ const BOLD: f64 = 0.6;
 
 /// How strong lines are drawn, from the farthest to the nearest part of a surface.
 const STRENGTHS: [f64; 6] = [0.2, 0.32, 0.46, 0.62, 0.8, 1.0];
-
-/// What is drawn beside the lines of the texture and the rim, and how.
-#[derive(Debug, Clone, Copy, PartialEq, Eq, Default)]
-pub struct Style {
-    /// Whether the seams are drawn, in colours that tell forward from reversed.
-    pub seams: bool,
-    /// Whether the triangles of flipped pairs are filled.
-    pub flipped: bool,
-    /// Whether each line is one polyline, as strong as the others.
-    pub plain: bool,
-}
 
 /// The file's text.
 pub fn card(drawing: &Drawing, camera: &Camera, style: Style, title: &str) -> String {
@@ -178,8 +168,8 @@ fn places(points: &[Seen]) -> String {
 #[cfg(test)]
 mod tests {
     use super::*;
-    use crate::parametric::{NAMES, ParametricSurface};
     use merlontrispa::{Surface, Texture};
+    use options::{NAMES, ParametricSurface};
 
     const TEXTURES: [Texture; 3] = [
         Texture::Grid,

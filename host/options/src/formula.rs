@@ -1,12 +1,14 @@
 //! Formulas of surfaces, `x = ..; y = ..; z = ..` in u and v, and constants such as `2*pi`.
 //!
-//!     formula    = coordinate (";" coordinate)* [";"]     each of x, y and z once
-//!     coordinate = ("x" | "y" | "z") "=" sum
-//!     sum        = product (("+" | "-") product)*
-//!     product    = signed (("*" | "/") signed)*
-//!     signed     = ("+" | "-")* power
-//!     power      = atom ["^" signed]
-//!     atom       = number | "u" | "v" | "pi" | "(" sum ")" | ("sin" | "cos" | "sqrt") "(" sum ")"
+//! ```text
+//! formula    = coordinate (";" coordinate)* [";"]     each of x, y and z once
+//! coordinate = ("x" | "y" | "z") "=" sum
+//! sum        = product (("+" | "-") product)*
+//! product    = signed (("*" | "/") signed)*
+//! signed     = ("+" | "-")* power
+//! power      = atom ["^" signed]
+//! atom       = number | "u" | "v" | "pi" | "(" sum ")" | ("sin" | "cos" | "sqrt") "(" sum ")"
+//! ```
 //!
 //! So `-u^2` is -(u^2), and `2^u^v` is 2^(u^v). The signs −, ×, ·, ÷ and π are read too.
 
@@ -21,7 +23,9 @@ const SHOWN: usize = 72;
 /// What is wrong with a formula, and at which of its characters.
 #[derive(Debug, Clone, PartialEq, Eq)]
 pub struct Fault {
+    /// The number of the character.
     pub at: usize,
+    /// What is wrong there.
     pub sentence: String,
 }
 
@@ -129,6 +133,8 @@ impl Binary {
 pub struct Formula([Expression; 3]);
 
 impl Formula {
+    /// The formula that a text gives.
+    ///
     /// # Errors
     /// The first fault of the text.
     pub fn parse(text: &str) -> Result<Self, Fault> {

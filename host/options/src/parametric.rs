@@ -1,7 +1,6 @@
 //! Surfaces: a formula, the ranges that u and v run through, and the grid of points that is taken of them.
 
 use crate::formula::Formula;
-use merlontrispa::float;
 use std::f64::consts::{PI, TAU};
 
 /// The largest magnitude of a coordinate that the library takes: beyond it is refusal 4.
@@ -10,10 +9,15 @@ const LARGEST: f64 = (1_u64 << 40) as f64;
 /// A surface and how many steps show it well.
 #[derive(Debug, Clone, PartialEq)]
 pub struct ParametricSurface {
+    /// Its name, "formula" for a surface of the user's own.
     pub name: &'static str,
+    /// x, y and z in u and v.
     pub formula: Formula,
+    /// Where u starts and ends.
     pub u: [f64; 2],
+    /// Where v starts and ends.
     pub v: [f64; 2],
+    /// Steps in u and in v.
     pub steps: [usize; 2],
 }
 
@@ -90,7 +94,7 @@ impl ParametricSurface {
     pub fn first_refused(&self, steps: [usize; 2]) -> Option<String> {
         self.parameters(steps).find_map(|[u, v]| {
             let mut coordinates = std::iter::zip(["x", "y", "z"], self.formula.at(u, v));
-            let (name, value) = coordinates.find(|(_, value)| !float::at_most(*value, LARGEST))?;
+            let (name, value) = coordinates.find(|(_, value)| !(value.abs() <= LARGEST))?;
             Some(format!("{name} = {value:?} at u = {u:?}, v = {v:?}"))
         })
     }
@@ -135,107 +139,3 @@ const KLEIN_EIGHT: &str = "
     x = (2 + cos(u/2)*sin(v) - sin(u/2)*sin(2*v))*cos(u);
     y = (2 + cos(u/2)*sin(v) - sin(u/2)*sin(2*v))*sin(u);
     z = sin(u/2)*sin(v) + cos(u/2)*sin(2*v)";
-
-#[cfg(test)]
-mod tests {
-    use super::*;
-    use merlontrispa::{Mapping, Refusal, Surface};
-
-    /// The seams of a named surface, and the count of its flipped pairs.
-    fn seams(name: &str, [m, n]: [usize; 2]) -> (Option<Mapping>, Option<Mapping>, usize) {
-        let grid = ParametricSurface::named(name).expect("a name").grid([m, n]);
-        let mesh = Surface::new(&grid, m, n).expect("a surface").triangulate();
-        (
-            mesh.seams.u.mapping,
-            mesh.seams.v.mapping,
-            mesh.flipped.len(),
-        )
-    }
-
-    fn forward(offset: usize, steps: usize) -> Option<Mapping> {
-        Some(Mapping::Forward { offset, steps })
-    }
-
-    fn reverse(offset: usize, steps: usize) -> Option<Mapping> {
-        Some(Mapping::Reverse { offset, steps })
-    }
-
-    #[test]
-    fn each_surface_has_its_seams() {
-        for [m, n] in [[12, 9], [25, 30], [90, 33]] {
-            let cases = [
-                ("plane", (None, None, 0)),
-                ("cylinder", (forward(0, n), None, 0)),
-                ("moebius-band", (reverse(0, n), None, n)),
-                ("sphere", (forward(0, n), None, 0)),
-                ("shell", (None, forward(0, m), 0)),
-                ("torus", (forward(0, n), forward(0, m), 0)),
-                ("twisted-torus", (forward(2 * n / 3, n), forward(0, m), 0)),
-                ("klein-bottle", (reverse(0, n), forward(0, m), n)),
-                ("klein-eight", (reverse(0, n), forward(0, m), n)),
-            ];
-            assert_eq!(cases.map(|(name, _)| name), NAMES);
-            for (name, expected) in cases {
-                assert_eq!(seams(name, [m, n]), expected, "{name}, {m} × {n}");
-            }
-        }
-    }
-
-    #[test]
-    fn a_lobe_that_meets_no_lobe_leaves_the_twisted_torus_open() {
-        assert_eq!(seams("twisted-torus", [12, 10]), (None, forward(0, 12), 0));
-    }
-
-    #[test]
-    fn a_grid_has_its_points_in_the_order_of_the_library() {
-        let plane = ParametricSurface {
-            u: [0.0, 2.0],
-            v: [0.0, 1.0],
-            ..ParametricSurface::named("plane").expect("a name")
-        };
-        let expected = [
-            [0.0, 0.0],
-            [0.0, 1.0],
-            [1.0, 0.0],
-            [1.0, 1.0],
-            [2.0, 0.0],
-            [2.0, 1.0],
-        ];
-        let expected = expected.map(|[x, y]| [x, y, 0.0]);
-        assert_eq!(plane.grid([2, 1]), expected.as_flattened());
-    }
-
-    #[test]
-    fn the_first_coordinate_that_the_library_refuses_is_found() {
-        let steps @ [m, n] = [4, 2];
-        let cases = [
-            ("x = u; y = v; z = 2^40*u", None),
-            (
-                "x = u; y = v; z = -2^40*(1 + 2^-52)*u",
-                Some("z = -1099511627776.0002 at u = 1.0, v = 0.0"),
-            ),
-            (
-                "x = 1/(v - 1); y = sqrt(-1); z = 0",
-                Some("y = NaN at u = 0.0, v = 0.0"),
-            ),
-            (
-                "x = 1/(v - 1); y = sqrt(u); z = 1/u",
-                Some("z = inf at u = 0.0, v = 0.0"),
-            ),
-            (
-                "x = 1/(v - 1) + u; y = sqrt(-u); z = 0",
-                Some("x = inf at u = 0.0, v = 1.0"),
-            ),
-        ];
-        for (formula, expected) in cases {
-            let surface = ParametricSurface {
-                u: [0.0, 1.0],
-                v: [0.0, 2.0],
-                ..ParametricSurface::own(Formula::parse(formula).expect("a formula"))
-            };
-            let refused = Surface::new(&surface.grid(steps), m, n).err();
-            assert_eq!(refused, expected.map(|_| Refusal::Coordinate), "{formula}");
-            assert_eq!(surface.first_refused(steps).as_deref(), expected);
-        }
-    }
-}

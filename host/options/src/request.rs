@@ -2,8 +2,6 @@
 
 use crate::formula::{Formula, constant};
 use crate::parametric::{NAMES, ParametricSurface};
-use crate::svg::Style;
-use merlontrispa::Texture;
 use std::collections::BTreeMap;
 
 const WITH_VALUE: [&str; 9] = [
@@ -30,21 +28,72 @@ const ARMS: usize = 2;
 /// What the user asks for.
 #[derive(Debug, Clone, PartialEq)]
 pub enum Request {
+    /// The help.
     Help,
+    /// A card.
     Card(Box<Options>),
 }
 
 /// What is to be drawn, and where to.
 #[derive(Debug, Clone, PartialEq)]
 pub struct Options {
+    /// The surface.
     pub surface: ParametricSurface,
+    /// Its steps in u and in v.
     pub steps: [usize; 2],
+    /// The lines on it.
     pub texture: Texture,
+    /// What is drawn beside them.
     pub style: Style,
+    /// The file that is written, `-` for standard output.
     pub output: String,
 }
 
+/// The lines on a surface.
+#[derive(Debug, Clone, Copy, PartialEq)]
+pub enum Texture {
+    /// The lines of its grid.
+    Grid,
+    /// Rays round the middle of u and v.
+    Swirl {
+        /// How far apart the rays end, in steps.
+        spacing: f64,
+        /// Turns of a ray on its way.
+        twist: f64,
+    },
+    /// Arms that wind round the middle of u and v.
+    Spiral {
+        /// How far apart the turns lie, in steps.
+        spacing: f64,
+        /// How many arms.
+        arms: usize,
+    },
+}
+
+/// What is drawn beside the lines of the texture and the rim, and how.
+#[derive(Debug, Clone, Copy, PartialEq, Eq, Default)]
+pub struct Style {
+    /// Whether the seams are drawn, in colours that tell forward from reversed.
+    pub seams: bool,
+    /// Whether the triangles of flipped pairs are filled.
+    pub flipped: bool,
+    /// Whether each line is one polyline, as strong as the others.
+    pub plain: bool,
+}
+
 impl Request {
+    /// The request of this program's command line.
+    ///
+    /// # Errors
+    /// As `parse`.
+    pub fn given() -> Result<Self, String> {
+        let words = std::env::args_os().skip(1);
+        let words: Result<Vec<_>, _> = words.map(|word| word.into_string()).collect();
+        Self::parse(words.map_err(|_| "the options are not all in UTF-8")?)
+    }
+
+    /// The request of a command's words.
+    ///
     /// # Errors
     /// A sentence about the first fault; a fault in a formula is shown in two lines more.
     pub fn parse(words: impl IntoIterator<Item = String>) -> Result<Self, String> {
