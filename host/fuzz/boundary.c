@@ -243,6 +243,23 @@ static void read_line(struct input *input) {
 /* What a curve is drawn into. */
 struct page { struct list points, starts, sides, fractions; };
 
+/* Lists of so many numbers each, in the places from this one on. */
+static struct page lend_page(int place, const size_t lens[4], int front) {
+    return (struct page){lend(place, lens[0] * sizeof(double), front),
+                         lend(place + 1, lens[1] * sizeof(size_t), front),
+                         lend(place + 2, lens[2] * sizeof(size_t), front),
+                         lend(place + 3, lens[3] * sizeof(double), front)};
+}
+
+static int same_bytes(const struct list *a, const struct list *b) {
+    return !memcmp(a->at, b->at, a->bytes);
+}
+
+static int same_page(const struct page *a, const struct page *b) {
+    return same_bytes(&a->points, &b->points) && same_bytes(&a->starts, &b->starts)
+        && same_bytes(&a->sides, &b->sides) && same_bytes(&a->fractions, &b->fractions);
+}
+
 static int page_untouched(const struct page *page) {
     return untouched(&page->points) && untouched(&page->starts) && untouched(&page->sides)
         && untouched(&page->fractions);
@@ -304,6 +321,25 @@ static struct list any_marks(struct input *input, size_t samples, int front) {
     return list;
 }
 
+/* The records of these pairs and marks are traced as the pairs and marks were. */
+static void records_hold(const struct grid *grid, const double *pairs, const uint8_t *marks, size_t samples,
+                         const size_t lens[4], int front, const struct page *flat, mt_paths_answer told) {
+    struct list list = lend(7, samples * sizeof(mt_sample), front);
+    mt_sample *records = list.at;
+    for (size_t i = 0; i < samples; i++) {
+        records[i].mark = marks[i];
+        records[i].point = (mt_param_point){pairs[2 * i], pairs[2 * i + 1]};
+    }
+    keep(&list);
+    struct page page = lend_page(8, lens, front);
+    mt_paths_answer again = mt_trace_samples(
+        grid->list.at, grid->length, grid->m, grid->n, records, samples, page.points.at, lens[0],
+        page.starts.at, lens[1], page.sides.at, lens[2], page.fractions.at, lens[3]);
+    HOLDS(untouched(&grid->list) && untouched(&list));
+    HOLDS(again.refusal == told.refusal && again.points == told.points && again.lines == told.lines);
+    HOLDS(same_page(&page, flat));
+}
+
 static void trace(struct input *input) {
     int front = byte(input) % 2;
     struct grid grid = any_grid(input, front);
@@ -315,9 +351,7 @@ static void trace(struct input *input) {
     for (int i = 0; i < 4; i++) {
         lens[i] = length(input, lens[i]);
     }
-    struct page page = {
-        lend(3, lens[0] * sizeof(double), front), lend(4, lens[1] * sizeof(size_t), front),
-        lend(5, lens[2] * sizeof(size_t), front), lend(6, lens[3] * sizeof(double), front)};
+    struct page page = lend_page(3, lens, front);
     mt_paths_answer told = mt_trace_flat(
         grid.list.at, grid.length, grid.m, grid.n, pairs.at, pairs_len, marks.at, samples, page.points.at,
         lens[0], page.starts.at, lens[1], page.sides.at, lens[2], page.fractions.at, lens[3]);
@@ -337,6 +371,9 @@ static void trace(struct input *input) {
         noted(told.lines);
         HOLDS(page_zero(&page, told.points, told.lines));
         drawn_holds(&grid, &page, told.points, told.lines);
+    }
+    if (pairs_len == 2 * samples) {
+        records_hold(&grid, pairs.at, marks.at, samples, lens, front, &page, told);
     }
 }
 
