@@ -126,9 +126,12 @@ pub some : (a : Axis) (s : Shape) → HasSteps s → (0 < columns a s) × (0 < r
 some axisU s h = (h .u-some, h .v-some)
 some axisV s h = (h .v-some, h .u-some)
 
+or-left : {a : Bool} (b : Bool) → a ≡ true → (a || b) ≡ true
+or-left b e = rw e
+
 pub enough-columns : (a : Axis) (s : Shape) → HasSteps s → joined (seamOf a s) ≡ true → 3 ≤ columns a s
-enough-columns axisU s h e = h .enough .0 (ap (λ (t : Bool). t || reversed (s .sv)) e)
-enough-columns axisV s h e = h .enough .1 (ap (λ (t : Bool). t || reversed (s .su)) e)
+enough-columns axisU s h e = h .enough .0 (or-left _ e)
+enough-columns axisV s h e = h .enough .1 (or-left _ e)
 
 pub enough-rows : (a : Axis) (s : Shape) → HasSteps s → (joined (closing a s) || reversed (seamOf a s)) ≡ true → 3 ≤ rows a s
 enough-rows axisU s h e = h .enough .1 e

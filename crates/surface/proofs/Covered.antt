@@ -25,4 +25,3 @@ pub data Covered (s : Shape) : Type 0 where
   only-v : s .su ≡ unjoined → AtZero (s .sv) → Covered s
   both-u : Beside (s .rule) (s .su) (s .N) → s .sv ≡ forward 0 → Covered s
   both-v : s .su ≡ forward 0 → Beside (s .rule) (s .sv) (s .M) → Covered s
-
