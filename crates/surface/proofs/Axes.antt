@@ -3,10 +3,10 @@
 use Prim.Native.Nat.{ℕ, zero, suc, _+_, _-_, _*_, _/_, _%_, _≤_, _<_}
 use mathlib.Core.Path.{_≡_, refl, sym, ap, _∙_, subst}
 use mathlib.Core.Logic.{_⊎_, inl, inr, ⊎-elim}
-use mathlib.Core.Bool.{Bool, true, false, not, true≢false}
+use mathlib.Core.Bool.{Bool, true, false, _||_, not, true≢false}
 use native.Mathlib.Omega.{arith}
 use lib.Arith.{digits-div, digits-mod}
-use Rattle.surface.specs.Surface.{Seam, unjoined, forward, reverse, joined, inverse, Rule, once, twice, Split, falling, rising, Shape, number, at}
+use Rattle.surface.specs.Surface.{Seam, unjoined, forward, reverse, joined, reversed, inverse, Rule, once, twice, Split, falling, rising, Shape, number, at, EnoughSteps}
 use Rattle.surface.proofs.Covered.{AtZero, Beside, Covered, neither, only-u, only-v, both-u, both-v}
 use Rattle.surface.proofs.Steps.{Fits, Offset, inv-forward-0, inv-forward, inv-reverse}
 use Rattle.surface.proofs.Strip.{Strip, Kind, straight, across, diagonal}
@@ -116,12 +116,29 @@ pub number-inj : (a : Axis) (s : Shape) (x y x′ y′ : ℕ) → x ≤ columns 
 number-inj axisU s x y x′ y′ h k h′ k′ e = digits-inj x y x′ y′ (s .N + 1) (omega arith) (omega arith) e
 number-inj axisV s x y x′ y′ h k h′ k′ e = let r = digits-inj y x y′ x′ (s .N + 1) (omega arith) (omega arith) e in (r .1, r .0)
 
-pub three : (a : Axis) (s : Shape) → 3 ≤ s .M → 3 ≤ s .N → (3 ≤ columns a s) × (3 ≤ rows a s)
-three axisU s m n = (m, n)
-three axisV s m n = (n, m)
+-- steps both ways, and enough of them
+pub record HasSteps (s : Shape) : Type 0 where
+  pub u-some : 0 < s .M
+  pub v-some : 0 < s .N
+  pub enough : EnoughSteps s
 
-unfoldable pub strip : (s : Shape) → 3 ≤ s .M → 3 ≤ s .N → (a : Axis) → SeenAlong a s → Strip
-strip s m n a w =
+pub some : (a : Axis) (s : Shape) → HasSteps s → (0 < columns a s) × (0 < rows a s)
+some axisU s h = (h .u-some, h .v-some)
+some axisV s h = (h .v-some, h .u-some)
+
+or-left : {a : Bool} (b : Bool) → a ≡ true → (a || b) ≡ true
+or-left b e = rw e
+
+pub enough-columns : (a : Axis) (s : Shape) → HasSteps s → joined (seamOf a s) ≡ true → 3 ≤ columns a s
+enough-columns axisU s h e = h .enough .0 (or-left _ e)
+enough-columns axisV s h e = h .enough .1 (or-left _ e)
+
+pub enough-rows : (a : Axis) (s : Shape) → HasSteps s → (joined (closing a s) || reversed (seamOf a s)) ≡ true → 3 ≤ rows a s
+enough-rows axisU s h e = h .enough .1 e
+enough-rows axisV s h e = h .enough .0 e
+
+unfoldable pub strip : (s : Shape) → HasSteps s → (a : Axis) → SeenAlong a s → Strip
+strip s h a w =
     record {
       X = columns a s;
       Y = rows a s;
@@ -129,8 +146,10 @@ strip s m n a w =
       seam = seamOf a s;
       split = s .split;
       num = λ x y. number s (at (xOf a x y) (yOf a x y));
-      X≥3 = three a s m n .0;
-      Y≥3 = three a s m n .1;
+      X>0 = some a s h .0;
+      Y>0 = some a s h .1;
+      X≥3 = enough-columns a s h;
+      Y≥3 = enough-rows a s h;
       fits = w .fits;
       inj = number-inj a s;
       half = sideHalf a (s .split);

@@ -71,7 +71,7 @@ RimAt S across true x y = (S .closed ≡ false) × (y + 1 ≡ S .Y)
 RimAt S diagonal t x y = ⊥
 
 module _ (S : Strip) where
-  open Strip S using (X, Y, closed, seam, split, num, X≥3, Y≥3, fits, inj)
+  open Strip S using (X, Y, closed, seam, split, num, X>0, Y>0, fits, inj)
 
   pub valid : (k : Kind) (t : Bool) (x y : ℕ) → Cell S x y → Valid S k (nameX S k t x) (nameY S k t x y)
   valid straight false x y c = (omega arith, c .1)

@@ -25,7 +25,3 @@ pub data Covered (s : Shape) : Type 0 where
   only-v : s .su ≡ unjoined → AtZero (s .sv) → Covered s
   both-u : Beside (s .rule) (s .su) (s .N) → s .sv ≡ forward 0 → Covered s
   both-v : s .su ≡ forward 0 → Beside (s .rule) (s .sv) (s .M) → Covered s
-
--- for every covered joining with at least 3 steps each way
-abbrev pub CoveredMeets : Type 0
-CoveredMeets = (s : Shape) → 3 ≤ s .M → 3 ≤ s .N → Covered s → Meets s

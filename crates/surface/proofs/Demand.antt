@@ -1,4 +1,4 @@
--- Demand 3 for every covered joining with at least 3 steps each way. Seen along one of its seams the surface is a strip, in which all is said of
+-- Demand 3 for every covered joining with enough steps. Seen along one of its seams the surface is a strip, in which all is said of
 -- halves of cells (Owners, Directions); what is left is to say it of triangle numbers, which are the slots' since no triangle is left out.
 -- Assumes nothing.
 use Prim.Native.Nat.{ℕ, _+_, _-_, _*_, _≤_, _<_, min, max}
@@ -12,13 +12,13 @@ use lib.ListN.{length}
 use borrow.Author.Tests.{ne-eqb}
 use Rattle.cyclic.specs.Mapping.{pick}
 use Rattle.surface.specs.Surface.{Seam, unjoined, forward, reverse, reversed, Shape, J, Triangle, slot, proper, slots, triangles, Pair, pair, ordered, triangleNumber, stepOn, process, flipped, Follows, nth, Owns, OwnedOnce, OwnedTwice, Rim, SameWay, GridEdge, along-u, along-v, number, at, Jₙ, Meets, falls, rises}
-use Rattle.surface.proofs.Covered.{CoveredMeets}
+use Rattle.surface.proofs.Covered.{Covered}
 use Rattle.surface.proofs.Steps.{lt-or-le, Fits, laidOn, on-below}
-use Rattle.surface.proofs.Strip.{Strip, straight}
+use Rattle.surface.proofs.Strip.{Strip, straight, reversed≥3}
 use Rattle.surface.proofs.CellSides.{Cell}
 use Rattle.surface.proofs.Owners.{Holds, SameTri, Other, owned}
 use Rattle.surface.proofs.Directions.{Runs, Turn, runs-holds, holds-flip, holds-runs, runs-differ, same-way, turn-shared}
-use Rattle.surface.proofs.Axes.{Axis, xOf, yOf, turn-x, turn-y, SeenAlong, strip, covered-along}
+use Rattle.surface.proofs.Axes.{Axis, xOf, yOf, turn-x, turn-y, SeenAlong, HasSteps, strip, covered-along}
 use Rattle.surface.proofs.Seen.{to-runs, from-runs, seen-cell, rim-seen, seen-rim, edge-seen, lows, highs, low-index, high-index, flipped-seen}
 use Rattle.surface.proofs.Triangles.{index, halfAt, uAt, vAt, slot-at, uAt-lt, vAt-lt, index-at, index-lt, uAt-index, vAt-index, halfAt-index, kept-length, kept-at}
 use Rattle.surface.proofs.Pairs.{step-on, pair-eq, mem-in, process-to, process-from}
@@ -31,9 +31,9 @@ reversed-step (reverse o) c n y h f e k = step-on o c n y h f k
 reversed-step unjoined c n y h f e k = cc
 reversed-step (forward o) c n y h f e k = cc
 
-module _ (s : Shape) (m : 3 ≤ s .M) (n : 3 ≤ s .N) (ax : Axis) (seen : SeenAlong ax s) where
+module _ (s : Shape) (steps : HasSteps s) (ax : Axis) (seen : SeenAlong ax s) where
   abbrev Z : Strip
-  Z = strip s m n ax seen
+  Z = strip s steps ax seen
 
   abbrev Run : Bool → ℕ → ℕ → ℕ → ℕ → Type 0
   Run = Runs Z
@@ -56,10 +56,10 @@ module _ (s : Shape) (m : 3 ≤ s .M) (n : 3 ≤ s .N) (ax : Axis) (seen : SeenA
   v-lt i = vAt-lt s i (omega arith)
 
   slot-runs : (i a b : ℕ) → i < slots s → Follows (slot s i) a b → Run (halfAt i) (xAt i) (yAt i) a b
-  slot-runs i a b h F = to-runs s m n ax seen (halfAt i) (uAt s i) (vAt s i) a b (u-lt i h) (v-lt i) (subst (λ (t : Triangle). Follows t a b) (slot-at s i) F)
+  slot-runs i a b h F = to-runs s steps ax seen (halfAt i) (uAt s i) (vAt s i) a b (u-lt i h) (v-lt i) (subst (λ (t : Triangle). Follows t a b) (slot-at s i) F)
 
   runs-slot : (i a b : ℕ) → i < slots s → Run (halfAt i) (xAt i) (yAt i) a b → Follows (slot s i) a b
-  runs-slot i a b h r = subst (λ (t : Triangle). Follows t a b) (sym (slot-at s i)) (from-runs s m n ax seen (halfAt i) (uAt s i) (vAt s i) a b (u-lt i h) (v-lt i) r)
+  runs-slot i a b h r = subst (λ (t : Triangle). Follows t a b) (sym (slot-at s i)) (from-runs s steps ax seen (halfAt i) (uAt s i) (vAt s i) a b (u-lt i h) (v-lt i) r)
 
   slot-proper : (i : ℕ) → i < slots s → proper (slot s i) ≡ true
   slot-proper i h =
@@ -114,7 +114,7 @@ module _ (s : Shape) (m : 3 ≤ s .M) (n : 3 ≤ s .N) (ax : Axis) (seen : SeenA
 
   indexOf-lt : (h : Bool) (x y : ℕ) → Cell Z x y → indexOf h x y < slots s
   unfolding indexOf
-  indexOf-lt h x y c = let b = seen-cell s m n ax seen x y c in index-lt s h (xOf ax x y) (yOf ax x y) (b .0) (b .1)
+  indexOf-lt h x y c = let b = seen-cell s steps ax seen x y c in index-lt s h (xOf ax x y) (yOf ax x y) (b .0) (b .1)
 
   half-indexOf : (h : Bool) (x y : ℕ) → halfAt (indexOf h x y) ≡ h
   unfolding indexOf
@@ -122,11 +122,11 @@ module _ (s : Shape) (m : 3 ≤ s .M) (n : 3 ≤ s .N) (ax : Axis) (seen : SeenA
 
   x-indexOf : (h : Bool) (x y : ℕ) → Cell Z x y → xAt (indexOf h x y) ≡ x
   unfolding indexOf
-  x-indexOf h x y c = let b = seen-cell s m n ax seen x y c in cc (uAt-index s h (xOf ax x y) (yOf ax x y) (b .1), vAt-index s h (xOf ax x y) (yOf ax x y) (b .1), turn-x ax x y)
+  x-indexOf h x y c = let b = seen-cell s steps ax seen x y c in cc (uAt-index s h (xOf ax x y) (yOf ax x y) (b .1), vAt-index s h (xOf ax x y) (yOf ax x y) (b .1), turn-x ax x y)
 
   y-indexOf : (h : Bool) (x y : ℕ) → Cell Z x y → yAt (indexOf h x y) ≡ y
   unfolding indexOf
-  y-indexOf h x y c = let b = seen-cell s m n ax seen x y c in cc (uAt-index s h (xOf ax x y) (yOf ax x y) (b .1), vAt-index s h (xOf ax x y) (yOf ax x y) (b .1), turn-y ax x y)
+  y-indexOf h x y c = let b = seen-cell s steps ax seen x y c in cc (uAt-index s h (xOf ax x y) (yOf ax x y) (b .1), vAt-index s h (xOf ax x y) (yOf ax x y) (b .1), turn-y ax x y)
 
   indexOf-at : (i : ℕ) → indexOf (halfAt i) (xAt i) (yAt i) ≡ i
   unfolding indexOf
@@ -183,14 +183,14 @@ module _ (s : Shape) (m : 3 ≤ s .M) (n : 3 ≤ s .N) (ax : Axis) (seen : SeenA
   sides : (a b i : ℕ) → Owns (triangles s) a b i → (Rim s a b × OwnedOnce (triangles s) a b) ⊎ ((Rim s a b → ⊥) × OwnedTwice (triangles s) a b)
   sides a b i o =
       ⊎-elim
-      (λ w. inl (seen-rim s m n ax seen a b (w .0), owned-once a b i o (w .1)))
-      (λ w. inr (λ r. w .0 (rim-seen s m n ax seen a b r), owned-twice a b i o (w .1)))
+      (λ w. inl (seen-rim s steps ax seen a b (w .0), owned-once a b i o (w .1)))
+      (λ w. inr (λ r. w .0 (rim-seen s steps ax seen a b r), owned-twice a b i o (w .1)))
       (owned Z (halfAt i) (xAt i) (yAt i) a b (owns-holds a b i o))
 
   -- each grid edge is a side of a cell, and so of one of its halves
   edges : (u v u′ v′ : ℕ) → GridEdge s u v u′ v′ → (i : ℕ) × Owns (triangles s) (J s u v) (J s u′ v′) i
   edges u v u′ v′ g =
-      let e = edge-seen s m n ax seen u v u′ v′ g in
+      let e = edge-seen s steps ax seen u v u′ v′ g in
       let h = Z .half (e .k) (e .t) in
       let p : Hold h (e .x) (e .y) (J s u v) (J s u′ v′) = record { k = e .k; t = e .t; cell = e .cell; on = refl; ends = e .ends } in
       (indexOf h (e .x) (e .y), holds-owns (J s u v) (J s u′ v′) (indexOf h (e .x) (e .y)) (indexOf-lt h (e .x) (e .y) (e .cell)) (at-index (λ h x y. Hold h x y (J s u v) (J s u′ v′)) h (e .x) (e .y) (e .cell) p))
@@ -214,7 +214,7 @@ module _ (s : Shape) (m : 3 ≤ s .M) (n : 3 ≤ s .N) (ax : Axis) (seen : SeenA
 
   far-is : far + 1 ≡ Z .X
   unfolding far
-  far-is = omega (arith, Z .X≥3)
+  far-is = omega (arith, Z .X>0)
 
   low-is : (y : ℕ) → y < Z .Y → lows ax s y ≡ indexOf low-half 0 y
   unfolding indexOf low-half strip
@@ -228,7 +228,7 @@ module _ (s : Shape) (m : 3 ≤ s .M) (n : 3 ≤ s .N) (ax : Axis) (seen : SeenA
   on-lt y h = on-below (Z .seam) (Z .closed) (Z .Y) y (Z .fits) h
 
   low-cell : (y : ℕ) → y < Z .Y → Cell Z 0 y
-  low-cell y h = (omega (arith, Z .X≥3), h)
+  low-cell y h = (Z .X>0, h)
 
   high-cell : (y : ℕ) → y < Z .Y → Cell Z far y
   high-cell y h = (omega (arith, far-is), h)
@@ -265,7 +265,7 @@ module _ (s : Shape) (m : 3 ≤ s .M) (n : 3 ≤ s .N) (ax : Axis) (seen : SeenA
   listed i j t =
       mem-in (sym (flipped-reversed (t .rev)))
       (Memᴰ·cast (cc (turn-low i j t, turn-high i j t))
-      (process-from s (Z .seam) (Z .Y) (lows ax s) (highs ax s) on (λ y h. reversed-step (Z .seam) (Z .closed) (Z .Y) y (Z .Y≥3) (Z .fits) (t .rev) h) on-lt low-ok high-ok (Z .Y) (omega arith) (yAt j) (t .below)))
+      (process-from s (Z .seam) (Z .Y) (lows ax s) (highs ax s) on (λ y h. reversed-step (Z .seam) (Z .closed) (Z .Y) y (reversed≥3 Z (t .rev) .1) (Z .fits) (t .rev) h) on-lt low-ok high-ok (Z .Y) (omega arith) (yAt j) (t .below)))
 
   -- two triangles that run the same way are at a turn, and so a listed pair
   way-flipped : (i j : ℕ) → i < j → SameWay (triangles s) i j → List·Memᴰ (pair i j) (flipped s)
@@ -302,9 +302,9 @@ module _ (s : Shape) (m : 3 ≤ s .M) (n : 3 ≤ s .N) (ax : Axis) (seen : SeenA
         along-j = runs-nth j (r .a) (r .b) lj (at-index (λ h x y. Run h x y (r .a) (r .b)) high-half far y ch (r .two));
       }
 
-  turn-apart : (y : ℕ) → y < Z .Y → indexOf low-half 0 (on y) ≡ indexOf high-half far y → ⊥
-  turn-apart y h e =
-      omega (arith, sym (x-indexOf low-half 0 (on y) (low-cell (on y) (on-lt y h))) ∙ ap xAt e ∙ x-indexOf high-half far y (high-cell y h), far-is, Z .X≥3)
+  turn-apart : (y : ℕ) → reversed (Z .seam) ≡ true → y < Z .Y → indexOf low-half 0 (on y) ≡ indexOf high-half far y → ⊥
+  turn-apart y r h e =
+      omega (arith, sym (x-indexOf low-half 0 (on y) (low-cell (on y) (on-lt y h))) ∙ ap xAt e ∙ x-indexOf high-half far y (high-cell y h), far-is, reversed≥3 Z r .0)
 
   ordered-way : (p : Pair) (i j : ℕ) → p ≡ ordered i j → (i ≡ j → ⊥) → SameWay (triangles s) i j → (p .low < p .high) × SameWay (triangles s) (p .low) (p .high)
   ordered-way p i j e d w =
@@ -326,16 +326,16 @@ module _ (s : Shape) (m : 3 ≤ s .M) (n : 3 ≤ s .N) (ax : Axis) (seen : SeenA
       go : (t : Bool) → reversed (Z .seam) ≡ t → (p .low < p .high) × SameWay (triangles s) (p .low) (p .high)
       go false e = absurd (List·Memᴰ·not-nil (mem-in (flipped-none e) q))
       go true e =
-          let t = process-to s (Z .seam) (Z .Y) (lows ax s) (highs ax s) on (λ y h. reversed-step (Z .seam) (Z .closed) (Z .Y) y (Z .Y≥3) (Z .fits) e h) on-lt low-ok high-ok (Z .Y) (omega arith) p (mem-in (flipped-reversed e) q) in
+          let t = process-to s (Z .seam) (Z .Y) (lows ax s) (highs ax s) on (λ y h. reversed-step (Z .seam) (Z .closed) (Z .Y) y (reversed≥3 Z e .1) (Z .fits) e h) on-lt low-ok high-ok (Z .Y) (omega arith) p (mem-in (flipped-reversed e) q) in
           let y = t .0 in
           let f : p ≡ ordered (indexOf low-half 0 (on y)) (indexOf high-half far y) = t .2 ∙ cc (low-is (on y) (on-lt y (t .1)), high-is far y far-is (t .1)) in
-          ordered-way p (indexOf low-half 0 (on y)) (indexOf high-half far y) f (turn-apart y (t .1)) (shared-way y (t .1) e)
+          ordered-way p (indexOf low-half 0 (on y)) (indexOf high-half far y) f (turn-apart y e (t .1)) (shared-way y (t .1) e)
 
   pub meets : Meets s
   meets = record { sides = sides; flipped-if = way-flipped; flipped-only-if = flipped-way; edges = edges }
 
-pub covered-meets : CoveredMeets
-covered-meets s m n c = let w = covered-along s c in meets s m n (w .0) (w .1)
+pub covered-meets : (s : Shape) → HasSteps s → Covered s → Meets s
+covered-meets s steps c = let w = covered-along s c in meets s steps (w .0) (w .1)
 
 -- J of a point by its number
 pub J-number : (s : Shape) (u v : ℕ) → v ≤ s .N → Jₙ s (u * (s .N + 1) + v) ≡ J s u v

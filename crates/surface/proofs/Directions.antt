@@ -15,7 +15,7 @@ use Rattle.surface.proofs.CellSides.{Cell, sideFrom, sideTo, nameX, nam
 use Rattle.surface.proofs.Owners.{same-flip, not-self, Holds, compare, SameTri, Opposite}
 
 module _ (S : Strip) where
-  open Strip S using (X, Y, closed, seam, split, num, X≥3, Y≥3, fits, inj)
+  open Strip S using (X, Y, closed, seam, split, num, X>0, Y>0, fits, inj)
 
   -- the two ends of a side differ
   names-differ : (k : Kind) (x y : ℕ) → Valid S k x y → nameFrom S k x y ≡ nameTo S k x y → ⊥

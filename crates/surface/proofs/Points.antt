@@ -15,7 +15,7 @@ use Rattle.surface.proofs.Steps.{eqb-cases, wrap, wrap-open, wrap-close
 use Rattle.surface.proofs.Strip.{Strip, colOf, rowOf, pointOf, row-below, col-below}
 use Rattle.surface.proofs.CellSides.{shift, shift-le, corners}
 use Rattle.surface.proofs.Halves.{cellCorners}
-use Rattle.surface.proofs.Axes.{Axis, axisU, axisV, columns, rows, seamOf, closing, xOf, yOf, Plain, KeepsInside, SeenAlong, strip, three}
+use Rattle.surface.proofs.Axes.{Axis, axisU, axisV, columns, rows, seamOf, closing, xOf, yOf, Plain, KeepsInside, SeenAlong, HasSteps, some, strip}
 
 -- ---- the two rules, by column and row
 
@@ -79,11 +79,11 @@ pick-wrap false c n i j = refl
 pt-same : (a : Axis) {x y x′ y′ : ℕ} → x ≡ x′ → y ≡ y′ → pt a x y ≡ pt a x′ y′
 pt-same a p q = cc
 
-module _ (s : Shape) (m : 3 ≤ s .M) (n : 3 ≤ s .N) (a : Axis) (w : SeenAlong a s) where
+module _ (s : Shape) (steps : HasSteps s) (a : Axis) (w : SeenAlong a s) where
   open SeenAlong w using (fits, plain)
 
   abbrev S : Strip
-  S = strip s m n a w
+  S = strip s steps a w
 
   abbrev X : ℕ
   X = columns a s
@@ -102,10 +102,10 @@ module _ (s : Shape) (m : 3 ≤ s .M) (n : 3 ≤ s .N) (a : Axis) (w : SeenAlong
   inv y = inverse (seamOf a s) Y y
 
   X>0 : 0 < X
-  X>0 = omega (arith, three a s m n)
+  X>0 = some a s steps .0
 
   Y>0 : 0 < Y
-  Y>0 = omega (arith, three a s m n)
+  Y>0 = some a s steps .1
 
   -- the strip's point
   place : ℕ → ℕ → Point
@@ -187,17 +187,17 @@ module _ (s : Shape) (m : 3 ≤ s .M) (n : 3 ≤ s .N) (a : Axis) (w : SeenAlong
 
 -- ---- J and the corner rule
 
-joined-place : (s : Shape) (m : 3 ≤ s .M) (n : 3 ≤ s .N) (a : Axis) (w : SeenAlong a s) (r : Rule) →
-    KeepsInside r (seamOf a s) (joined (closing a s)) (rows a s) → (x y : ℕ) → y ≤ rows a s → joinedBy r s (pt a x y) ≡ place s m n a w x y
+joined-place : (s : Shape) (steps : HasSteps s) (a : Axis) (w : SeenAlong a s) (r : Rule) →
+    KeepsInside r (seamOf a s) (joined (closing a s)) (rows a s) → (x y : ℕ) → y ≤ rows a s → joinedBy r s (pt a x y) ≡ place s steps a w x y
 unfolding joinedBy
-joined-place s m n axisU w once k x y h = seam-closing s m n axisU w x y
-joined-place s m n axisU w twice k x y h =
-    ap (λ (p : Point). vRule s (uRule s p)) (seam-closing s m n axisU w x y) ∙ ap (vRule s) (seam-stays s m n axisU w x y) ∙ closing-stays s m n axisU w x y
-joined-place s m n axisV w once k x y h = closing-seam s m n axisV w k x y h
-joined-place s m n axisV w twice k x y h =
+joined-place s steps axisU w once k x y h = seam-closing s steps axisU w x y
+joined-place s steps axisU w twice k x y h =
+    ap (λ (p : Point). vRule s (uRule s p)) (seam-closing s steps axisU w x y) ∙ ap (vRule s) (seam-stays s steps axisU w x y) ∙ closing-stays s steps axisU w x y
+joined-place s steps axisV w once k x y h = closing-seam s steps axisV w k x y h
+joined-place s steps axisV w twice k x y h =
     ap (λ (p : Point). vRule s (uRule s (vRule s p))) (closing-rule s axisV x y (w .plain))
-    ∙ ap (vRule s) (seam-closing s m n axisV w x (wrap (joined (s .su)) (s .M) y) ∙ closed-first s m n axisV w x y)
-    ∙ seam-stays s m n axisV w x y
+    ∙ ap (vRule s) (seam-closing s steps axisV w x (wrap (joined (s .su)) (s .M) y) ∙ closed-first s steps axisV w x y)
+    ∙ seam-stays s steps axisV w x y
 
 -- a corner is where both rules lead; before row N−1, where the u rule leads
 corner-once : (s : Shape) (row : ℕ) (p q : Point) → vRule s (uRule s p) ≡ q → ((row + 1 ≡ s .N → ⊥) → uRule s p ≡ q) → cornerBy once s row p ≡ q
@@ -213,25 +213,25 @@ twice-corner : (s : Shape) (row : ℕ) (p : Point) → cornerBy twice s row p �
 unfolding cornerBy joinedBy
 twice-corner s row p = refl
 
-corner-place : (s : Shape) (m : 3 ≤ s .M) (n : 3 ≤ s .N) (a : Axis) (w : SeenAlong a s) (r : Rule) →
+corner-place : (s : Shape) (steps : HasSteps s) (a : Axis) (w : SeenAlong a s) (r : Rule) →
     KeepsInside r (seamOf a s) (joined (closing a s)) (rows a s) → (row u v : ℕ) → row < s .N → v ≤ row + 1 → u ≤ s .M →
-    cornerBy r s row (at u v) ≡ place s m n a w (xOf a u v) (yOf a u v)
-corner-place s m n axisU w once k row u v h i l =
-    corner-once s row (at u v) (place s m n axisU w u v) (seam-closing s m n axisU w u v) (λ e. seam-alone s m n axisU w k u v (omega arith))
-corner-place s m n axisV w once k row u v h i l =
-    corner-once s row (at u v) (place s m n axisV w v u) (closing-seam s m n axisV w k v u l) (λ e. closing-alone s m n axisV w v u (omega arith))
-corner-place s m n axisU w twice k row u v h i l = twice-corner s row (at u v) ∙ joined-place s m n axisU w twice k u v (omega arith)
-corner-place s m n axisV w twice k row u v h i l = twice-corner s row (at u v) ∙ joined-place s m n axisV w twice k v u l
+    cornerBy r s row (at u v) ≡ place s steps a w (xOf a u v) (yOf a u v)
+corner-place s steps axisU w once k row u v h i l =
+    corner-once s row (at u v) (place s steps axisU w u v) (seam-closing s steps axisU w u v) (λ e. seam-alone s steps axisU w k u v (omega arith))
+corner-place s steps axisV w once k row u v h i l =
+    corner-once s row (at u v) (place s steps axisV w v u) (closing-seam s steps axisV w k v u l) (λ e. closing-alone s steps axisV w v u (omega arith))
+corner-place s steps axisU w twice k row u v h i l = twice-corner s row (at u v) ∙ joined-place s steps axisU w twice k u v (omega arith)
+corner-place s steps axisV w twice k row u v h i l = twice-corner s row (at u v) ∙ joined-place s steps axisV w twice k v u l
 
 -- J of a grid point is the strip's point
-pub J-is : (s : Shape) (m : 3 ≤ s .M) (n : 3 ≤ s .N) (a : Axis) (w : SeenAlong a s) (x y : ℕ) → x ≤ columns a s → y ≤ rows a s →
-    J s (xOf a x y) (yOf a x y) ≡ pointOf (strip s m n a w) x y
+pub J-is : (s : Shape) (steps : HasSteps s) (a : Axis) (w : SeenAlong a s) (x y : ℕ) → x ≤ columns a s → y ≤ rows a s →
+    J s (xOf a x y) (yOf a x y) ≡ pointOf (strip s steps a w) x y
 unfolding J pointOf strip place
-J-is s m n a w x y h k = ap (number s) (joined-place s m n a w (s .rule) (w .inside) x y k)
+J-is s steps a w x y h k = ap (number s) (joined-place s steps a w (s .rule) (w .inside) x y k)
 
 -- and so is a corner of a cell
-pub corner-is : (s : Shape) (m : 3 ≤ s .M) (n : 3 ≤ s .N) (a : Axis) (w : SeenAlong a s) (u v : ℕ) → u < s .M → v < s .N → (i j : Bool) →
-    cellCorners s u v i j ≡ corners (strip s m n a w) (xOf a u v) (yOf a u v) (xOf a i j) (yOf a i j)
+pub corner-is : (s : Shape) (steps : HasSteps s) (a : Axis) (w : SeenAlong a s) (u v : ℕ) → u < s .M → v < s .N → (i j : Bool) →
+    cellCorners s u v i j ≡ corners (strip s steps a w) (xOf a u v) (yOf a u v) (xOf a i j) (yOf a i j)
 unfolding corner pointOf strip place
-corner-is s m n axisU w u v h k i j = ap (number s) (corner-place s m n axisU w (s .rule) (w .inside) v (shift i u) (shift j v) k (shift-le j v) (omega (arith, shift-le i u)))
-corner-is s m n axisV w u v h k i j = ap (number s) (corner-place s m n axisV w (s .rule) (w .inside) v (shift i u) (shift j v) k (shift-le j v) (omega (arith, shift-le i u)))
+corner-is s steps axisU w u v h k i j = ap (number s) (corner-place s steps axisU w (s .rule) (w .inside) v (shift i u) (shift j v) k (shift-le j v) (omega (arith, shift-le i u)))
+corner-is s steps axisV w u v h k i j = ap (number s) (corner-place s steps axisV w (s .rule) (w .inside) v (shift i u) (shift j v) k (shift-le j v) (omega (arith, shift-le i u)))

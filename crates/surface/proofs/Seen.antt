@@ -14,7 +14,7 @@ use Rattle.surface.proofs.Rims.{EdgeAt, edge-flip, rim-to, rim-from, ed
 use Rattle.surface.proofs.Directions.{Runs, along-ends, ends-along}
 use Rattle.surface.proofs.Triangles.{halfNum, index}
 use Rattle.surface.proofs.Halves.{cellDir, start, finish, cellCorners, follows-run, run-follows, lowU-index, highU-index, lowV-index, highV-index}
-use Rattle.surface.proofs.Axes.{Axis, axisU, axisV, columns, rows, seamOf, closing, xOf, yOf, kindOf, turn-kind, sideHalf, sideDir, Plain, SeenAlong, strip}
+use Rattle.surface.proofs.Axes.{Axis, axisU, axisV, columns, rows, seamOf, closing, xOf, yOf, kindOf, turn-kind, sideHalf, sideDir, Plain, SeenAlong, HasSteps, strip}
 use Rattle.surface.proofs.Points.{J-is, corner-is}
 
 -- ---- runs along a cell's sides
@@ -70,21 +70,21 @@ high-index s axisV y = highV-index s y
 
 -- ---- cells
 
-pub cell-seen : (s : Shape) (m : 3 ≤ s .M) (n : 3 ≤ s .N) (a : Axis) (w : SeenAlong a s) (u v : ℕ) → u < s .M → v < s .N → Cell (strip s m n a w) (xOf a u v) (yOf a u v)
+pub cell-seen : (s : Shape) (steps : HasSteps s) (a : Axis) (w : SeenAlong a s) (u v : ℕ) → u < s .M → v < s .N → Cell (strip s steps a w) (xOf a u v) (yOf a u v)
 unfolding strip
-cell-seen s m n axisU w u v h k = (h, k)
-cell-seen s m n axisV w u v h k = (k, h)
+cell-seen s steps axisU w u v h k = (h, k)
+cell-seen s steps axisV w u v h k = (k, h)
 
-pub seen-cell : (s : Shape) (m : 3 ≤ s .M) (n : 3 ≤ s .N) (a : Axis) (w : SeenAlong a s) (x y : ℕ) → Cell (strip s m n a w) x y → (xOf a x y < s .M) × (yOf a x y < s .N)
+pub seen-cell : (s : Shape) (steps : HasSteps s) (a : Axis) (w : SeenAlong a s) (x y : ℕ) → Cell (strip s steps a w) x y → (xOf a x y < s .M) × (yOf a x y < s .N)
 unfolding strip
-seen-cell s m n axisU w x y c = (c .0, c .1)
-seen-cell s m n axisV w x y c = (c .1, c .0)
+seen-cell s steps axisU w x y c = (c .0, c .1)
+seen-cell s steps axisV w x y c = (c .1, c .0)
 
 -- ---- triangles, rims, edges and flipped pairs
 
-module _ (s : Shape) (m : 3 ≤ s .M) (n : 3 ≤ s .N) (a : Axis) (w : SeenAlong a s) where
+module _ (s : Shape) (steps : HasSteps s) (a : Axis) (w : SeenAlong a s) where
   abbrev S : Strip
-  S = strip s m n a w
+  S = strip s steps a w
 
   pub to-runs : (h : Bool) (i j p q : ℕ) → i < s .M → j < s .N → Follows (halfOf s (s .split) (halfNum h) i j) p q → Runs S h (xOf a i j) (yOf a i j) p q
   unfolding sideFrom sideTo strip
@@ -93,11 +93,11 @@ module _ (s : Shape) (m : 3 ≤ s .M) (n : 3 ≤ s .N) (a : Axis) (w : SeenAlong
       let y = yOf a i j in
       let r = follows-run s i j p q (s .split) h f in
       let k = kindOf a (r .k) in
-      let e = rw (turn-kind a (r .k)) at (run-is (cellCorners s i j) (corners S x y) a (corner-is s m n a w i j hi hj) (s .split) k (r .t)) in
+      let e = rw (turn-kind a (r .k)) at (run-is (cellCorners s i j) (corners S x y) a (corner-is s steps a w i j hi hj) (s .split) k (r .t)) in
       record {
         k = k;
         t = r .t;
-        cell = cell-seen s m n a w i j hi hj;
+        cell = cell-seen s steps a w i j hi hj;
         on = rw (turn-kind a (r .k)) (r .on);
         along = ends-along S (S .dir k (r .t)) p q (sideFrom S k (r .t) x y) (sideTo S k (r .t) x y) (r .from ∙ e .0) (r .to ∙ e .1);
       }
@@ -107,7 +107,7 @@ module _ (s : Shape) (m : 3 ≤ s .M) (n : 3 ≤ s .N) (a : Axis) (w : SeenAlong
   from-runs h i j p q hi hj r =
       let x = xOf a i j in
       let y = yOf a i j in
-      let e = run-is (cellCorners s i j) (corners S x y) a (corner-is s m n a w i j hi hj) (s .split) (r .k) (r .t) in
+      let e = run-is (cellCorners s i j) (corners S x y) a (corner-is s steps a w i j hi hj) (s .split) (r .k) (r .t) in
       let g = along-ends S (S .dir (r .k) (r .t)) p q (sideFrom S (r .k) (r .t) x y) (sideTo S (r .k) (r .t) x y) (r .along) in
       subst (λ (z : Bool). Follows (halfOf s (s .split) (halfNum z) i j) p q) (r .on) (run-follows s i j p q (s .split) (kindOf a (r .k)) (r .t) (g .0 ∙ sym (e .0)) (g .1 ∙ sym (e .1)))
 
@@ -116,32 +116,32 @@ module _ (s : Shape) (m : 3 ≤ s .M) (n : 3 ≤ s .N) (a : Axis) (w : SeenAlong
   P x y = J s (xOf a x y) (yOf a x y)
 
   P-is : (x y : ℕ) → x ≤ columns a s → y ≤ rows a s → P x y ≡ pointOf S x y
-  P-is = J-is s m n a w
+  P-is = J-is s steps a w
 
 -- 01's rims are the strip's, and its edges are sides of the strip's cells
-pub rim-seen : (s : Shape) (m : 3 ≤ s .M) (n : 3 ≤ s .N) (a : Axis) (w : SeenAlong a s) (p q : ℕ) → Rim s p q → OnRim (strip s m n a w) p q
+pub rim-seen : (s : Shape) (steps : HasSteps s) (a : Axis) (w : SeenAlong a s) (p q : ℕ) → Rim s p q → OnRim (strip s steps a w) p q
 unfolding strip
-rim-seen s m n axisU w p q (inl r) = rim-to (S s m n axisU w) (P s m n axisU w) (P-is s m n axisU w) p q (inl r)
-rim-seen s m n axisU w p q (inr r) = rim-to (S s m n axisU w) (P s m n axisU w) (P-is s m n axisU w) p q (inr (ap joined (r .0), r .1))
-rim-seen s m n axisV w p q (inl r) = rim-to (S s m n axisV w) (P s m n axisV w) (P-is s m n axisV w) p q (inr (ap joined (r .0), r .1))
-rim-seen s m n axisV w p q (inr r) = rim-to (S s m n axisV w) (P s m n axisV w) (P-is s m n axisV w) p q (inl r)
+rim-seen s steps axisU w p q (inl r) = rim-to (S s steps axisU w) (P s steps axisU w) (P-is s steps axisU w) p q (inl r)
+rim-seen s steps axisU w p q (inr r) = rim-to (S s steps axisU w) (P s steps axisU w) (P-is s steps axisU w) p q (inr (ap joined (r .0), r .1))
+rim-seen s steps axisV w p q (inl r) = rim-to (S s steps axisV w) (P s steps axisV w) (P-is s steps axisV w) p q (inr (ap joined (r .0), r .1))
+rim-seen s steps axisV w p q (inr r) = rim-to (S s steps axisV w) (P s steps axisV w) (P-is s steps axisV w) p q (inl r)
 
-pub seen-rim : (s : Shape) (m : 3 ≤ s .M) (n : 3 ≤ s .N) (a : Axis) (w : SeenAlong a s) (p q : ℕ) → OnRim (strip s m n a w) p q → Rim s p q
+pub seen-rim : (s : Shape) (steps : HasSteps s) (a : Axis) (w : SeenAlong a s) (p q : ℕ) → OnRim (strip s steps a w) p q → Rim s p q
 unfolding strip
-seen-rim s m n axisU w p q r = ⊎-elim (λ z. inl z) (λ z. inr (plain-open (s .sv) (w .plain) (z .0), z .1)) (rim-from (S s m n axisU w) (P s m n axisU w) (P-is s m n axisU w) p q r)
-seen-rim s m n axisV w p q r = ⊎-elim (λ z. inr z) (λ z. inl (plain-open (s .su) (w .plain) (z .0), z .1)) (rim-from (S s m n axisV w) (P s m n axisV w) (P-is s m n axisV w) p q r)
+seen-rim s steps axisU w p q r = ⊎-elim (λ z. inl z) (λ z. inr (plain-open (s .sv) (w .plain) (z .0), z .1)) (rim-from (S s steps axisU w) (P s steps axisU w) (P-is s steps axisU w) p q r)
+seen-rim s steps axisV w p q r = ⊎-elim (λ z. inr z) (λ z. inl (plain-open (s .su) (w .plain) (z .0), z .1)) (rim-from (S s steps axisV w) (P s steps axisV w) (P-is s steps axisV w) p q r)
 
-pub edge-seen : (s : Shape) (m : 3 ≤ s .M) (n : 3 ≤ s .N) (a : Axis) (w : SeenAlong a s) (i j i′ j′ : ℕ) → GridEdge s i j i′ j′ →
-    EdgeAt (strip s m n a w) (J s i j) (J s i′ j′)
+pub edge-seen : (s : Shape) (steps : HasSteps s) (a : Axis) (w : SeenAlong a s) (i j i′ j′ : ℕ) → GridEdge s i j i′ j′ →
+    EdgeAt (strip s steps a w) (J s i j) (J s i′ j′)
 unfolding strip
-edge-seen s m n axisU w i j i′ j′ (along-u {u} {v} h k) = edge-across (S s m n axisU w) (P s m n axisU w) (P-is s m n axisU w) u v h k
-edge-seen s m n axisU w i j i′ j′ (along-v {u} {v} h k) = edge-straight (S s m n axisU w) (P s m n axisU w) (P-is s m n axisU w) u v h k
-edge-seen s m n axisU w i j i′ j′ (falls {u} {v} h k e) = edge-falling (S s m n axisU w) (P s m n axisU w) (P-is s m n axisU w) u v h k e
-edge-seen s m n axisU w i j i′ j′ (rises {u} {v} h k e) = edge-rising (S s m n axisU w) (P s m n axisU w) (P-is s m n axisU w) u v h k e
-edge-seen s m n axisV w i j i′ j′ (along-u {u} {v} h k) = edge-straight (S s m n axisV w) (P s m n axisV w) (P-is s m n axisV w) v u k h
-edge-seen s m n axisV w i j i′ j′ (along-v {u} {v} h k) = edge-across (S s m n axisV w) (P s m n axisV w) (P-is s m n axisV w) v u k h
-edge-seen s m n axisV w i j i′ j′ (falls {u} {v} h k e) = edge-flip (S s m n axisV w) _ _ (edge-falling (S s m n axisV w) (P s m n axisV w) (P-is s m n axisV w) v u k h e)
-edge-seen s m n axisV w i j i′ j′ (rises {u} {v} h k e) = edge-rising (S s m n axisV w) (P s m n axisV w) (P-is s m n axisV w) v u k h e
+edge-seen s steps axisU w i j i′ j′ (along-u {u} {v} h k) = edge-across (S s steps axisU w) (P s steps axisU w) (P-is s steps axisU w) u v h k
+edge-seen s steps axisU w i j i′ j′ (along-v {u} {v} h k) = edge-straight (S s steps axisU w) (P s steps axisU w) (P-is s steps axisU w) u v h k
+edge-seen s steps axisU w i j i′ j′ (falls {u} {v} h k e) = edge-falling (S s steps axisU w) (P s steps axisU w) (P-is s steps axisU w) u v h k e
+edge-seen s steps axisU w i j i′ j′ (rises {u} {v} h k e) = edge-rising (S s steps axisU w) (P s steps axisU w) (P-is s steps axisU w) u v h k e
+edge-seen s steps axisV w i j i′ j′ (along-u {u} {v} h k) = edge-straight (S s steps axisV w) (P s steps axisV w) (P-is s steps axisV w) v u k h
+edge-seen s steps axisV w i j i′ j′ (along-v {u} {v} h k) = edge-across (S s steps axisV w) (P s steps axisV w) (P-is s steps axisV w) v u k h
+edge-seen s steps axisV w i j i′ j′ (falls {u} {v} h k e) = edge-flip (S s steps axisV w) _ _ (edge-falling (S s steps axisV w) (P s steps axisV w) (P-is s steps axisV w) v u k h e)
+edge-seen s steps axisV w i j i′ j′ (rises {u} {v} h k e) = edge-rising (S s steps axisV w) (P s steps axisV w) (P-is s steps axisV w) v u k h e
 
 -- only the strip's seam can be reversed
 pub flipped-seen : (s : Shape) (a : Axis) → Plain (closing a s) →

@@ -71,13 +71,16 @@ wrap-wrap false n i h = wrap-open n (wrap false n i)
 wrap-wrap true n i h =
     ⊎-elim (λ w. wrap-below true n (wrap true n i) (omega arith)) (λ w. ap (wrap true n) (w .0)) (wrap-closed n i)
 
--- one step on is not where it was; two steps are not back (3 ≤ n); and steps end apart that start apart
-pub step-ne : (c : Bool) (n i : ℕ) → 3 ≤ n → i < n → wrap c n (i + 1) ≡ i → ⊥
-step-ne c n i h k e = ⊎-elim (λ w. omega arith) (λ w. omega arith) (wrap-two c n (i + 1))
+-- one step on is not where it was, and two steps are not back, if a closed row has 3 steps; and steps end apart that start apart
+pub step-ne : (c : Bool) (n i : ℕ) → (c ≡ true → 3 ≤ n) → i < n → wrap c n (i + 1) ≡ i → ⊥
+step-ne true n i h k e = let t = h refl in ⊎-elim (λ w. omega arith) (λ w. omega arith) (wrap-two true n (i + 1))
+step-ne false n i h k e = omega (arith, wrap-open n (i + 1))
 
-pub step-two : (c : Bool) (n i j : ℕ) → 3 ≤ n → i < n → j < n → wrap c n (i + 1) ≡ j → wrap c n (j + 1) ≡ i → ⊥
-step-two c n i j h k l e f =
-    four (wrap-two c n (i + 1)) (wrap-two c n (j + 1)) (λ w z. omega arith) (λ w z. omega arith) (λ w z. omega arith) (λ w z. omega arith)
+pub step-two : (c : Bool) (n i j : ℕ) → (c ≡ true → 3 ≤ n) → i < n → j < n → wrap c n (i + 1) ≡ j → wrap c n (j + 1) ≡ i → ⊥
+step-two true n i j h k l e f =
+    let t = h refl in
+    four (wrap-two true n (i + 1)) (wrap-two true n (j + 1)) (λ w z. omega arith) (λ w z. omega arith) (λ w z. omega arith) (λ w z. omega arith)
+step-two false n i j h k l e f = omega (arith, wrap-open n (i + 1), wrap-open n (j + 1))
 
 pub step-inj : (c : Bool) (n i j : ℕ) → i < n → j < n → wrap c n (i + 1) ≡ wrap c n (j + 1) → i ≡ j
 step-inj c n i j k l e =

@@ -1,10 +1,10 @@
 -- A joined grid as a strip: columns 0 to X of points 0 to Y each, column X joined to column 0 by a seam or not at all, every column closed or
 -- open. Each side has one name (`one-name`): two names with the same two ends, in either order, would need a step that ends where it starts or two
--- steps that go there and back, and with at least 3 steps each way there are none. Assumes nothing.
+-- steps that go there and back, and where a way around is closed and has at least 3 steps, or is open, there are none. Assumes nothing.
 use Prim.Native.Nat.{ℕ, _+_, _-_, _≤_, _<_}
 use mathlib.Core.Path.{_≡_, refl, sym, ap, _∙_}
 use mathlib.Core.Logic.{_⊎_, inl, inr, ⊎-elim}
-use mathlib.Core.Bool.{Bool, true, false, _&&_, not}
+use mathlib.Core.Bool.{Bool, true, false, _&&_, _||_, not}
 use native.Mathlib.Omega.{arith}
 use lib.Dec.{eqb}
 use borrow.Author.Tests.{ne-eqb}
@@ -26,8 +26,11 @@ pub record Strip : Type 0 where
   pub split : Split
   -- the number of a point; `inj`: its own
   pub num : ℕ → ℕ → ℕ
-  pub X≥3 : 3 ≤ X
-  pub Y≥3 : 3 ≤ Y
+  pub X>0 : 0 < X
+  pub Y>0 : 0 < Y
+  -- enough steps around, and along a seam that is reversed
+  pub X≥3 : joined seam ≡ true → 3 ≤ X
+  pub Y≥3 : (closed || reversed seam) ≡ true → 3 ≤ Y
   pub fits : Fits seam closed Y
   pub inj : (x y x′ y′ : ℕ) → x ≤ X → y ≤ Y → x′ ≤ X → y′ ≤ Y → num x y ≡ num x′ y′ → (x ≡ x′) × (y ≡ y′)
   -- which half of its cell has the low (false) or high (true) side of a kind; a diagonal is a side of both
@@ -65,7 +68,7 @@ unfoldable pub next : Strip → ℕ → ℕ
 next S y = wrap (S .closed) (S .Y) (y + 1)
 
 module _ (S : Strip) where
-  open Strip S using (X, Y, closed, seam, split, num, X≥3, Y≥3, fits, inj)
+  open Strip S using (X, Y, closed, seam, split, num, X>0, Y>0, fits, inj)
 
   -- ---- columns
 
@@ -122,13 +125,29 @@ module _ (S : Strip) where
       go true = carried-wrap seam closed Y (y + 1) (omega arith) fits
       go false = wrap-wrap closed Y (y + 1) (omega arith)
 
+  closed≥3 : closed ≡ true → 3 ≤ Y
+  closed≥3 e = S .Y≥3 (ap (λ (t : Bool). t || reversed seam) e)
+
+  -- a reversed seam joins the last column to the first, and has enough steps
+  pub reversed≥3 : reversed seam ≡ true → (3 ≤ X) × (3 ≤ Y)
+  reversed≥3 e = (S .X≥3 (is-joined seam e), S .Y≥3 (or closed))
+    where
+      is-joined : (m : Seam) → reversed m ≡ true → joined m ≡ true
+      is-joined unjoined h = h
+      is-joined (forward o) h = refl
+      is-joined (reverse o) h = refl
+
+      or : (c : Bool) → (c || reversed seam) ≡ true
+      or true = refl
+      or false = e
+
   pub next-ne : (y : ℕ) → y < Y → next S y ≡ y → ⊥
   unfolding next
-  next-ne y h = step-ne closed Y y Y≥3 h
+  next-ne y h = step-ne closed Y y closed≥3 h
 
   pub next-two : (y z : ℕ) → y < Y → z < Y → next S y ≡ z → next S z ≡ y → ⊥
   unfolding next
-  next-two y z h k = step-two closed Y y z Y≥3 h k
+  next-two y z h k = step-two closed Y y z closed≥3 h k
 
   pub next-inj : (y z : ℕ) → y < Y → z < Y → next S y ≡ next S z → y ≡ z
   unfolding next
@@ -136,11 +155,11 @@ module _ (S : Strip) where
 
   pub col-ne : (x : ℕ) → x < X → colOf S (x + 1) ≡ x → ⊥
   unfolding colOf
-  col-ne x h = step-ne (joined seam) X x X≥3 h
+  col-ne x h = step-ne (joined seam) X x (S .X≥3) h
 
   pub col-two : (x z : ℕ) → x < X → z < X → colOf S (x + 1) ≡ z → colOf S (z + 1) ≡ x → ⊥
   unfolding colOf
-  col-two x z h k = step-two (joined seam) X x z X≥3 h k
+  col-two x z h k = step-two (joined seam) X x z (S .X≥3) h k
 
   pub col-inj : (x z : ℕ) → x < X → z < X → colOf S (x + 1) ≡ colOf S (z + 1) → x ≡ z
   unfolding colOf
@@ -214,7 +233,7 @@ Valid S across x y = (x < S .X) × (y ≤ S .Y)
 Valid S diagonal x y = (x < S .X) × (y < S .Y)
 
 module _ (S : Strip) where
-  open Strip S using (X, Y, closed, seam, split, num, X≥3, Y≥3, fits, inj)
+  open Strip S using (X, Y, closed, seam, split, num, X>0, Y>0, fits, inj)
 
   pub x-le : (k : Kind) (x y : ℕ) → Valid S k x y → x ≤ X
   x-le straight x y v = v .0

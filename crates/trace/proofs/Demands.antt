@@ -131,7 +131,7 @@ module _ (g : List Float) (m n : ℕ) (hm : m ≤ 255) (hn : n ≤ 255) where
 
 -- DEMAND 3
 pub demand3 : (g : List Float) (m n : ℕ) → Demand3 g m n
-demand3 g m n accepted hm hn covered =
+demand3 g m n accepted enough covered =
     let steps = accepted-known g m n accepted .steps in
-    let meets = surface-meets g m n accepted hm hn covered in
+    let meets = surface-meets g m n accepted enough covered in
     record { surface = meets; points = points-on-sides g m n (steps .m-most) (steps .n-most) meets }

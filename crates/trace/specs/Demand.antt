@@ -1,12 +1,12 @@
 -- Demand 3, whole: one claim about a grid and the whole list of samples (01, "Joinings that demand 3 covers", "A trace across the cells"). Its triangles, flipped pairs and
 -- traced points are those that the contracts of `triangulate_grid` and `trace_flat` cite. Assumes nothing.
 use mathlib.Core.List.{List}
-use Prim.Native.Nat.{ℕ, _+_, _*_, _≤_, _<_}
+use Prim.Native.Nat.{ℕ, _+_, _*_, _<_}
 use lib.ListN.{getD}
 use lib.Ieee.{Float}
 use Rattle.refusal.specs.Refusals.{Answer, ok, refused}
 use Rattle.grid.specs.Grid.{Accepted}
-use Rattle.surface.specs.Surface.{Shape, triangles, Owns, Meets, Jₙ}
+use Rattle.surface.specs.Surface.{Shape, triangles, Owns, EnoughSteps, Meets, Jₙ}
 use Rattle.surface.specs.Found.{surfaceOf, CoveredGrid}
 use Rattle.trace.specs.Trace.{Counts, Traced, Lists, traceFlat}
 
@@ -29,6 +29,6 @@ pub record DemandMet (g : List Float) (m n : ℕ) : Type 0 where
   pub surface : Meets (surfaceOf g m n)
   pub points : (pairs : List Float) (marks : List ℕ) (l : Lists) → PointsOnSides (surfaceOf g m n) (traceFlat g m n pairs marks l)
 
--- for every accepted grid whose found seams are a covered joining
+-- for every accepted grid whose found seams are a covered joining, with enough steps for it
 abbrev pub Demand3 : List Float → ℕ → ℕ → Type 0
-Demand3 g m n = Accepted g m n → 3 ≤ m → 3 ≤ n → CoveredGrid g m n → DemandMet g m n
+Demand3 g m n = Accepted g m n → EnoughSteps (surfaceOf g m n) → CoveredGrid g m n → DemandMet g m n
