@@ -48,11 +48,8 @@ fn compare_line(case: &[u64], points: &mut [f64], starts: &mut [usize]) -> bool 
         LineAnswer::Span(start, end) => is_told(recorded, start, end),
         LineAnswer::Refused(refusal) => is_refused(recorded, refusal),
     };
-    told
-        & same_floats(
-            path::get(points, starts, drawn, lines, index),
-            field(case, 4),
-        )
+    let part = path::get(points, starts, drawn, lines, index);
+    taken & told & same_floats(part, field(case, 4))
 }
 
 // `line_span` and `get` of one line.
