@@ -34,26 +34,6 @@ pub fn read_bytes(recorded: &[u64], list: &mut [u8]) -> bool {
     list.len() == number(recorded, 0)
 }
 
-// What a list of floats holds before a call: no place is zero, and no two are the same.
-pub fn fill_floats(list: &mut [f64]) {
-    let mut x = -1.5;
-    let mut i = 0;
-    while i < list.len() {
-        list[i] = x;
-        x = x - 1.0;
-        i += 1;
-    }
-}
-
-// What a list of numbers holds before a call, likewise.
-pub fn fill_numbers(list: &mut [usize]) {
-    let mut i = 0;
-    while i < list.len() {
-        list[i] = usize::MAX - i;
-        i += 1;
-    }
-}
-
 // Whether a list is the recorded one, place by place.
 pub fn same_floats(list: &[f64], recorded: &[u64]) -> bool {
     if list.len() != number(recorded, 0) {

@@ -4,17 +4,32 @@ ghost use mathlib.Core.Path.{_≡_};
 ghost use lib.ListN.{length};
 ghost use Rattle.cases.specs.Counts.{Counts};
 
-// What a list of a case has room in, but for the long ones.
+// Room for a list of a case, but for the long ones. No place is zero, and no two are the same: a place that a call
+// leaves as it was is told from one that it writes.
 pub fn floats() -> [f64; 4096]
     ensures { λ r. ⌜ 4096 ≡ length r ⌝ }
 {
-    [0.0; 4096]
+    let mut list = [0.0; 4096];
+    let mut x = -1.5;
+    let mut i = 0;
+    while i < list.len() {
+        list[i] = x;
+        x = x - 1.0;
+        i += 1;
+    }
+    list
 }
 
 pub fn numbers() -> [usize; 4096]
     ensures { λ r. ⌜ 4096 ≡ length r ⌝ }
 {
-    [0; 4096]
+    let mut list = [0; 4096];
+    let mut i = 0;
+    while i < list.len() {
+        list[i] = usize::MAX - i;
+        i += 1;
+    }
+    list
 }
 
 // One point more than the longest row that is taken.

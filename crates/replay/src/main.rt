@@ -1,16 +1,15 @@
 // Replays recorded calls: each case of the record on standard input is one call with its inputs, the answer that the
 // original gave or 01's table of refusals fixes, and every lent list afterwards. It writes the number of each case in
 // which the library differs, and how many cases there were.
-mod lines;
-mod meshes;
-mod seams;
-mod textures;
-mod traces;
-mod vectors;
-
 use cases::words;
 use libc::STDIN_FILENO;
 use libc::STDOUT_FILENO;
+use replay_curve::textures;
+use replay_curve::traces;
+use replay_surface::lines;
+use replay_surface::meshes;
+use replay_surface::seams;
+use replay_surface::vectors;
 ghost use Prim.Native.Nat.{_≤_};
 
 // Whether the library does what is recorded of a case. A case of a kind that is not there differs.

@@ -6,59 +6,12 @@ use borrow.Author.Needs.{needs}
 use Rattle.cases.proofs.lists.read_bytes.Statement.{statement}
 use Rattle.cases.proofs.lists.read_bytes.Tie as tie
 
-abbrev Inv-loop : tie.InvT-loop
-Inv-loop recorded list₀ i₀ list i = length list ≡ length list₀
-
-abbrev μ-loop : tie.MeasureT-loop
-μ-loop recorded list₀ i₀ list i = length list₀ - i
-
-loop-holds : tie.Need-loop-holds Inv-loop μ-loop
-loop-holds c = search needs
-
-add-word : tie.Need-add-word Inv-loop μ-loop
-add-word c = search needs
-
-word-requires : tie.Need-word-requires Inv-loop μ-loop
-word-requires c κs = search needs
-
-cast-list : tie.Need-cast-list Inv-loop μ-loop
-cast-list c = search needs
-
-slice-write-list : tie.Need-slice-write-list Inv-loop μ-loop
-slice-write-list c = search needs
-
-add-i : tie.Need-add-i Inv-loop μ-loop
-add-i c = search needs
-
-loop-less : tie.Need-loop-less Inv-loop μ-loop
-loop-less c = search needs
-
-loop-again : tie.Need-loop-again Inv-loop μ-loop
-loop-again c = search needs
-
-number-requires : tie.Need-number-requires Inv-loop μ-loop
-number-requires c κs = search needs
-
-same-length : tie.Need-same-length Inv-loop μ-loop
-same-length c = search needs
-
-returns : tie.Need-returns Inv-loop μ-loop
-returns c = search needs
-
 pub read-bytes-spec : {M : Type 1} → statement M
 read-bytes-spec =
     tie.close
     (tie.spec
-    Inv-loop
-    μ-loop
-    loop-holds
-    add-word
-    word-requires
-    cast-list
-    slice-write-list
-    add-i
-    loop-less
-    loop-again
-    number-requires
-    same-length
-    returns)
+    (λ recorded list₀ i₀ list i. length list ≡ length list₀)
+    (λ recorded list₀ i₀ list i. length list₀ - i)
+    (λ c. search needs) (λ c. search needs) (λ c. search needs) (λ c. search needs) (λ c. search needs)
+    (λ c. search needs) (λ c. search needs) (λ c. search needs) (λ c. search needs) (λ c. search needs)
+    (λ c. search needs))

@@ -6,59 +6,12 @@ use borrow.Author.Needs.{needs}
 use Rattle.cases.proofs.lists.read_numbers.Statement.{statement}
 use Rattle.cases.proofs.lists.read_numbers.Tie as tie
 
-abbrev Inv-loop : tie.InvT-loop
-Inv-loop recorded list₀ i₀ list i = length list ≡ length list₀
-
-abbrev μ-loop : tie.MeasureT-loop
-μ-loop recorded list₀ i₀ list i = length list₀ - i
-
-loop-holds : tie.Need-loop-holds Inv-loop μ-loop
-loop-holds c = search needs
-
-add-number : tie.Need-add-number Inv-loop μ-loop
-add-number c = search needs
-
-number-requires : tie.Need-number-requires Inv-loop μ-loop
-number-requires c κs = search needs
-
-mul-list : tie.Need-mul-list Inv-loop μ-loop
-mul-list c = search needs
-
-slice-write-list : tie.Need-slice-write-list Inv-loop μ-loop
-slice-write-list c = search needs
-
-add-i : tie.Need-add-i Inv-loop μ-loop
-add-i c = search needs
-
-loop-less : tie.Need-loop-less Inv-loop μ-loop
-loop-less c = search needs
-
-loop-again : tie.Need-loop-again Inv-loop μ-loop
-loop-again c = search needs
-
-number-requires-2 : tie.Need-number-requires-2 Inv-loop μ-loop
-number-requires-2 c κs = search needs
-
-same-length : tie.Need-same-length Inv-loop μ-loop
-same-length c = search needs
-
-returns : tie.Need-returns Inv-loop μ-loop
-returns c = search needs
-
 pub read-numbers-spec : {M : Type 1} → statement M
 read-numbers-spec =
     tie.close
     (tie.spec
-    Inv-loop
-    μ-loop
-    loop-holds
-    add-number
-    number-requires
-    mul-list
-    slice-write-list
-    add-i
-    loop-less
-    loop-again
-    number-requires-2
-    same-length
-    returns)
+    (λ recorded list₀ i₀ list i. length list ≡ length list₀)
+    (λ recorded list₀ i₀ list i. length list₀ - i)
+    (λ c. search needs) (λ c. search needs) (λ c. search needs) (λ c. search needs) (λ c. search needs)
+    (λ c. search needs) (λ c. search needs) (λ c. search needs) (λ c. search needs) (λ c. search needs)
+    (λ c. search needs))

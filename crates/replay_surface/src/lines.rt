@@ -1,6 +1,4 @@
 // Grid lines, and a line as a part of the points.
-use cases::lists::fill_floats;
-use cases::lists::fill_numbers;
 use cases::lists::read_floats;
 use cases::lists::read_numbers;
 use cases::lists::same_floats;
@@ -17,8 +15,6 @@ fn compare_paths(case: &[u64], grid: &mut [f64], points: &mut [f64], starts: &mu
     let numbers = field(case, 0);
     let recorded = field(case, 2);
     let taken = read_floats(field(case, 1), grid);
-    fill_floats(points);
-    fill_numbers(starts);
     let answer = path::grid_paths(grid, number(numbers, 2), number(numbers, 3), points, starts);
     let told = match answer {
         GridPathsAnswer::Drawn(drawn, lines) => is_told(recorded, drawn, lines),
@@ -48,11 +44,8 @@ fn compare_line(case: &[u64], points: &mut [f64], starts: &mut [usize]) -> bool 
         LineAnswer::Span(start, end) => is_told(recorded, start, end),
         LineAnswer::Refused(refusal) => is_refused(recorded, refusal),
     };
-    told
-        & same_floats(
-            path::get(points, starts, drawn, lines, index),
-            field(case, 4),
-        )
+    let part = path::get(points, starts, drawn, lines, index);
+    taken & told & same_floats(part, field(case, 4))
 }
 
 // `line_span` and `get` of one line.

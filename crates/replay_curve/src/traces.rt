@@ -1,6 +1,4 @@
 // The trace of flat samples.
-use cases::lists::fill_floats;
-use cases::lists::fill_numbers;
 use cases::lists::read_bytes;
 use cases::lists::read_floats;
 use cases::lists::same_floats;
@@ -47,23 +45,6 @@ fn compare_trace(
     told & lines & edges
 }
 
-fn fill_and_compare(
-    case: &[u64],
-    grid: &[f64],
-    pairs: &[f64],
-    marks: &[u8],
-    points: &mut [f64],
-    starts: &mut [usize],
-    sides: &mut [usize],
-    fractions: &mut [f64],
-) -> bool {
-    fill_floats(points);
-    fill_numbers(starts);
-    fill_numbers(sides);
-    fill_floats(fractions);
-    compare_trace(case, grid, pairs, marks, points, starts, sides, fractions)
-}
-
 // With the lists that are lent for output.
 fn draw(case: &[u64], grid: &[f64], pairs: &[f64], marks: &[u8]) -> bool {
     let mut points = rooms::floats();
@@ -74,7 +55,7 @@ fn draw(case: &[u64], grid: &[f64], pairs: &[f64], marks: &[u8]) -> bool {
     let s = rooms::of_numbers(&starts, number(field(case, 6), 0));
     let e = rooms::of_numbers(&sides, number(field(case, 7), 0));
     let f = rooms::of_floats(&fractions, number(field(case, 8), 0));
-    fill_and_compare(
+    compare_trace(
         case,
         grid,
         pairs,

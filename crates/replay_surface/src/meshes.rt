@@ -1,6 +1,5 @@
 // Triangles and flipped pairs.
 use crate::seams::same_seam;
-use cases::lists::fill_numbers;
 use cases::lists::read_floats;
 use cases::lists::same_numbers;
 use cases::rooms;
@@ -19,8 +18,6 @@ fn compare_mesh(
     let numbers = field(case, 0);
     let recorded = field(case, 2);
     let taken = read_floats(field(case, 1), grid);
-    fill_numbers(triangles);
-    fill_numbers(flipped);
     let m = number(numbers, 2);
     let n = number(numbers, 3);
     let told = match mesh::triangulate_grid(grid, m, n, triangles, flipped) {
