@@ -215,7 +215,7 @@ over-le a d n h = go (eq-or-lt-of-le (div-mul-le-self a d))
 nothing : (n : ℕ) → 0 ≤ n
 nothing n = omega arith
 
-min-le : (q c n : ℕ) → q ≤ n → min q c ≤ n
+pub min-le : (q c n : ℕ) → q ≤ n → min q c ≤ n
 min-le q c n h = omega arith
 
 pub whole-at-most : (v : Float) (n : ℕ) → n ≤ 2 ^ 53 → lt (natFloat n) v ≡ false → (count (floorZ v) ≤ n) × (count (ceilZ v) ≤ n)

@@ -1,9 +1,10 @@
 -- `grid::check_grid` meets its contract: the tests are those of `gridCheck` in its order, and with M and N at most 255 the length fits.
 use native.Mathlib.Omega.{arith}
-use mathlib.Core.Path.{_≡_, sym, _∙_}
+use mathlib.Core.Path.{_≡_}
 use mathlib.Core.Bool.{true}
 use borrow.Author.Needs.{needs}
-use borrow.Author.Tests.{not-true, not-false, eq-eqb, ne-eqb}
+use borrow.Author.Tests.{eq-eqb, ne-eqb}
+use Rattle.float.proofs.Tests.{held, failed}
 use Rattle.grid.specs.Grid.{stepsFit, gridCheck}
 use Rattle.grid.proofs.Laws.{Stepped, steps-known}
 use Rattle.grid.proofs.check_grid.Statement.{statement}
@@ -11,7 +12,7 @@ use Rattle.grid.proofs.check_grid.Tie as tie
 
 -- 1 does not apply
 steps-stand : (e : tie.Else1) → stepsFit (e .before .before .before .args .m) (e .before .before .before .args .n) ≡ true
-steps-stand e = sym (e .before .steps-fit .ensures) ∙ not-false _ (e .if1 .left)
+steps-stand e = held (e .before .steps-fit .ensures) (e .if1 .left)
 
 stepped : (e : tie.Else1) → Stepped (e .before .before .before .args .m) (e .before .before .before .args .n)
 stepped e = steps-known _ _ (steps-stand e)
@@ -21,7 +22,7 @@ steps-fit-requires c κs = search needs
 
 returns : tie.Need-returns
 unfolding gridCheck
-returns c = rw (sym (c .before .steps-fit .ensures) ∙ not-true _ (c .if1 .taken))
+returns c = rw (failed (c .before .steps-fit .ensures) (c .if1 .taken))
 
 add-if2 : tie.Need-add-if2
 add-if2 c = omega (arith, stepped c)
@@ -59,14 +60,14 @@ unfolding gridCheck
 returns-4 c =
     let t = c .before .before in
     let e = t .before .before in
-    rw (steps-stand (e .before), eq-eqb _ _ (e .if2 .left), t .enum-told .given .1, sym (c .before .coordinates-fit .ensures) ∙ not-true _ (c .if3 .taken))
+    rw (steps-stand (e .before), eq-eqb _ _ (e .if2 .left), t .enum-told .given .1, failed (c .before .coordinates-fit .ensures) (c .if3 .taken))
 
 returns-5 : tie.Need-returns-5
 unfolding gridCheck
 returns-5 c =
     let t = c .before .before in
     let e = t .before .before in
-    rw (steps-stand (e .before), eq-eqb _ _ (e .if2 .left), t .enum-told .given .1, sym (c .before .coordinates-fit .ensures) ∙ not-false _ (c .if3 .left))
+    rw (steps-stand (e .before), eq-eqb _ _ (e .if2 .left), t .enum-told .given .1, held (c .before .coordinates-fit .ensures) (c .if3 .left))
 
 pub check-grid-spec : {M : Type 1} → statement M
 check-grid-spec =

@@ -1,12 +1,12 @@
 -- `grid::coordinates_fit` meets its contract: what was found so far, and what is left to test from i on, answer for the whole list.
 use Prim.Native.Nat.{_≤_, _-_}
 use mathlib.Core.Path.{_≡_, sym}
-use mathlib.Core.Bool.{_&&_}
+use mathlib.Core.Bool.{_&&_, and-assoc, and-true}
 use lib.Ieee.{nan}
 use lib.ListN.{length, drop, drop-of-length-le}
 use borrow.Author.Needs.{needs}
 use Rattle.grid.specs.Grid.{coordinatesFit}
-use Rattle.grid.proofs.Laws.{coordinates-step, and-assoc, and-true}
+use Rattle.grid.proofs.Laws.{coordinates-step}
 use Rattle.grid.proofs.coordinates_fit.Statement.{statement}
 use Rattle.grid.proofs.coordinates_fit.Tie as tie
 

@@ -1,22 +1,16 @@
 -- `float::whole::ceil` meets its contract: below 2^52 it is the whole part, one more where a positive value is above it; from 2^52 on the value is whole
 -- (proofs/Round.antt). Assumes nothing.
-use mathlib.Core.Path.{_≡_, sym, _∙_, subst}
+use mathlib.Core.Path.{_≡_, sym, _∙_}
 use mathlib.Core.Bool.{false}
 use native.Mathlib.Omega.{arith}
-use lib.Dec.{T}
-use lib.Ieee.{binary64, fits}
 use borrow.Author.Needs.{needs}
 use Rattle.float.specs.Sign.{negative}
 use Rattle.float.proofs.Round.{Cuts, ceil-small, ceil-large}
 use Rattle.float.proofs.whole.ceil.Statement.{statement}
 use Rattle.float.proofs.whole.ceil.Tie as tie
 
--- what owning an f64 tells: the format holds it
-held : (c : tie.Start) → T (fits binary64 (c .args .x))
-held c = subst T (sym (c .good .0 .1)) tt
-
 small : (c : tie.Then1) → Cuts (c .before .before .args .x) (c .before .abs .result)
-small c = ceil-small (c .before .before .args .x) (held (c .before .before)) (c .before .abs .ensures) (c .if1 .taken)
+small c = ceil-small (c .before .before .args .x) (c .before .before .good .0 .1) (c .before .abs .ensures) (c .if1 .taken)
 
 plus : (c : tie.Else2) → negative (c .before .before .before .before .before .before .args .x) ≡ false
 plus c = sym (c .before .is-negative .ensures) ∙ c .if2 .left
@@ -58,7 +52,7 @@ returns-3 c =
     small (k .before .before) .same (k .before .truncating-f64-to-u64 .ensures) (k .nearest-u64-to-f64 .ensures) (plus (c .before)) (c .if3 .left)
 
 returns-4 : tie.Need-returns-4
-returns-4 c = ceil-large (c .before .before .args .x) (held (c .before .before)) (c .before .abs .ensures) (c .if1 .left)
+returns-4 c = ceil-large (c .before .before .args .x) (c .before .before .good .0 .1) (c .before .abs .ensures) (c .if1 .left)
 
 pub ceil-spec : {M : Type 1} → statement M
 ceil-spec =

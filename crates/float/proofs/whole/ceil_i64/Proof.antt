@@ -20,7 +20,7 @@ unfolding ofBits neg
 cut c =
     let t = c .before .before in
     let s = t .before .before in
-    cut-of (s .args .x) (subst T (sym (s .good .0 .1)) tt) (t .before .if1 .taken) (t .if2 .taken) (c .before .truncating-f64-to-i64 .ensures) (c .nearest-i64-to-f64 .ensures)
+    cut-of (s .args .x) (s .good .0 .1) (t .before .if1 .taken) (t .if2 .taken) (c .before .truncating-f64-to-i64 .ensures) (c .nearest-i64-to-f64 .ensures)
 
 add-result : tie.Need-add-result
 add-result c = cut (c .before) .above (c .if3 .taken) .0
