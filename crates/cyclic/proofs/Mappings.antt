@@ -8,9 +8,10 @@ use mathlib.Core.Logic.{_⊎_, inl, inr}
 use mathlib.Core.Bool.{Bool, true, false, _&&_, true≢false}
 use lib.Dec.{ltb, leb}
 use borrow.Author.Tests.{ltb-true, ltb-false, leb-true, eq-eqb, ne-eqb}
+use Rattle.float.proofs.Tests.{and-both}
 use Rattle.cyclic.specs.declared.mapping.CyclicMapping.{CyclicMapping}
 use Rattle.cyclic.specs.declared.mapping.CyclicMapping.the-variants.{Forward, Reverse}
-use Rattle.cyclic.specs.Mapping.{image, inverse, offsetOf, stepsOf, usable, Usable}
+use Rattle.cyclic.specs.Mapping.{image, inverse, offsetOf, stepsOf, usable, HasIndex}
 
 -- one of three
 abbrev OneOf : Type 0 → Type 0 → Type 0 → Type 0
@@ -128,11 +129,11 @@ inverse-below o n j k h l (inl w) = omega arith
 inverse-below o n j k h l (inr (inl w)) = omega arith
 inverse-below o n j k h l (inr (inr w)) = omega arith
 
-pub image-within : (m : CyclicMapping) (j : ℕ) → Usable m j → image m j ≤ stepsOf m
+pub image-within : (m : CyclicMapping) (j : ℕ) → HasIndex m j → image m j ≤ stepsOf m
 image-within (Forward o n) j u = forward-within o n j (image (Forward o n) j) (u .1) (u .2) (forward-at o n j (u .1) (u .2))
 image-within (Reverse o n) j u = reverse-within o n j (image (Reverse o n) j) (u .1) (u .2) (reverse-at o n j (u .1) (u .2))
 
-pub inverse-within : (m : CyclicMapping) (j : ℕ) → Usable m j → inverse m j ≤ stepsOf m
+pub inverse-within : (m : CyclicMapping) (j : ℕ) → HasIndex m j → inverse m j ≤ stepsOf m
 inverse-within (Forward o n) j u = inverse-below o n j (inverse (Forward o n) j) (u .1) (u .2) (inverse-at o n j (u .1) (u .2))
 inverse-within (Reverse o n) j u = rw reverse-same (image-within (Reverse o n) j u)
 
@@ -174,7 +175,7 @@ reverse-twice o n j k i h l (inr (inr w)) (inl v) = absurd (omega arith)
 reverse-twice o n j k i h l (inr (inr w)) (inr (inl v)) = inr (inr (w .0, omega arith, omega arith))
 reverse-twice o n j k i h l (inr (inr w)) (inr (inr v)) = inr (inl (w .0, omega arith, omega arith))
 
-there-and-back : (m : CyclicMapping) (j : ℕ) → Usable m j → Undone (offsetOf m) (stepsOf m) j (inverse m (image m j))
+there-and-back : (m : CyclicMapping) (j : ℕ) → HasIndex m j → Undone (offsetOf m) (stepsOf m) j (inverse m (image m j))
 there-and-back (Forward o n) j u =
     let k = image (Forward o n) j in
     forward-inverse o n j k (inverse (Forward o n) k) (u .1) (u .2) (forward-at o n j (u .1) (u .2)) (inverse-at o n k (u .1) (image-within (Forward o n) j u))
@@ -182,7 +183,7 @@ there-and-back (Reverse o n) j u =
     let k = image (Reverse o n) j in
     rw reverse-same (reverse-twice o n j k (image (Reverse o n) k) (u .1) (u .2) (reverse-at o n j (u .1) (u .2)) (reverse-at o n k (u .1) (image-within (Reverse o n) j u)))
 
-back-and-there : (m : CyclicMapping) (j : ℕ) → Usable m j → Undone (offsetOf m) (stepsOf m) j (image m (inverse m j))
+back-and-there : (m : CyclicMapping) (j : ℕ) → HasIndex m j → Undone (offsetOf m) (stepsOf m) j (image m (inverse m j))
 back-and-there (Forward o n) j u =
     let k = inverse (Forward o n) j in
     inverse-forward o n j k (image (Forward o n) k) (u .1) (u .2) (inverse-at o n j (u .1) (u .2)) (forward-at o n k (u .1) (inverse-within (Forward o n) j u))
@@ -199,18 +200,18 @@ undone-end o n i p (inr (inl w)) = absurd (omega arith)
 undone-end o n i p (inr (inr w)) = w .2
 
 -- `map_index_inv` undoes `map_index`: at offset 0 at every index from 0 to steps, at another offset at every index below steps
-pub inverse-image : (m : CyclicMapping) (j : ℕ) → Usable m j → (0 < offsetOf m → j < stepsOf m) → inverse m (image m j) ≡ j
+pub inverse-image : (m : CyclicMapping) (j : ℕ) → HasIndex m j → (0 < offsetOf m → j < stepsOf m) → inverse m (image m j) ≡ j
 inverse-image m j u f = undone-same (offsetOf m) (stepsOf m) j (inverse m (image m j)) f (there-and-back m j u)
 
 -- and `map_index` undoes `map_index_inv` there
-pub image-inverse : (m : CyclicMapping) (j : ℕ) → Usable m j → (0 < offsetOf m → j < stepsOf m) → image m (inverse m j) ≡ j
+pub image-inverse : (m : CyclicMapping) (j : ℕ) → HasIndex m j → (0 < offsetOf m → j < stepsOf m) → image m (inverse m j) ≡ j
 image-inverse m j u f = undone-same (offsetOf m) (stepsOf m) j (image m (inverse m j)) f (back-and-there m j u)
 
 -- at an offset other than 0 the index steps comes back as 0, which it equals modulo steps
-pub inverse-image-end : (m : CyclicMapping) → Usable m (stepsOf m) → 0 < offsetOf m → inverse m (image m (stepsOf m)) ≡ 0
+pub inverse-image-end : (m : CyclicMapping) → HasIndex m (stepsOf m) → 0 < offsetOf m → inverse m (image m (stepsOf m)) ≡ 0
 inverse-image-end m u p = undone-end (offsetOf m) (stepsOf m) (inverse m (image m (stepsOf m))) p (there-and-back m (stepsOf m) u)
 
-pub image-inverse-end : (m : CyclicMapping) → Usable m (stepsOf m) → 0 < offsetOf m → image m (inverse m (stepsOf m)) ≡ 0
+pub image-inverse-end : (m : CyclicMapping) → HasIndex m (stepsOf m) → 0 < offsetOf m → image m (inverse m (stepsOf m)) ≡ 0
 image-inverse-end m u p = undone-end (offsetOf m) (stepsOf m) (image m (inverse m (stepsOf m))) p (back-and-there m (stepsOf m) u)
 
 -- The image of the next index
@@ -282,17 +283,12 @@ reverse-first o n h f = go (reverse-at o n 0 h (omega arith))
 
 -- What the test of an index shows
 
-pub and-both : (a b : Bool) → a && b ≡ true → (a ≡ true) × (b ≡ true)
-and-both true true h = (refl, refl)
-and-both true false h = absurd (true≢false (sym h))
-and-both false b h = absurd (true≢false (sym h))
-
-pub usable-known : (m : CyclicMapping) (i : ℕ) → usable m i ≡ true → Usable m i
+pub usable-known : (m : CyclicMapping) (i : ℕ) → usable m i ≡ true → HasIndex m i
 usable-known m i h =
     let b = and-both (leb 1 (stepsOf m) && leb (stepsOf m) 65535) (ltb (offsetOf m) (stepsOf m) && leb i (stepsOf m)) h in
     let s = and-both (leb 1 (stepsOf m)) (leb (stepsOf m) 65535) (b .0) in
     let t = and-both (ltb (offsetOf m) (stepsOf m)) (leb i (stepsOf m)) (b .1) in
     (leb-true (stepsOf m) 65535 (s .1), ltb-true (offsetOf m) (stepsOf m) (t .0), leb-true i (stepsOf m) (t .1))
 
-pub usable-as : {m k : CyclicMapping} (i : ℕ) → m ≡ k → Usable m i → Usable k i
-usable-as i e u = subst (λ (x : CyclicMapping). Usable x i) e u
+pub has-index-as : {m k : CyclicMapping} (i : ℕ) → m ≡ k → HasIndex m i → HasIndex k i
+has-index-as i e u = subst (λ (x : CyclicMapping). HasIndex x i) e u

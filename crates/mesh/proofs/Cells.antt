@@ -2,7 +2,7 @@
 use Prim.Native.Nat.{ℕ, zero, suc, _+_, _*_, _/_, _%_, _≤_, _<_}
 use mathlib.Core.Path.{_≡_, sym, ap, _∙_}
 use mathlib.Core.Logic.{⊎-elim}
-use mathlib.Core.Bool.{Bool, true, false}
+use mathlib.Core.Bool.{Bool, true, false, cond}
 use mathlib.Core.List.{List, [], _∷_, _++_, append-nil}
 use native.Mathlib.Omega.{arith}
 use native.Mathlib.Nat.{zero-mul, add-mul}
@@ -11,7 +11,7 @@ use lib.ListN.{length, getD, set, length-append}
 use lib.Seq.{getD-set-same, getD-set-other}
 use Rattle.surface.proofs.Steps.{lt-or-le}
 use Rattle.cyclic.specs.declared.seam.Seam.{Seam}
-use Rattle.surface.specs.Surface.{pick, Shape, Triangle, tri, proper, falling, halfOf, slot, kept, triangleNumber}
+use Rattle.surface.specs.Surface.{Shape, Triangle, tri, proper, falling, halfOf, slot, kept, triangleNumber}
 use Rattle.surface.specs.Found.{surfaceWith}
 use Rattle.mesh.specs.declared.corner.Cell.{Cell}
 use Rattle.mesh.specs.Held.{firsts, triangleAt, trianglesIn}
@@ -27,7 +27,7 @@ secondOf c = tri (c .i10) (c .i11) (c .i01)
 
 -- the triangles that a slot adds
 abbrev pub addedBy : Triangle → List Triangle
-addedBy t = pick (proper t) (t ∷ []) []
+addedBy t = cond (proper t) (t ∷ []) []
 
 pub added-none : (ts : List Triangle) (t : Triangle) → proper t ≡ false → ts ≡ ts ++ addedBy t
 added-none ts t e = rw e (sym (append-nil ts))
@@ -44,7 +44,7 @@ unfolding kept
 kept-most s zero = omega arith
 kept-most s (suc k) = rw length-append (omega (arith, kept-most s k, one (proper (slot s k))))
   where
-    one : (b : Bool) → length (pick b (slot s k ∷ []) []) ≤ 1
+    one : (b : Bool) → length (cond b (slot s k ∷ []) []) ≤ 1
     one true = omega arith
     one false = omega arith
 

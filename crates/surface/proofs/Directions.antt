@@ -3,11 +3,10 @@
 use Prim.Native.Nat.{ℕ, _+_, _-_, _<_}
 use mathlib.Core.Path.{_≡_, refl, sym, ap, _∙_, subst}
 use mathlib.Core.Logic.{_⊎_, inl, inr, ⊎-elim}
-use mathlib.Core.Bool.{Bool, true, false, _&&_, not, false≢true}
+use mathlib.Core.Bool.{Bool, true, false, _&&_, not, false≢true, cond}
 use native.Mathlib.Omega.{arith}
 use lib.Dec.{eqb}
 use borrow.Author.Tests.{eqb-true, eq-eqb}
-use Rattle.cyclic.specs.Mapping.{pick}
 use Rattle.surface.specs.Surface.{Seam, unjoined, forward, reverse, joined, reversed, Same}
 use Rattle.surface.proofs.Steps.{both-true, laidOn, on-below}
 use Rattle.surface.proofs.Strip.{Strip, Kind, straight, across, diagonal, nameFrom, nameTo, fromY, toX, toY, Valid, x-le, toX-le, fromY-le, toY-le, turned, colOf, stepAt, col-ne, next-ne}
@@ -212,11 +211,11 @@ module _ (S : Strip) where
             two = record { k = straight; t = true; cell = cell-high; on = sym (r .high-half); along = inl (dir-not straight false ∙ ap not e, sym (high .1), sym (high .0)) };
           }
 
-  pub along-ends : (w : Bool) (a b c d : ℕ) → Along w a b c d → (a ≡ pick w c d) × (b ≡ pick w d c)
-  along-ends w a b c d (inl e) = (e .1 ∙ ap (λ (z : Bool). pick z c d) (sym (e .0)), e .2 ∙ ap (λ (z : Bool). pick z d c) (sym (e .0)))
-  along-ends w a b c d (inr e) = (e .1 ∙ ap (λ (z : Bool). pick z c d) (sym (e .0)), e .2 ∙ ap (λ (z : Bool). pick z d c) (sym (e .0)))
+  pub along-ends : (w : Bool) (a b c d : ℕ) → Along w a b c d → (a ≡ cond w c d) × (b ≡ cond w d c)
+  along-ends w a b c d (inl e) = (e .1 ∙ ap (λ (z : Bool). cond z c d) (sym (e .0)), e .2 ∙ ap (λ (z : Bool). cond z d c) (sym (e .0)))
+  along-ends w a b c d (inr e) = (e .1 ∙ ap (λ (z : Bool). cond z c d) (sym (e .0)), e .2 ∙ ap (λ (z : Bool). cond z d c) (sym (e .0)))
 
-  pub ends-along : (w : Bool) (a b c d : ℕ) → a ≡ pick w c d → b ≡ pick w d c → Along w a b c d
+  pub ends-along : (w : Bool) (a b c d : ℕ) → a ≡ cond w c d → b ≡ cond w d c → Along w a b c d
   ends-along true a b c d p q = inl (refl, p, q)
   ends-along false a b c d p q = inr (refl, p, q)
 

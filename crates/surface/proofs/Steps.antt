@@ -4,12 +4,11 @@
 use Prim.Native.Nat.{ℕ, zero, suc, _+_, _-_, _%_, _≤_, _<_}
 use mathlib.Core.Path.{_≡_, refl, sym, ap, _∙_}
 use mathlib.Core.Logic.{_⊎_, inl, inr, ⊎-elim}
-use mathlib.Core.Bool.{Bool, true, false, _&&_, false≢true}
+use mathlib.Core.Bool.{Bool, true, false, _&&_, false≢true, cond}
 use native.Mathlib.Nat.{mod-eq-of-lt, mod-eq-sub-mod, mod-self}
 use native.Mathlib.Omega.{arith}
 use lib.Dec.{eqb, ltb}
 use borrow.Author.Tests.{eqb-true, eqb-false, ne-eqb, ltb-true, ltb-false, lt-ltb, le-ltb}
-use Rattle.cyclic.specs.Mapping.{pick}
 use Rattle.cyclic.specs.Mapping as mapping
 use Rattle.surface.specs.Surface.{Seam, unjoined, forward, reverse, inverse}
 
@@ -43,7 +42,7 @@ lt-or-le a b = go (ltb a b) refl
 
 -- index i of the row, with n read as 0 where the row is closed
 unfoldable pub wrap : Bool → ℕ → ℕ → ℕ
-wrap c n i = pick (c && eqb i n) 0 i
+wrap c n i = cond (c && eqb i n) 0 i
 
 pub wrap-open : (n i : ℕ) → wrap false n i ≡ i
 unfolding wrap
@@ -51,7 +50,7 @@ wrap-open n i = refl
 
 pub wrap-closed : (n i : ℕ) → ((wrap true n i ≡ 0) × (i ≡ n)) ⊎ ((wrap true n i ≡ i) × (i ≡ n → ⊥))
 unfolding wrap
-wrap-closed n i = ⊎-elim (λ h. inl (ap (λ (t : Bool). pick t 0 i) (h .0), h .1)) (λ h. inr (ap (λ (t : Bool). pick t 0 i) (h .0), h .1)) (eqb-cases i n)
+wrap-closed n i = ⊎-elim (λ h. inl (ap (λ (t : Bool). cond t 0 i) (h .0), h .1)) (λ h. inr (ap (λ (t : Bool). cond t 0 i) (h .0), h .1)) (eqb-cases i n)
 
 pub wrap-two : (c : Bool) (n i : ℕ) → ((wrap c n i ≡ 0) × (i ≡ n)) ⊎ (wrap c n i ≡ i)
 wrap-two false n i = inr (wrap-open n i)
@@ -147,30 +146,30 @@ Fits (reverse o) c n = Offset o c n
 -- the step of row a on which step y of row b lies
 unfoldable pub laidOn : Seam → ℕ → ℕ → ℕ
 laidOn unjoined n y = y
-laidOn (forward o) n y = pick (ltb y o) (y + n - o) (y - o)
-laidOn (reverse o) n y = pick (ltb y o) (o - 1 - y) (o + n - 1 - y)
+laidOn (forward o) n y = cond (ltb y o) (y + n - o) (y - o)
+laidOn (reverse o) n y = cond (ltb y o) (o - 1 - y) (o + n - 1 - y)
 
 -- and back: the step of row b that lies on step y of row a
 unfoldable pub laidBack : Seam → ℕ → ℕ → ℕ
 laidBack unjoined n y = y
-laidBack (forward o) n y = pick (ltb (y + o) n) (y + o) (y + o - n)
+laidBack (forward o) n y = cond (ltb (y + o) n) (y + o) (y + o - n)
 laidBack (reverse o) n y = laidOn (reverse o) n y
 
-ltb-pick : (a b x y : ℕ) → ((a < b) × (pick (ltb a b) x y ≡ x)) ⊎ ((b ≤ a) × (pick (ltb a b) x y ≡ y))
-ltb-pick a b x y =
-    ⊎-elim (λ h. inl (h, ap (λ (t : Bool). pick t x y) (lt-ltb a b h))) (λ h. inr (h, ap (λ (t : Bool). pick t x y) (le-ltb a b h))) (lt-or-le a b)
+ltb-cond : (a b x y : ℕ) → ((a < b) × (cond (ltb a b) x y ≡ x)) ⊎ ((b ≤ a) × (cond (ltb a b) x y ≡ y))
+ltb-cond a b x y =
+    ⊎-elim (λ h. inl (h, ap (λ (t : Bool). cond t x y) (lt-ltb a b h))) (λ h. inr (h, ap (λ (t : Bool). cond t x y) (le-ltb a b h))) (lt-or-le a b)
 
 on-forward : (o n y : ℕ) → ((y < o) × (laidOn (forward o) n y ≡ y + n - o)) ⊎ ((o ≤ y) × (laidOn (forward o) n y ≡ y - o))
 unfolding laidOn
-on-forward o n y = ltb-pick y o (y + n - o) (y - o)
+on-forward o n y = ltb-cond y o (y + n - o) (y - o)
 
 on-reverse : (o n y : ℕ) → ((y < o) × (laidOn (reverse o) n y ≡ o - 1 - y)) ⊎ ((o ≤ y) × (laidOn (reverse o) n y ≡ o + n - 1 - y))
 unfolding laidOn
-on-reverse o n y = ltb-pick y o (o - 1 - y) (o + n - 1 - y)
+on-reverse o n y = ltb-cond y o (o - 1 - y) (o + n - 1 - y)
 
 back-forward : (o n y : ℕ) → ((y + o < n) × (laidBack (forward o) n y ≡ y + o)) ⊎ ((n ≤ y + o) × (laidBack (forward o) n y ≡ y + o - n))
 unfolding laidBack
-back-forward o n y = ltb-pick (y + o) n (y + o) (y + o - n)
+back-forward o n y = ltb-cond (y + o) n (y + o) (y + o - n)
 
 offset-lt : (o : ℕ) (c : Bool) (n : ℕ) → 0 < n → Offset o c n → o < n
 offset-lt zero c n h f = h

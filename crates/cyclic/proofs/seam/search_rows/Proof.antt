@@ -10,7 +10,7 @@ use denote.Ref.{now}
 use Rattle.vector.specs.Vectors.{allClose}
 use Rattle.cyclic.specs.declared.mapping.CyclicMapping.the-variants.{Forward, Reverse}
 use Rattle.cyclic.specs.Search.{Row, rowOf}
-use Rattle.cyclic.proofs.Remains.{Trying, Searching, held, failed, forward-known, reverse-known, first-point, next-point, last-point, far-point, all-offsets, one-offset, forward-fits, reverse-fits, next-offset, no-offset}
+use Rattle.cyclic.proofs.Remains.{Trying, Searching, forward-known, reverse-known, first-point, next-point, last-point, far-point, all-offsets, one-offset, forward-fits, reverse-fits, next-offset, no-offset}
 use Rattle.cyclic.proofs.Mappings.{forward-first, reverse-first}
 use Rattle.cyclic.proofs.Rows.{inside}
 use Rattle.cyclic.proofs.seam.search_rows.Statement.{statement}
@@ -44,19 +44,12 @@ rowA s = rowOf (now (s .args .a)) (s .args .a-start) (s .args .stride)
 abbrev rowB : tie.Start Inv-loop μ-loop Inv-loop2 μ-loop2 Inv-offsets μ-offsets → Row
 rowB s = rowOf (now (s .args .b)) (s .args .b-start) (s .args .stride)
 
-rows-closed-requires :
-    tie.Need-rows-closed-requires Inv-loop μ-loop Inv-loop2 μ-loop2 Inv-offsets μ-offsets
-rows-closed-requires c κs = search needs
-
 offsets-holds : tie.Need-offsets-holds Inv-loop μ-loop Inv-loop2 μ-loop2 Inv-offsets μ-offsets
 offsets-holds c =
     let s = c .before .before .before .before in
     ⊎-elim (λ w. rw (w .1) (all-offsets allClose (rowA s) (rowB s) (s .args .steps) (c .before .rows-closed .ensures) (w .0 .taken)))
     (λ w. rw (w .1) (one-offset allClose (rowA s) (rowB s) (s .args .steps) (s .pre .steps-least) (c .before .rows-closed .ensures) (w .0 .left)))
     (c .if1 .came)
-
-unjoined-requires : tie.Need-unjoined-requires Inv-loop μ-loop Inv-loop2 μ-loop2 Inv-offsets μ-offsets
-unjoined-requires c κs = search needs
 
 close-run-requires : tie.Need-close-run-requires Inv-loop μ-loop Inv-loop2 μ-loop2 Inv-offsets μ-offsets
 close-run-requires c κs = c .before .before .before .before .before .before .before .pre
@@ -77,45 +70,27 @@ loop-holds c =
 mul-points-close : tie.Need-mul-points-close Inv-loop μ-loop Inv-loop2 μ-loop2 Inv-offsets μ-offsets
 mul-points-close c =
     let s = c .before .before .before .before .before .before .before .before in
-    omega (arith, inside (s .args .a-start) (s .args .steps) (s .args .stride) (c .loop .j) (s .pre .a-inside) (omega arith))
+    omega (arith, inside (s .pre) (c .loop .j) (omega arith) .0)
 
 add-points-close : tie.Need-add-points-close Inv-loop μ-loop Inv-loop2 μ-loop2 Inv-offsets μ-offsets
 add-points-close c =
     let s = c .before .before .before .before .before .before .before .before in
-    omega (arith, inside (s .args .a-start) (s .args .steps) (s .args .stride) (c .loop .j) (s .pre .a-inside) (omega arith))
+    omega (arith, inside (s .pre) (c .loop .j) (omega arith) .0)
 
 mul-points-close-2 : tie.Need-mul-points-close-2 Inv-loop μ-loop Inv-loop2 μ-loop2 Inv-offsets μ-offsets
 mul-points-close-2 c =
     let s = c .before .before .before .before .before .before .before .before in
-    omega (arith, inside (s .args .b-start) (s .args .steps) (s .args .stride) (c .loop .k) (s .pre .b-inside) (omega arith))
+    omega (arith, inside (s .pre) (c .loop .k) (omega arith) .1)
 
 add-points-close-2 : tie.Need-add-points-close-2 Inv-loop μ-loop Inv-loop2 μ-loop2 Inv-offsets μ-offsets
 add-points-close-2 c =
     let s = c .before .before .before .before .before .before .before .before in
-    omega (arith, inside (s .args .b-start) (s .args .steps) (s .args .stride) (c .loop .k) (s .pre .b-inside) (omega arith))
+    omega (arith, inside (s .pre) (c .loop .k) (omega arith) .1)
 
 points-close-requires : tie.Need-points-close-requires Inv-loop μ-loop Inv-loop2 μ-loop2 Inv-offsets μ-offsets
 points-close-requires c κs =
     let s = c .before .before .before .before .before .before .before .before in
-    (inside (s .args .a-start) (s .args .steps) (s .args .stride) (c .loop .j) (s .pre .a-inside) (omega arith), inside (s .args .b-start) (s .args .steps) (s .args .stride) (c .loop .k) (s .pre .b-inside) (omega arith))
-
-add-made : tie.Need-add-made Inv-loop μ-loop Inv-loop2 μ-loop2 Inv-offsets μ-offsets
-add-made c = search needs
-
-add-made-2 : tie.Need-add-made-2 Inv-loop μ-loop Inv-loop2 μ-loop2 Inv-offsets μ-offsets
-add-made-2 c = search needs
-
-joined-requires : tie.Need-joined-requires Inv-loop μ-loop Inv-loop2 μ-loop2 Inv-offsets μ-offsets
-joined-requires c κs = search needs
-
-ahead-requires : tie.Need-ahead-requires Inv-loop μ-loop Inv-loop2 μ-loop2 Inv-offsets μ-offsets
-ahead-requires c κs = search needs
-
-add-j : tie.Need-add-j Inv-loop μ-loop Inv-loop2 μ-loop2 Inv-offsets μ-offsets
-add-j c = search needs
-
-loop-less : tie.Need-loop-less Inv-loop μ-loop Inv-loop2 μ-loop2 Inv-offsets μ-offsets
-loop-less c = search needs
+    (inside (s .pre) (c .loop .j) (omega arith) .0, inside (s .pre) (c .loop .k) (omega arith) .1)
 
 loop-again : tie.Need-loop-again Inv-loop μ-loop Inv-loop2 μ-loop2 Inv-offsets μ-offsets
 loop-again c =
@@ -127,14 +102,8 @@ loop-again c =
     let o = e .before in
     let s = o .before .before .before .before .before in
     next-point allClose (rowA s) (rowB s) (Forward (o .offsets .offset) (s .args .steps)) (o .offsets .comparisons) (l .loop .j) (l .loop .k) (s .pre .steps-most, omega (arith, o .offsets .inv, e .if2 .left), l .loop .inv .point) (i .if5 .left) (l .loop .inv)
-    (held (p .points-close .ensures) (i .before .if4 .left))
+    (p .points-close .ensures) (i .before .if4 .left)
     (h .ahead .ensures (l .loop .j) (omega arith) (l .loop .inv .mapped))
-
-add-comparisons : tie.Need-add-comparisons Inv-loop μ-loop Inv-loop2 μ-loop2 Inv-offsets μ-offsets
-add-comparisons c = search needs
-
-add-comparisons-2 : tie.Need-add-comparisons-2 Inv-loop μ-loop Inv-loop2 μ-loop2 Inv-offsets μ-offsets
-add-comparisons-2 c = search needs
 
 close-run-requires-2 : tie.Need-close-run-requires-2 Inv-loop μ-loop Inv-loop2 μ-loop2 Inv-offsets μ-offsets
 close-run-requires-2 c κs = c .before .before .before .before .before .before .before .before .before .before .before .before .pre
@@ -160,45 +129,27 @@ loop2-holds c =
 mul-points-close-3 : tie.Need-mul-points-close-3 Inv-loop μ-loop Inv-loop2 μ-loop2 Inv-offsets μ-offsets
 mul-points-close-3 c =
     let s = c .before .before .before .before .before .before .before .before .before .before .before .before .before in
-    omega (arith, inside (s .args .a-start) (s .args .steps) (s .args .stride) (c .loop2 .j) (s .pre .a-inside) (omega arith))
+    omega (arith, inside (s .pre) (c .loop2 .j) (omega arith) .0)
 
 add-points-close-3 : tie.Need-add-points-close-3 Inv-loop μ-loop Inv-loop2 μ-loop2 Inv-offsets μ-offsets
 add-points-close-3 c =
     let s = c .before .before .before .before .before .before .before .before .before .before .before .before .before in
-    omega (arith, inside (s .args .a-start) (s .args .steps) (s .args .stride) (c .loop2 .j) (s .pre .a-inside) (omega arith))
+    omega (arith, inside (s .pre) (c .loop2 .j) (omega arith) .0)
 
 mul-points-close-4 : tie.Need-mul-points-close-4 Inv-loop μ-loop Inv-loop2 μ-loop2 Inv-offsets μ-offsets
 mul-points-close-4 c =
     let s = c .before .before .before .before .before .before .before .before .before .before .before .before .before in
-    omega (arith, inside (s .args .b-start) (s .args .steps) (s .args .stride) (c .loop2 .k) (s .pre .b-inside) (omega arith))
+    omega (arith, inside (s .pre) (c .loop2 .k) (omega arith) .1)
 
 add-points-close-4 : tie.Need-add-points-close-4 Inv-loop μ-loop Inv-loop2 μ-loop2 Inv-offsets μ-offsets
 add-points-close-4 c =
     let s = c .before .before .before .before .before .before .before .before .before .before .before .before .before in
-    omega (arith, inside (s .args .b-start) (s .args .steps) (s .args .stride) (c .loop2 .k) (s .pre .b-inside) (omega arith))
+    omega (arith, inside (s .pre) (c .loop2 .k) (omega arith) .1)
 
 points-close-requires-2 : tie.Need-points-close-requires-2 Inv-loop μ-loop Inv-loop2 μ-loop2 Inv-offsets μ-offsets
 points-close-requires-2 c κs =
     let s = c .before .before .before .before .before .before .before .before .before .before .before .before .before in
-    (inside (s .args .a-start) (s .args .steps) (s .args .stride) (c .loop2 .j) (s .pre .a-inside) (omega arith), inside (s .args .b-start) (s .args .steps) (s .args .stride) (c .loop2 .k) (s .pre .b-inside) (omega arith))
-
-add-made-3 : tie.Need-add-made-3 Inv-loop μ-loop Inv-loop2 μ-loop2 Inv-offsets μ-offsets
-add-made-3 c = search needs
-
-add-made-4 : tie.Need-add-made-4 Inv-loop μ-loop Inv-loop2 μ-loop2 Inv-offsets μ-offsets
-add-made-4 c = search needs
-
-joined-requires-2 : tie.Need-joined-requires-2 Inv-loop μ-loop Inv-loop2 μ-loop2 Inv-offsets μ-offsets
-joined-requires-2 c κs = search needs
-
-back-requires : tie.Need-back-requires Inv-loop μ-loop Inv-loop2 μ-loop2 Inv-offsets μ-offsets
-back-requires c κs = search needs
-
-add-j-2 : tie.Need-add-j-2 Inv-loop μ-loop Inv-loop2 μ-loop2 Inv-offsets μ-offsets
-add-j-2 c = search needs
-
-loop2-less : tie.Need-loop2-less Inv-loop μ-loop Inv-loop2 μ-loop2 Inv-offsets μ-offsets
-loop2-less c = search needs
+    (inside (s .pre) (c .loop2 .j) (omega arith) .0, inside (s .pre) (c .loop2 .k) (omega arith) .1)
 
 loop2-again : tie.Need-loop2-again Inv-loop μ-loop Inv-loop2 μ-loop2 Inv-offsets μ-offsets
 loop2-again c =
@@ -213,20 +164,8 @@ loop2-again c =
     let o = e .before in
     let s = o .before .before .before .before .before in
     next-point allClose (rowA s) (rowB s) (Reverse (o .offsets .offset) (s .args .steps)) (o .offsets .comparisons + (l .loop .j + 1)) (r .loop2 .j) (r .loop2 .k) (s .pre .steps-most, omega (arith, o .offsets .inv, e .if2 .left), r .loop2 .inv .point) (i .if8 .left) (r .loop2 .inv)
-    (held (q .points-close2 .ensures) (i .before .if7 .left))
+    (q .points-close2 .ensures) (i .before .if7 .left)
     (h .back .ensures (r .loop2 .j) (omega arith) (r .loop2 .inv .mapped))
-
-add-comparisons-3 : tie.Need-add-comparisons-3 Inv-loop μ-loop Inv-loop2 μ-loop2 Inv-offsets μ-offsets
-add-comparisons-3 c = search needs
-
-add-comparisons-4 : tie.Need-add-comparisons-4 Inv-loop μ-loop Inv-loop2 μ-loop2 Inv-offsets μ-offsets
-add-comparisons-4 c = search needs
-
-add-offset : tie.Need-add-offset Inv-loop μ-loop Inv-loop2 μ-loop2 Inv-offsets μ-offsets
-add-offset c = search needs
-
-offsets-less : tie.Need-offsets-less Inv-loop μ-loop Inv-loop2 μ-loop2 Inv-offsets μ-offsets
-offsets-less c = search needs
 
 offsets-again : tie.Need-offsets-again Inv-loop μ-loop Inv-loop2 μ-loop2 Inv-offsets μ-offsets
 offsets-again c =
@@ -239,8 +178,8 @@ offsets-again c =
     let o = e .before in
     let s = o .before .before .before .before .before in
     next-offset allClose (rowA s) (rowB s) (s .args .steps) (o .before .if1 .end) (o .offsets .offset) (o .offsets .comparisons) (e .if2 .left) (o .offsets .inv) (omega (arith, s .pre .steps-most, l .loop .inv .point, r .loop2 .inv .point))
-    (far-point allClose (rowA s) (rowB s) (Forward (o .offsets .offset) (s .args .steps)) (o .offsets .comparisons) (l .loop .j) (l .loop .k) (l .loop .inv) (failed (p .points-close .ensures) (t .if4 .taken)))
-    (far-point allClose (rowA s) (rowB s) (Reverse (o .offsets .offset) (s .args .steps)) (o .offsets .comparisons + (l .loop .j + 1)) (r .loop2 .j) (r .loop2 .k) (r .loop2 .inv) (failed (q .points-close2 .ensures) (c .before .if7 .taken)))
+    (far-point allClose (rowA s) (rowB s) (Forward (o .offsets .offset) (s .args .steps)) (o .offsets .comparisons) (l .loop .j) (l .loop .k) (l .loop .inv) (p .points-close .ensures) (t .if4 .taken))
+    (far-point allClose (rowA s) (rowB s) (Reverse (o .offsets .offset) (s .args .steps)) (o .offsets .comparisons + (l .loop .j + 1)) (r .loop2 .j) (r .loop2 .k) (r .loop2 .inv) (q .points-close2 .ensures) (c .before .if7 .taken))
 
 returns : tie.Need-returns Inv-loop μ-loop Inv-loop2 μ-loop2 Inv-offsets μ-offsets
 returns c =
@@ -260,7 +199,7 @@ returns-2 c =
     let s = o .before .before .before .before .before in
     c .joined .ensures
     ∙ sym (forward-fits allClose (rowA s) (rowB s) (s .args .steps) (o .before .if1 .end) (o .offsets .offset) (o .offsets .comparisons) (e .if2 .left) (o .offsets .inv)
-    (last-point allClose (rowA s) (rowB s) (Forward (o .offsets .offset) (s .args .steps)) (o .offsets .comparisons) (l .loop .j) (l .loop .k) (i .if5 .taken) (l .loop .inv) (held (p .points-close .ensures) (i .before .if4 .left))))
+    (last-point allClose (rowA s) (rowB s) (Forward (o .offsets .offset) (s .args .steps)) (o .offsets .comparisons) (l .loop .j) (l .loop .k) (i .if5 .taken) (l .loop .inv) (p .points-close .ensures) (i .before .if4 .left)))
 
 returns-3 : tie.Need-returns-3 Inv-loop μ-loop Inv-loop2 μ-loop2 Inv-offsets μ-offsets
 returns-3 c =
@@ -275,8 +214,8 @@ returns-3 c =
     let s = o .before .before .before .before .before in
     c .joined2 .ensures
     ∙ sym (reverse-fits allClose (rowA s) (rowB s) (s .args .steps) (o .before .if1 .end) (o .offsets .offset) (o .offsets .comparisons) (e .if2 .left) (o .offsets .inv)
-    (far-point allClose (rowA s) (rowB s) (Forward (o .offsets .offset) (s .args .steps)) (o .offsets .comparisons) (l .loop .j) (l .loop .k) (l .loop .inv) (failed (p .points-close .ensures) (t .if4 .taken)))
-    (last-point allClose (rowA s) (rowB s) (Reverse (o .offsets .offset) (s .args .steps)) (o .offsets .comparisons + (l .loop .j + 1)) (r .loop2 .j) (r .loop2 .k) (i .if8 .taken) (r .loop2 .inv) (held (q .points-close2 .ensures) (i .before .if7 .left))))
+    (far-point allClose (rowA s) (rowB s) (Forward (o .offsets .offset) (s .args .steps)) (o .offsets .comparisons) (l .loop .j) (l .loop .k) (l .loop .inv) (p .points-close .ensures) (t .if4 .taken))
+    (last-point allClose (rowA s) (rowB s) (Reverse (o .offsets .offset) (s .args .steps)) (o .offsets .comparisons + (l .loop .j + 1)) (r .loop2 .j) (r .loop2 .k) (i .if8 .taken) (r .loop2 .inv) (q .points-close2 .ensures) (i .before .if7 .left)))
 
 pub search-rows-spec : {M : Type 1} → statement M
 search-rows-spec =
@@ -288,9 +227,9 @@ search-rows-spec =
     μ-loop2
     Inv-offsets
     μ-offsets
-    rows-closed-requires
+    (λ c κs. search needs)
     offsets-holds
-    unjoined-requires
+    (λ c κs. search needs)
     close-run-requires
     opposite-requires
     loop-holds
@@ -299,15 +238,15 @@ search-rows-spec =
     mul-points-close-2
     add-points-close-2
     points-close-requires
-    add-made
-    add-made-2
-    joined-requires
-    ahead-requires
-    add-j
-    loop-less
+    (λ c. search needs)
+    (λ c. search needs)
+    (λ c κs. search needs)
+    (λ c κs. search needs)
+    (λ c. search needs)
+    (λ c. search needs)
     loop-again
-    add-comparisons
-    add-comparisons-2
+    (λ c. search needs)
+    (λ c. search needs)
     close-run-requires-2
     opposite-requires-2
     loop2-holds
@@ -316,17 +255,17 @@ search-rows-spec =
     mul-points-close-4
     add-points-close-4
     points-close-requires-2
-    add-made-3
-    add-made-4
-    joined-requires-2
-    back-requires
-    add-j-2
-    loop2-less
+    (λ c. search needs)
+    (λ c. search needs)
+    (λ c κs. search needs)
+    (λ c κs. search needs)
+    (λ c. search needs)
+    (λ c. search needs)
     loop2-again
-    add-comparisons-3
-    add-comparisons-4
-    add-offset
-    offsets-less
+    (λ c. search needs)
+    (λ c. search needs)
+    (λ c. search needs)
+    (λ c. search needs)
     offsets-again
     returns
     returns-2
