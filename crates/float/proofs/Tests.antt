@@ -1,6 +1,6 @@
--- What the tests of code say: a comparison under `!`, two joined by `&`, and one whose other answer cannot be. Assumes nothing.
+-- What the tests of code say: a comparison under `!`, two joined by `&`, one whose other answer cannot be, and what is picked by one. Assumes nothing.
 use mathlib.Core.Path.{_≡_, refl, sym, _∙_}
-use mathlib.Core.Bool.{Bool, true, false, not, _&&_, and-eq-true-iff}
+use mathlib.Core.Bool.{Bool, true, false, not, _&&_, cond, and-eq-true-iff}
 use borrow.Author.Tests.{not-true, not-false}
 
 -- r is the answer x of a call
@@ -20,3 +20,7 @@ must false f = absurd (f refl)
 pub cannot : (t : Bool) → (t ≡ true → ⊥) → t ≡ false
 cannot true f = absurd (f refl)
 cannot false f = refl
+
+pub cond-keeps : {A : Type 0} (P : A → Type 0) (t : Bool) (a b : A) → P a → P b → P (cond t a b)
+cond-keeps P true a b p q = p
+cond-keeps P false a b p q = q

@@ -13,7 +13,7 @@ use Rattle.surface.specs.Surface.{Shape, proper, slot, kept, triangleNumber, wr
 use Rattle.surface.specs.Found.{ofMapping, surfaceWith}
 use Rattle.mesh.specs.declared.flipped.Axis.{Axis}
 use Rattle.mesh.specs.Rims.{oneMore, stepsOf}
-use Rattle.mesh.proofs.Cells.{kept-most}
+use Rattle.surface.proofs.Triangles.{kept-at-most}
 use Rattle.mesh.proofs.Joins.{inverse-is}
 
 pub number-step : (s : Shape) (k : ℕ) → triangleNumber s (suc k) ≡ oneMore (triangleNumber s k) (proper (slot s k))
@@ -26,7 +26,7 @@ number-step s k = length-append (kept s k) (cond (proper (slot s k)) (slot s k �
 
 pub number-most : (s : Shape) (k : ℕ) → triangleNumber s k ≤ k
 unfolding triangleNumber
-number-most s k = kept-most s k
+number-most s k = kept-at-most s k
 
 pub one-more-most : (k : ℕ) (b : Bool) → oneMore k b ≤ k + 1
 one-more-most k true = omega arith

@@ -3,7 +3,7 @@
 use Prim.Native.Nat.{ℕ, _+_, _-_, _<_}
 use mathlib.Core.Path.{_≡_, refl, sym, ap, _∙_, subst}
 use mathlib.Core.Logic.{_⊎_, inl, inr, ⊎-elim}
-use mathlib.Core.Bool.{Bool, true, false, _&&_, not, false≢true, cond}
+use mathlib.Core.Bool.{Bool, true, false, _&&_, not, false≢true, cond, Bool·not-not}
 use native.Mathlib.Omega.{arith}
 use lib.Dec.{eqb}
 use borrow.Author.Tests.{eqb-true, eq-eqb}
@@ -153,12 +153,8 @@ module _ (S : Strip) where
       (begins (p .k) (p .t) x y a b (p .cell) (p .along)))
       (compare S a b (p .k) (q .k) (p .t) (q .t) x y x′ y′ (p .cell) (q .cell) (along-same (p .along)) (along-same (q .along)))
     where
-      not-not : (t : Bool) → not (not t) ≡ t
-      not-not true = refl
-      not-not false = refl
-
       swap : Opposite S (p .k) (p .t) x y (q .k) (q .t) x′ y′ → Opposite S (q .k) (q .t) x′ y′ (p .k) (p .t) x y
-      swap o = (sym (o .0), cc (o .1, not-not (p .t)), cc (o .0, o .1, o .2, not-not (p .t)), cc (o .0, o .1, o .3, not-not (p .t)))
+      swap o = (sym (o .0), cc (o .1, Bool·not-not (p .t)), cc (o .0, o .1, o .2, Bool·not-not (p .t)), cc (o .0, o .1, o .3, Bool·not-not (p .t)))
 
   pub record Shared (h : Bool) (x y : ℕ) (h′ : Bool) (x′ y′ : ℕ) : Type 0 where
     pub a : ℕ

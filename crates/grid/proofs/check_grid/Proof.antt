@@ -17,9 +17,6 @@ steps-stand e = held (e .before .steps-fit .ensures) (e .if1 .left)
 stepped : (e : tie.Else1) → Stepped (e .before .before .before .args .m) (e .before .before .before .args .n)
 stepped e = steps-known _ _ (steps-stand e)
 
-steps-fit-requires : tie.Need-steps-fit-requires
-steps-fit-requires c κs = search needs
-
 returns : tie.Need-returns
 unfolding gridCheck
 returns c = rw (failed (c .before .steps-fit .ensures) (c .if1 .taken))
@@ -40,20 +37,11 @@ returns-2 : tie.Need-returns-2
 unfolding gridCheck
 returns-2 c = rw (steps-stand (c .before), ne-eqb _ _ (c .if2 .taken))
 
-enum-known-between : tie.Need-enum-known-between
-enum-known-between c = search needs
-
 returns-3 : tie.Need-returns-3
 unfolding gridCheck
 returns-3 c =
     let e = c .before .before .before in
     rw (steps-stand (e .before), eq-eqb _ _ (e .if2 .left), c .before .between .given .1)
-
-enum-told : tie.Need-enum-told
-enum-told c = search needs
-
-coordinates-fit-requires : tie.Need-coordinates-fit-requires
-coordinates-fit-requires c κs = search needs
 
 returns-4 : tie.Need-returns-4
 unfolding gridCheck
@@ -73,16 +61,16 @@ pub check-grid-spec : {M : Type 1} → statement M
 check-grid-spec =
     tie.close
     (tie.spec
-    steps-fit-requires
+    (λ c κs. search needs)
     returns
     add-if2
     add-if2-2
     mul-if2
     mul-if2-2
     returns-2
-    enum-known-between
+    (λ c. search needs)
     returns-3
-    enum-told
-    coordinates-fit-requires
+    (λ c. search needs)
+    (λ c κs. search needs)
     returns-4
     returns-5)

@@ -12,15 +12,6 @@ let-in e =
     let a = e .before .before .before .before .before .before .before .before .args in
     admitted (a .grid .now) (a .m) (a .n) (a .triangles .now) (a .flipped .now) (sym (e .before .before .check-mesh .ensures) ∙ e .enum-told .given .1)
 
-check-mesh-requires : tie.Need-check-mesh-requires
-check-mesh-requires c κs = search needs
-
-enum-known-k : tie.Need-enum-known-k
-enum-known-k c = search needs
-
-enum-told : tie.Need-enum-told
-enum-told c = search needs
-
 find-seams-requires : tie.Need-find-seams-requires
 find-seams-requires c κs = let-in c .accepted
 
@@ -31,24 +22,12 @@ triangulate-requires c κs =
     let i = let-in (c .before .before .before .before .before) in
     (found-bounded (t .args .grid .now) (t .args .m) (t .args .n) (i .accepted) (f .ensures .0) (f .ensures .1), (i .triangle-room, i .pair-room))
 
-same-length : tie.Need-same-length
-same-length c = search needs
-
-same-length-2 : tie.Need-same-length-2
-same-length-2 c = search needs
-
 returns : tie.Need-returns
 returns c =
     let a = c .before .before .before .before .before .before .before .before .before .args in (
       refused-hands (a .grid .now) (a .m) (a .n) (a .triangles .now) (a .flipped .now) (c .before .before .before .check-mesh .ensures) (c .before .k .given .1),
       surface-meets (a .grid .now) (a .m) (a .n),
     )
-
-same-length-3 : tie.Need-same-length-3
-same-length-3 c = search needs
-
-same-length-4 : tie.Need-same-length-4
-same-length-4 c = search needs
 
 returns-2 : tie.Need-returns-2
 returns-2 c =
@@ -64,14 +43,14 @@ pub triangulate-grid-spec : {M : Type 1} → statement M
 triangulate-grid-spec =
     tie.close
     (tie.spec
-    check-mesh-requires
-    enum-known-k
-    enum-told
+    (λ c κs. search needs)
+    (λ c. search needs)
+    (λ c. search needs)
     find-seams-requires
     triangulate-requires
-    same-length
-    same-length-2
+    (λ c. search needs)
+    (λ c. search needs)
     returns
-    same-length-3
-    same-length-4
+    (λ c. search needs)
+    (λ c. search needs)
     returns-2)

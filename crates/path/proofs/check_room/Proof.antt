@@ -1,9 +1,10 @@
 -- `path::check_room` meets its contract: the tests are those of the definition, and with M and N at most 255 the numbers fit.
 use native.Mathlib.Omega.{arith}
-use mathlib.Core.Path.{_≡_, sym, _∙_}
+use mathlib.Core.Path.{_≡_}
 use mathlib.Core.Bool.{true, false}
 use borrow.Author.Needs.{needs}
 use borrow.Author.Tests.{not-true, not-false}
+use Rattle.float.proofs.Tests.{held, failed}
 use Rattle.grid.specs.Grid.{stepsFit}
 use Rattle.grid.proofs.Laws.{Stepped, steps-known}
 use Rattle.path.specs.GridPaths.{roomFits}
@@ -12,16 +13,13 @@ use Rattle.path.proofs.check_room.Tie as tie
 
 -- 1 does not apply
 steps-stand : (e : tie.Else1) → stepsFit (e .before .before .before .before .args .m) (e .before .before .before .before .args .n) ≡ true
-steps-stand e = sym (e .before .steps-fit .ensures) ∙ not-false _ (e .if1 .left)
+steps-stand e = held (e .before .steps-fit .ensures) (e .if1 .left)
 
 stepped : (e : tie.Else1) → Stepped (e .before .before .before .before .args .m) (e .before .before .before .before .args .n)
 stepped e = steps-known _ _ (steps-stand e)
 
-steps-fit-requires : tie.Need-steps-fit-requires
-steps-fit-requires c κs = search needs
-
 returns : tie.Need-returns
-returns c = rw (sym (c .before .steps-fit .ensures) ∙ not-true _ (c .if1 .taken))
+returns c = rw (failed (c .before .steps-fit .ensures) (c .if1 .taken))
 
 add-fits : tie.Need-add-fits
 add-fits c = omega (arith, stepped c)
@@ -57,7 +55,7 @@ pub check-room-spec : {M : Type 1} → statement M
 check-room-spec =
     tie.close
     (tie.spec
-    steps-fit-requires
+    (λ c κs. search needs)
     returns
     add-fits
     add-fits-2

@@ -15,17 +15,8 @@ small c = ceil-small (c .before .before .args .x) (c .before .before .good .0 .1
 plus : (c : tie.Else2) → negative (c .before .before .before .before .before .before .args .x) ≡ false
 plus c = sym (c .before .is-negative .ensures) ∙ c .if2 .left
 
-abs-requires : tie.Need-abs-requires
-abs-requires c κs = search needs
-
 truncating-f64-to-u64-requires : tie.Need-truncating-f64-to-u64-requires
 truncating-f64-to-u64-requires c κs = small c .asked
-
-nearest-u64-to-f64-requires : tie.Need-nearest-u64-to-f64-requires
-nearest-u64-to-f64-requires c κs = search needs
-
-is-negative-requires : tie.Need-is-negative-requires
-is-negative-requires c κs = search needs
 
 returns : tie.Need-returns
 returns c =
@@ -36,9 +27,6 @@ add-nearest-u64-to-f64 : tie.Need-add-nearest-u64-to-f64
 add-nearest-u64-to-f64 c =
     let t = c .before .before .before .before in
     record { fits = omega (arith, small (t .before) .few (t .truncating-f64-to-u64 .ensures)) }
-
-nearest-u64-to-f64-requires-2 : tie.Need-nearest-u64-to-f64-requires-2
-nearest-u64-to-f64-requires-2 c κs = search needs
 
 returns-2 : tie.Need-returns-2
 returns-2 c =
@@ -58,12 +46,12 @@ pub ceil-spec : {M : Type 1} → statement M
 ceil-spec =
     tie.close
     (tie.spec
-    abs-requires
+    (λ c κs. search needs)
     truncating-f64-to-u64-requires
-    nearest-u64-to-f64-requires
-    is-negative-requires
+    (λ c κs. search needs)
+    (λ c κs. search needs)
     add-nearest-u64-to-f64
-    nearest-u64-to-f64-requires-2
+    (λ c κs. search needs)
     returns
     returns-2
     returns-3

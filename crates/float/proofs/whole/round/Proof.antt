@@ -10,20 +10,11 @@ use Rattle.float.proofs.whole.round.Tie as tie
 small : (c : tie.Then1) → Halved (c .before .before .args .x) (c .before .abs .result)
 small c = round-small (c .before .before .args .x) (c .before .before .good .0 .1) (c .before .abs .ensures) (c .if1 .taken)
 
-abs-requires : tie.Need-abs-requires
-abs-requires c κs = search needs
-
 truncating-f64-to-u64-requires : tie.Need-truncating-f64-to-u64-requires
 truncating-f64-to-u64-requires c κs = small c .asked
 
 add-nearest-u64-to-f64 : tie.Need-add-nearest-u64-to-f64
 add-nearest-u64-to-f64 c = record { fits = omega (arith, small (c .before) .few (c .truncating-f64-to-u64 .ensures)) }
-
-nearest-u64-to-f64-requires : tie.Need-nearest-u64-to-f64-requires
-nearest-u64-to-f64-requires c κs = search needs
-
-is-negative-requires : tie.Need-is-negative-requires
-is-negative-requires c κs = search needs
 
 returns : tie.Need-returns
 returns c =
@@ -39,4 +30,4 @@ returns-3 : tie.Need-returns-3
 returns-3 c = round-large (c .before .before .args .x) (c .before .before .good .0 .1) (c .before .abs .ensures) (c .if1 .left)
 
 pub round-spec : {M : Type 1} → statement M
-round-spec = tie.close (tie.spec abs-requires truncating-f64-to-u64-requires add-nearest-u64-to-f64 nearest-u64-to-f64-requires is-negative-requires returns returns-2 returns-3)
+round-spec = tie.close (tie.spec (λ c κs. search needs) truncating-f64-to-u64-requires add-nearest-u64-to-f64 (λ c κs. search needs) (λ c κs. search needs) returns returns-2 returns-3)

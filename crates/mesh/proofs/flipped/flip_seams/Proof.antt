@@ -33,9 +33,6 @@ flip-seam-requires-2 c κs =
       (rims-v (a .surface) (t .pre .0 .0) (a .starts .now) (t .pre .0 .2), omega (arith, k, seam-most U (shapeOf (a .surface)) (seamOf (a .surface .u)) [], f .kept .1 .1 .1 .1 .1 .0, t .pre .1)),
     )
 
-same-length : tie.Need-same-length
-same-length c = search needs
-
 returns : tie.Need-returns
 returns c =
     let a = c .before .before .before .before .before .before .before .before .before .before .before .before .args in
@@ -45,4 +42,4 @@ returns c =
     ∙ flipped-is s
 
 pub flip-seams-spec : {M : Type 1} → statement M
-flip-seams-spec = tie.close (tie.spec flip-seam-requires flip-seam-requires-2 same-length returns)
+flip-seams-spec = tie.close (tie.spec flip-seam-requires flip-seam-requires-2 (λ c. search needs) returns)

@@ -49,9 +49,6 @@ put e =
     ∙ ap (λ (k : ℕ). insert (ordered (triangleNumber s (lowOf (a .axis) s on)) k) ps) y
     ∙ put-both (a .axis) s (ofMapping (a .mapping)) (a .i) ps (on-is (e .before .before .before .before)) (on-there (e .before .before .before)) (e .before .before .low-differs .ensures) (e .before .high-differs .ensures) (not-false _ (e .if2 .left))
 
-rim-steps-requires : tie.Need-rim-steps-requires
-rim-steps-requires c κs = search needs
-
 step-on-requires : tie.Need-step-on-requires
 step-on-requires c κs =
     let t = c .before .before .before .before in
@@ -75,29 +72,8 @@ returns-2 c =
     let a = c .before .before .before .before .before .before .before .before .before .args in
     not-both (a .axis) (shapeOf (a .surface)) (ofMapping (a .mapping)) (a .i) (pairsIn (a .count) (a .flipped .now)) (on-is (c .before .before .before .before)) (on-there (c .before .before .before)) (c .before .before .low-differs .ensures) (c .before .high-differs .ensures) (not-true _ (c .if2 .taken))
 
-mul-a : tie.Need-mul-a
-mul-a c = search needs
-
-shared-slice-read-a : tie.Need-shared-slice-read-a
-shared-slice-read-a c = search needs
-
-add-b : tie.Need-add-b
-add-b c = search needs
-
-mul-b : tie.Need-mul-b
-mul-b c = search needs
-
-shared-slice-read-b : tie.Need-shared-slice-read-b
-shared-slice-read-b c = search needs
-
 sub-b : tie.Need-sub-b
 sub-b c = omega (arith, high-number (c .before .before))
-
-insert-pair-requires : tie.Need-insert-pair-requires
-insert-pair-requires c κs = search needs
-
-same-length : tie.Need-same-length
-same-length c = search needs
 
 returns-3 : tie.Need-returns-3
 returns-3 c =
@@ -106,12 +82,6 @@ returns-3 c =
     let x = getD (a .low .now) (e .before .before .before .before .step-on .result) 0 in
     let y = getD (a .high .now) (a .i + 1) 0 - 1 in
     c .before .before .insert-pair .ensures ∙ ap (λ (p : Pair). insert p (pairsIn (a .count) (a .flipped .now))) (ordered-up x y (c .before .before .before .before .if3 .taken)) ∙ put e
-
-insert-pair-requires-2 : tie.Need-insert-pair-requires-2
-insert-pair-requires-2 c κs = search needs
-
-same-length-2 : tie.Need-same-length-2
-same-length-2 c = search needs
 
 returns-4 : tie.Need-returns-4
 returns-4 c =
@@ -125,21 +95,21 @@ pub flip-step-spec : {M : Type 1} → statement M
 flip-step-spec =
     tie.close
     (tie.spec
-    rim-steps-requires
+    (λ c κs. search needs)
     step-on-requires
     returns
     low-differs-requires
     high-differs-requires
     returns-2
-    mul-a
-    shared-slice-read-a
-    add-b
-    mul-b
-    shared-slice-read-b
+    (λ c. search needs)
+    (λ c. search needs)
+    (λ c. search needs)
+    (λ c. search needs)
+    (λ c. search needs)
     sub-b
-    insert-pair-requires
-    same-length
+    (λ c κs. search needs)
+    (λ c. search needs)
     returns-3
-    insert-pair-requires-2
-    same-length-2
+    (λ c κs. search needs)
+    (λ c. search needs)
     returns-4)
