@@ -145,7 +145,7 @@ inside-mapping : (m : Seam) (n : ℕ) → Beside once m n → (b : ℕ) → b < 
 inside-mapping unjoined n h b k = absurd h
 inside-mapping (forward zero) n h b k = omega (arith, inv-forward-0 n b)
 inside-mapping (forward (suc o)) n h b k = ⊎-elim (λ w. omega arith) (λ w. omega arith) (inv-forward (suc o) n b (omega arith) h (omega arith))
-inside-mapping (reverse o) n h b k = ⊎-elim (λ w. omega arith) (λ v. ⊎-elim (λ w. omega arith) (λ w. omega arith) v) (inv-reverse o n b (h .0) (h .1) (omega arith))
+inside-mapping (reverse o) n h b k = ⊎-elim (λ w. omega arith) (λ w. omega arith) (inv-reverse o n b (h .0) (h .1) (omega arith))
 
 offset-closed : (o n : ℕ) → o < n → Offset o true n
 offset-closed zero n h = tt

@@ -8,7 +8,8 @@ use native.Mathlib.Omega.{arith}
 use lib.Dec.{eqb}
 use borrow.Author.Tests.{eqb-true, eq-eqb}
 use Rattle.surface.specs.Surface.{Seam, unjoined, forward, reverse, joined, reversed, Same}
-use Rattle.surface.proofs.Steps.{both-true, laidOn, on-below}
+use Rattle.float.proofs.Tests.{and-both}
+use Rattle.surface.proofs.Steps.{laidOn, on-below}
 use Rattle.surface.proofs.Strip.{Strip, Kind, straight, across, diagonal, nameFrom, nameTo, fromY, toX, toY, Valid, x-le, toX-le, fromY-le, toY-le, turned, colOf, stepAt, col-ne, next-ne}
 use Rattle.surface.proofs.CellSides.{Cell, sideFrom, sideTo, nameX, nameY, turnedAt, valid, named, far-col, far-step}
 use Rattle.surface.proofs.Owners.{same-flip, not-self, Holds, compare, SameTri, Opposite}
@@ -42,7 +43,7 @@ module _ (S : Strip) where
 
   turned-far : (x : ℕ) → turned S x ≡ true → (reversed seam ≡ true) × (x ≡ X)
   unfolding turned
-  turned-far x e = let p = both-true (reversed seam) (eqb x X) e in (p .0, eqb-true x X (p .1))
+  turned-far x e = let p = and-both (reversed seam) (eqb x X) e in (p .0, eqb-true x X (p .1))
 
   far-turned : reversed seam ≡ true → turned S X ≡ true
   unfolding turned

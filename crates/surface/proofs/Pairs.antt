@@ -10,7 +10,8 @@ use lib.Dec.{eqb, ltb}
 use lib.ListN.{length}
 use borrow.Author.Tests.{eq-eqb, ne-eqb, ltb-true, ltb-false, lt-ltb}
 use Rattle.surface.specs.Surface.{Seam, reverse, reversed, inverse, Shape, slot, proper, triangles, Pair, pair, ordered, insert, triangleNumber, stepOn, process, flipped, lowU, highU, lowV, highV, wrapEnds}
-use Rattle.surface.proofs.Steps.{both-true, eqb-cases, lt-or-le, Offset, laidOn, reverse-step}
+use Rattle.float.proofs.Tests.{and-both}
+use Rattle.surface.proofs.Steps.{eqb-cases, lt-or-le, Offset, laidOn, reverse-step}
 use Rattle.surface.proofs.Triangles.{number-below}
 use Rattle.surface.proofs.Halves.{lowU-lt, highU-lt, lowV-lt, highV-lt}
 
@@ -185,7 +186,7 @@ module _ (s : Shape) (m : Seam) (steps : ℕ) (low high : ℕ → ℕ) (P : ℕ 
       let i = low (stepOn m steps n) in
       cond-case (ltb (stepOn m steps n) steps) (P (suc n)) _ _
       (λ e. cond-case (proper (slot s i) && proper (slot s (high n))) (P (suc n)) _ _
-      (λ f. let g = both-true (proper (slot s i)) (proper (slot s (high n))) f in put n rest (omega arith) (ltb-true (stepOn m steps n) steps e) (g .0) (g .1) before)
+      (λ f. let g = and-both (proper (slot s i)) (proper (slot s (high n))) f in put n rest (omega arith) (ltb-true (stepOn m steps n) steps e) (g .0) (g .1) before)
       (λ f. skip n rest (omega arith) before))
       (λ e. skip n rest (omega arith) before)
 
