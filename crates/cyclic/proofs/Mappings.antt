@@ -4,7 +4,7 @@ use Prim.Native.Nat.{ℕ, zero, suc, _+_, _-_, _%_, _≤_, _<_}
 use native.Mathlib.Nat.{mod-eq-of-lt, mod-eq-sub-mod}
 use native.Mathlib.Omega.{arith}
 use mathlib.Core.Path.{_≡_, refl, subst, _∙_}
-use mathlib.Core.Logic.{_⊎_, inl, inr}
+use mathlib.Core.Logic.{_⊎_, inl, inr, ⊎-elim}
 use mathlib.Core.Bool.{Bool, true, false, _&&_}
 use lib.Dec.{ltb, leb}
 use borrow.Author.Tests.{ltb-true, ltb-false, leb-true, eq-eqb, ne-eqb}
@@ -16,6 +16,11 @@ use Rattle.cyclic.specs.Mapping.{image, inverse, offsetOf, stepsOf, usab
 -- one of three
 abbrev OneOf : Type 0 → Type 0 → Type 0 → Type 0
 OneOf a b c = a ⊎ (b ⊎ c)
+
+pub three : {A B C P : Type 0} → OneOf A B C → (A → P) → (B → P) → (C → P) → P
+three (inl a) f g h = f a
+three (inr (inl b)) f g h = g b
+three (inr (inr c)) f g h = h c
 
 -- a number below twice n, modulo n
 wrapped : (x n : ℕ) → x < n + n → ((x < n) × (x % n ≡ x)) ⊎ ((n ≤ x) × (x % n + n ≡ x))
@@ -115,19 +120,13 @@ inverse-at o n j h l = go (offset-cases o)
 -- Within the row
 
 forward-within : (o n j k : ℕ) → o < n → j ≤ n → ForwardAt o n j k → k ≤ n
-forward-within o n j k h l (inl w) = omega arith
-forward-within o n j k h l (inr (inl w)) = omega arith
-forward-within o n j k h l (inr (inr w)) = omega arith
+forward-within o n j k h l c = three c (λ w. omega arith) (λ w. omega arith) (λ w. omega arith)
 
 reverse-within : (o n j k : ℕ) → o < n → j ≤ n → ReverseAt o n j k → k ≤ n
-reverse-within o n j k h l (inl w) = omega arith
-reverse-within o n j k h l (inr (inl w)) = omega arith
-reverse-within o n j k h l (inr (inr w)) = omega arith
+reverse-within o n j k h l c = three c (λ w. omega arith) (λ w. omega arith) (λ w. omega arith)
 
 inverse-below : (o n j k : ℕ) → o < n → j ≤ n → InverseAt o n j k → k ≤ n
-inverse-below o n j k h l (inl w) = omega arith
-inverse-below o n j k h l (inr (inl w)) = omega arith
-inverse-below o n j k h l (inr (inr w)) = omega arith
+inverse-below o n j k h l c = three c (λ w. omega arith) (λ w. omega arith) (λ w. omega arith)
 
 pub image-within : (m : CyclicMapping) (j : ℕ) → HasIndex m j → image m j ≤ stepsOf m
 image-within (Forward o n) j u = forward-within o n j (image (Forward o n) j) (u .1) (u .2) (forward-at o n j (u .1) (u .2))
@@ -190,14 +189,10 @@ back-and-there (Forward o n) j u =
 back-and-there (Reverse o n) j u = rw reverse-same (rw reverse-same at (there-and-back (Reverse o n) j u))
 
 undone-same : (o n j i : ℕ) → (0 < o → j < n) → Undone o n j i → i ≡ j
-undone-same o n j i f (inl w) = w .1
-undone-same o n j i f (inr (inl w)) = w .2
-undone-same o n j i f (inr (inr w)) = absurd (omega (arith, f (w .0)))
+undone-same o n j i f c = three c (λ w. w .1) (λ w. w .2) (λ w. absurd (omega (arith, f (w .0))))
 
 undone-end : (o n i : ℕ) → 0 < o → Undone o n n i → i ≡ 0
-undone-end o n i p (inl w) = absurd (omega arith)
-undone-end o n i p (inr (inl w)) = absurd (omega arith)
-undone-end o n i p (inr (inr w)) = w .2
+undone-end o n i p c = three c (λ w. absurd (omega arith)) (λ w. absurd (omega arith)) (λ w. w .2)
 
 -- `map_index_inv` undoes `map_index`: at offset 0 at every index from 0 to steps, at another offset at every index below steps
 pub inverse-image : (m : CyclicMapping) (j : ℕ) → HasIndex m j → (0 < offsetOf m → j < stepsOf m) → inverse m (image m j) ≡ j
@@ -240,46 +235,31 @@ reverse-step o n j k l h b (inr (inr w)) (inr (inr v)) = inr (omega arith)
 
 -- the index after k = `image m j`, forward: k + 1, but 0 past the last where the offset is not 0
 pub forward-next : (o n j k : ℕ) → o < n → j < n → k ≡ image (Forward o n) j → (o ≡ 0) ⊎ ((k + 1 ≡ n) → ⊥) → k + 1 ≡ image (Forward o n) (j + 1)
-forward-next o n j k h b e f = go f (forward-step o n j (image (Forward o n) j) (image (Forward o n) (j + 1)) h b (forward-at o n j h (omega arith)) (forward-at o n (j + 1) h (omega arith)))
-  where
-    go : (o ≡ 0) ⊎ ((k + 1 ≡ n) → ⊥) → OneOf ((o ≡ 0) × (image (Forward o n) (j + 1) ≡ image (Forward o n) j + 1)) ((image (Forward o n) j + 1 < n) × (image (Forward o n) (j + 1) ≡ image (Forward o n) j + 1)) ((0 < o) × (image (Forward o n) j + 1 ≡ n) × (image (Forward o n) (j + 1) ≡ 0)) → k + 1 ≡ image (Forward o n) (j + 1)
-    go f (inl w) = omega arith
-    go f (inr (inl w)) = omega arith
-    go (inl z) (inr (inr w)) = absurd (omega arith)
-    go (inr g) (inr (inr w)) = absurd (g (omega arith))
+forward-next o n j k h b e f =
+    three (forward-step o n j (image (Forward o n) j) (image (Forward o n) (j + 1)) h b (forward-at o n j h (omega arith)) (forward-at o n (j + 1) h (omega arith)))
+    (λ w. omega arith)
+    (λ w. omega arith)
+    (λ w. ⊎-elim (λ z. absurd (omega arith)) (λ g. absurd (g (omega arith))) f)
 
 pub forward-wraps : (o n j k : ℕ) → o < n → j < n → k ≡ image (Forward o n) j → (o ≡ 0 → ⊥) → k + 1 ≡ n → 0 ≡ image (Forward o n) (j + 1)
-forward-wraps o n j k h b e f g = go (forward-step o n j (image (Forward o n) j) (image (Forward o n) (j + 1)) h b (forward-at o n j h (omega arith)) (forward-at o n (j + 1) h (omega arith)))
-  where
-    go : OneOf ((o ≡ 0) × (image (Forward o n) (j + 1) ≡ image (Forward o n) j + 1)) ((image (Forward o n) j + 1 < n) × (image (Forward o n) (j + 1) ≡ image (Forward o n) j + 1)) ((0 < o) × (image (Forward o n) j + 1 ≡ n) × (image (Forward o n) (j + 1) ≡ 0)) → 0 ≡ image (Forward o n) (j + 1)
-    go (inl w) = absurd (f (w .0))
-    go (inr (inl w)) = omega arith
-    go (inr (inr w)) = omega arith
+forward-wraps o n j k h b e f g =
+    three (forward-step o n j (image (Forward o n) j) (image (Forward o n) (j + 1)) h b (forward-at o n j h (omega arith)) (forward-at o n (j + 1) h (omega arith)))
+    (λ w. absurd (f (w .0)))
+    (λ w. omega arith)
+    (λ w. omega arith)
 
 -- the index after k in reverse: k - 1, and after 0 the last below steps
 pub reverse-next : (o n j k : ℕ) → o < n → j < n → k ≡ image (Reverse o n) j → ((0 < k) × (k - 1 ≡ image (Reverse o n) (j + 1))) ⊎ ((k ≡ 0) × (n - 1 ≡ image (Reverse o n) (j + 1)))
-reverse-next o n j k h b e = go (reverse-step o n j (image (Reverse o n) j) (image (Reverse o n) (j + 1)) h b (reverse-at o n j h (omega arith)) (reverse-at o n (j + 1) h (omega arith)))
-  where
-    go : ((image (Reverse o n) j ≡ 0) × (image (Reverse o n) (j + 1) + 1 ≡ n)) ⊎ (image (Reverse o n) (j + 1) + 1 ≡ image (Reverse o n) j) → ((0 < k) × (k - 1 ≡ image (Reverse o n) (j + 1))) ⊎ ((k ≡ 0) × (n - 1 ≡ image (Reverse o n) (j + 1)))
-    go (inl w) = inr (omega arith, omega arith)
-    go (inr w) = inl (omega arith, omega arith)
+reverse-next o n j k h b e =
+    ⊎-elim (λ w. inr (omega arith, omega arith)) (λ w. inl (omega arith, omega arith))
+    (reverse-step o n j (image (Reverse o n) j) (image (Reverse o n) (j + 1)) h b (reverse-at o n j h (omega arith)) (reverse-at o n (j + 1) h (omega arith)))
 
 -- the image of index 0, where the offset is not 0
 pub forward-first : (o n : ℕ) → o < n → (o ≡ 0 → ⊥) → o ≡ image (Forward o n) 0
-forward-first o n h f = go (forward-at o n 0 h (omega arith))
-  where
-    go : ForwardAt o n 0 (image (Forward o n) 0) → o ≡ image (Forward o n) 0
-    go (inl w) = absurd (f (w .0))
-    go (inr (inl w)) = omega arith
-    go (inr (inr w)) = absurd (omega arith)
+forward-first o n h f = three (forward-at o n 0 h (omega arith)) (λ w. absurd (f (w .0))) (λ w. omega arith) (λ w. absurd (omega arith))
 
 pub reverse-first : (o n : ℕ) → o < n → (o ≡ 0 → ⊥) → o ≡ image (Reverse o n) 0
-reverse-first o n h f = go (reverse-at o n 0 h (omega arith))
-  where
-    go : ReverseAt o n 0 (image (Reverse o n) 0) → o ≡ image (Reverse o n) 0
-    go (inl w) = absurd (f (w .0))
-    go (inr (inl w)) = omega arith
-    go (inr (inr w)) = absurd (omega arith)
+reverse-first o n h f = three (reverse-at o n 0 h (omega arith)) (λ w. absurd (f (w .0))) (λ w. omega arith) (λ w. absurd (omega arith))
 
 -- What the test of an index shows
 

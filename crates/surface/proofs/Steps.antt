@@ -8,9 +8,8 @@ use mathlib.Core.Bool.{Bool, true, false, _&&_, cond}
 use native.Mathlib.Omega.{arith}
 use lib.Dec.{eqb, ltb}
 use borrow.Author.Tests.{eqb-true, eqb-false, ltb-true, ltb-false, lt-ltb, le-ltb}
-use Rattle.cyclic.specs.declared.mapping.CyclicMapping.the-variants.{Reverse}
 use Rattle.cyclic.specs.Mapping as mapping
-use Rattle.cyclic.proofs.Mappings.{InverseAt, ReverseAt, inverse-at, reverse-at, reverse-same}
+use Rattle.cyclic.proofs.Mappings.{three, inverse-at, reverse-at, reverse-same}
 use Rattle.surface.specs.Surface.{Seam, unjoined, forward, reverse, inverse}
 
 -- two either-ors, case by case
@@ -90,20 +89,10 @@ unfolding mapping.inverse
 inv-reverse-0 n b = refl
 
 pub inv-forward : (o n b : ℕ) → 0 < o → o < n → b ≤ n → ((b < o) × (inverse (forward o) n b ≡ b + n - o)) ⊎ ((o ≤ b) × (inverse (forward o) n b ≡ b - o))
-inv-forward o n b p q r = go (inverse-at o n b q r)
-  where
-    go : InverseAt o n b (inverse (forward o) n b) → ((b < o) × (inverse (forward o) n b ≡ b + n - o)) ⊎ ((o ≤ b) × (inverse (forward o) n b ≡ b - o))
-    go (inl w) = absurd (omega arith)
-    go (inr (inl w)) = inr (w .1, omega arith)
-    go (inr (inr w)) = inl (w .1, omega arith)
+inv-forward o n b p q r = three (inverse-at o n b q r) (λ w. absurd (omega arith)) (λ w. inr (w .1, omega arith)) (λ w. inl (w .1, omega arith))
 
 pub inv-reverse : (o n b : ℕ) → 0 < o → o < n → b ≤ n → ((b ≤ o) × (inverse (reverse o) n b ≡ o - b)) ⊎ ((o < b) × (inverse (reverse o) n b ≡ o + n - b))
-inv-reverse o n b p q r = rw reverse-same (go (reverse-at o n b q r))
-  where
-    go : ReverseAt o n b (mapping.image (Reverse o n) b) → ((b ≤ o) × (mapping.image (Reverse o n) b ≡ o - b)) ⊎ ((o < b) × (mapping.image (Reverse o n) b ≡ o + n - b))
-    go (inl w) = absurd (omega arith)
-    go (inr (inl w)) = inl (w .1, omega arith)
-    go (inr (inr w)) = inr (w .1, omega arith)
+inv-reverse o n b p q r = rw reverse-same (three (reverse-at o n b q r) (λ w. absurd (omega arith)) (λ w. inl (w .1, omega arith)) (λ w. inr (w .1, omega arith)))
 
 -- ---- how a joined seam lays the steps of one row on those of the other
 

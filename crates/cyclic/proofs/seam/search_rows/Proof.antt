@@ -1,12 +1,13 @@
 -- `cyclic::seam::search_rows` meets its contract. The outer loop's invariant: the whole search is the search of the offsets that are left, after the
 -- comparisons so far. The inner loops': all points tried at an offset are the points that are left, after one comparison for each before, and k is the image of j.
 -- At most 131,072 comparisons are made at an offset, so that their sum fits. Assumes nothing.
-use Prim.Native.Nat.{_+_, _-_, _<_}
+use Prim.Native.Nat.{ℕ, _+_, _-_, _*_, _≤_, _<_}
 use native.Mathlib.Omega.{arith}
 use mathlib.Core.Path.{sym, _∙_}
 use mathlib.Core.Logic.{⊎-elim}
 use borrow.Author.Needs.{needs}
 use denote.Ref.{now}
+use lib.ListN.{length}
 use Rattle.vector.specs.Vectors.{allClose}
 use Rattle.cyclic.specs.declared.mapping.CyclicMapping.the-variants.{Forward, Reverse}
 use Rattle.cyclic.specs.Search.{Row, rowOf}
@@ -44,6 +45,20 @@ rowA s = rowOf (now (s .args .a)) (s .args .a-start) (s .args .stride)
 abbrev rowB : tie.Start Inv-loop μ-loop Inv-loop2 μ-loop2 Inv-offsets μ-offsets → Row
 rowB s = rowOf (now (s .args .b)) (s .args .b-start) (s .args .stride)
 
+-- points j and k stand in the lists of their rows
+abbrev Stand : tie.Start Inv-loop μ-loop Inv-loop2 μ-loop2 Inv-offsets μ-offsets → ℕ → ℕ → Type 0
+Stand s j k = (3 * (s .args .a-start + j * s .args .stride) + 3 ≤ length (now (s .args .a))) × (3 * (s .args .b-start + k * s .args .stride) + 3 ≤ length (now (s .args .b)))
+
+near : (c : tie.At-loop Inv-loop μ-loop Inv-loop2 μ-loop2 Inv-offsets μ-offsets) → Stand (c .before .before .before .before .before .before .before .before) (c .loop .j) (c .loop .k)
+near c =
+    let r = c .before .before .before .before .before .before .before .before .pre in
+    (inside r (c .loop .j) (c .loop .inv .point) .0, inside r (c .loop .k) (c .loop .inv .other) .1)
+
+near2 : (c : tie.At-loop2 Inv-loop μ-loop Inv-loop2 μ-loop2 Inv-offsets μ-offsets) → Stand (c .before .before .before .before .before .before .before .before .before .before .before .before .before) (c .loop2 .j) (c .loop2 .k)
+near2 c =
+    let r = c .before .before .before .before .before .before .before .before .before .before .before .before .before .pre in
+    (inside r (c .loop2 .j) (c .loop2 .inv .point) .0, inside r (c .loop2 .k) (c .loop2 .inv .other) .1)
+
 offsets-holds : tie.Need-offsets-holds Inv-loop μ-loop Inv-loop2 μ-loop2 Inv-offsets μ-offsets
 offsets-holds c =
     let s = c .before .before .before .before in
@@ -66,31 +81,6 @@ loop-holds c =
     ⊎-elim (λ w. rw (w .3) (forward-known allClose (rowA s) (rowB s) (o .offsets .offset) (s .args .steps) (o .offsets .comparisons) (w .1 .result) (w .0 .taken) (s .pre .steps-most, below, w .1 .ensures .0) (w .1 .ensures .1) (w .4 ∙ w .2 .ensures)))
     (λ w. rw (w .1) (first-point allClose (rowA s) (rowB s) (Forward (o .offsets .offset) (s .args .steps)) (o .offsets .comparisons) (s .pre .steps-most, below, omega arith) (w .2 ∙ forward-first (o .offsets .offset) (s .args .steps) below (w .0 .left))))
     (c .if3 .came)
-
-mul-points-close : tie.Need-mul-points-close Inv-loop μ-loop Inv-loop2 μ-loop2 Inv-offsets μ-offsets
-mul-points-close c =
-    let s = c .before .before .before .before .before .before .before .before in
-    omega (arith, inside (s .pre) (c .loop .j) (omega arith) .0)
-
-add-points-close : tie.Need-add-points-close Inv-loop μ-loop Inv-loop2 μ-loop2 Inv-offsets μ-offsets
-add-points-close c =
-    let s = c .before .before .before .before .before .before .before .before in
-    omega (arith, inside (s .pre) (c .loop .j) (omega arith) .0)
-
-mul-points-close-2 : tie.Need-mul-points-close-2 Inv-loop μ-loop Inv-loop2 μ-loop2 Inv-offsets μ-offsets
-mul-points-close-2 c =
-    let s = c .before .before .before .before .before .before .before .before in
-    omega (arith, inside (s .pre) (c .loop .k) (omega arith) .1)
-
-add-points-close-2 : tie.Need-add-points-close-2 Inv-loop μ-loop Inv-loop2 μ-loop2 Inv-offsets μ-offsets
-add-points-close-2 c =
-    let s = c .before .before .before .before .before .before .before .before in
-    omega (arith, inside (s .pre) (c .loop .k) (omega arith) .1)
-
-points-close-requires : tie.Need-points-close-requires Inv-loop μ-loop Inv-loop2 μ-loop2 Inv-offsets μ-offsets
-points-close-requires c κs =
-    let s = c .before .before .before .before .before .before .before .before in
-    (inside (s .pre) (c .loop .j) (omega arith) .0, inside (s .pre) (c .loop .k) (omega arith) .1)
 
 loop-again : tie.Need-loop-again Inv-loop μ-loop Inv-loop2 μ-loop2 Inv-offsets μ-offsets
 loop-again c =
@@ -125,31 +115,6 @@ loop2-holds c =
     ⊎-elim (λ w. rw (w .3) (reverse-known allClose (rowA s) (rowB s) (o .offsets .offset) (s .args .steps) made (w .1 .result) (w .0 .taken) (s .pre .steps-most, below, w .1 .ensures .0) (w .1 .ensures .1) (w .4 ∙ w .2 .ensures)))
     (λ w. rw (w .1) (first-point allClose (rowA s) (rowB s) (Reverse (o .offsets .offset) (s .args .steps)) made (s .pre .steps-most, below, omega arith) (w .2 ∙ reverse-first (o .offsets .offset) (s .args .steps) below (w .0 .left))))
     (c .if6 .came)
-
-mul-points-close-3 : tie.Need-mul-points-close-3 Inv-loop μ-loop Inv-loop2 μ-loop2 Inv-offsets μ-offsets
-mul-points-close-3 c =
-    let s = c .before .before .before .before .before .before .before .before .before .before .before .before .before in
-    omega (arith, inside (s .pre) (c .loop2 .j) (omega arith) .0)
-
-add-points-close-3 : tie.Need-add-points-close-3 Inv-loop μ-loop Inv-loop2 μ-loop2 Inv-offsets μ-offsets
-add-points-close-3 c =
-    let s = c .before .before .before .before .before .before .before .before .before .before .before .before .before in
-    omega (arith, inside (s .pre) (c .loop2 .j) (omega arith) .0)
-
-mul-points-close-4 : tie.Need-mul-points-close-4 Inv-loop μ-loop Inv-loop2 μ-loop2 Inv-offsets μ-offsets
-mul-points-close-4 c =
-    let s = c .before .before .before .before .before .before .before .before .before .before .before .before .before in
-    omega (arith, inside (s .pre) (c .loop2 .k) (omega arith) .1)
-
-add-points-close-4 : tie.Need-add-points-close-4 Inv-loop μ-loop Inv-loop2 μ-loop2 Inv-offsets μ-offsets
-add-points-close-4 c =
-    let s = c .before .before .before .before .before .before .before .before .before .before .before .before .before in
-    omega (arith, inside (s .pre) (c .loop2 .k) (omega arith) .1)
-
-points-close-requires-2 : tie.Need-points-close-requires-2 Inv-loop μ-loop Inv-loop2 μ-loop2 Inv-offsets μ-offsets
-points-close-requires-2 c κs =
-    let s = c .before .before .before .before .before .before .before .before .before .before .before .before .before in
-    (inside (s .pre) (c .loop2 .j) (omega arith) .0, inside (s .pre) (c .loop2 .k) (omega arith) .1)
 
 loop2-again : tie.Need-loop2-again Inv-loop μ-loop Inv-loop2 μ-loop2 Inv-offsets μ-offsets
 loop2-again c =
@@ -233,11 +198,11 @@ search-rows-spec =
     close-run-requires
     opposite-requires
     loop-holds
-    mul-points-close
-    add-points-close
-    mul-points-close-2
-    add-points-close-2
-    points-close-requires
+    (λ c. omega (arith, near c))
+    (λ c. omega (arith, near c))
+    (λ c. omega (arith, near c))
+    (λ c. omega (arith, near c))
+    (λ c κs. near c)
     (λ c. search needs)
     (λ c. search needs)
     (λ c κs. search needs)
@@ -250,11 +215,11 @@ search-rows-spec =
     close-run-requires-2
     opposite-requires-2
     loop2-holds
-    mul-points-close-3
-    add-points-close-3
-    mul-points-close-4
-    add-points-close-4
-    points-close-requires-2
+    (λ c. omega (arith, near2 c))
+    (λ c. omega (arith, near2 c))
+    (λ c. omega (arith, near2 c))
+    (λ c. omega (arith, near2 c))
+    (λ c κs. near2 c)
     (λ c. search needs)
     (λ c. search needs)
     (λ c κs. search needs)
