@@ -24,15 +24,20 @@ use Rattle.cyclic.specs.Search.{Row, Rows, Closeness, rowOf, searched, s
 
 -- Points
 
+opposite-within : (n j : ℕ) (reverse : Bool) → j ≤ n → cond reverse (n - j) j ≤ n
+opposite-within n j true l = omega arith
+opposite-within n j false l = l
+
 module _ {a b : List Float} {aStart bStart stride steps : ℕ} (rows : Rows a aStart b bStart stride steps) (j : ℕ) (l : j ≤ steps) where
   pub inside : (3 * (aStart + j * stride) + 3 ≤ length a) × (3 * (bStart + j * stride) + 3 ≤ length b)
   inside = let most = mul-le-mul-right stride l in (omega arith, omega arith)
 
-  -- of rows whose points follow each other in their lists
-  pub inside-next : stride ≡ 1 → (3 * (aStart + j) + 3 ≤ length a) × (3 * (bStart + j) + 3 ≤ length b)
-  inside-next e =
-      let same : j * stride ≡ j = rw e (omega arith) in
-      (omega (arith, inside .0), omega (arith, inside .1))
+  -- of rows whose points follow each other in their lists: point j of a, and point k of b that it meets at offset 0
+  pub inside-next : (reverse : Bool) {k : ℕ} → stride ≡ 1 → k ≡ cond reverse (steps - j) j → (3 * (aStart + j) + 3 ≤ length a) × (3 * (bStart + k) + 3 ≤ length b)
+  inside-next reverse {k} e f =
+      let same : steps * stride ≡ steps = rw e (omega arith) in
+      let most : k ≤ steps = rw f (opposite-within steps j reverse l) in
+      (omega arith, omega arith)
 
 pub first-point : (l : List Float) (start stride : ℕ) → pointAt l start ≡ rowOf l start stride 0
 first-point l start stride = ap (pointAt l) (omega arith)
@@ -47,10 +52,6 @@ close-in-rows a aStart b bStart stride j {i} {k} {l} e f g h =
     let x : aStart + j * stride ≡ i = rw e (omega arith) in
     let y : bStart + l * stride ≡ bStart + k = rw e (omega arith) in
     rw (x, y) h
-
-pub opposite-within : (n j : ℕ) (reverse : Bool) → j ≤ n → cond reverse (n - j) j ≤ n
-opposite-within n j true l = omega arith
-opposite-within n j false l = l
 
 -- Lengths
 
