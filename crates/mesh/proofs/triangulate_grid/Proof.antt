@@ -6,10 +6,13 @@ use Rattle.mesh.proofs.Answers.{Admitted, admitted, found-bounded, refu
 use Rattle.mesh.proofs.triangulate_grid.Statement.{statement}
 use Rattle.mesh.proofs.triangulate_grid.Tie as tie
 
+abbrev start : tie.After-enum-told → tie.Start
+start e = e .before .before .before .before .before .before .before .before
+
 -- no refusal applies
-let-in : (e : tie.After-enum-told) → Admitted (e .before .before .before .before .before .before .before .before .args .grid .now) (e .before .before .before .before .before .before .before .before .args .m) (e .before .before .before .before .before .before .before .before .args .n) (e .before .before .before .before .before .before .before .before .args .triangles .now) (e .before .before .before .before .before .before .before .before .args .flipped .now)
+let-in : (e : tie.After-enum-told) → Admitted (start e .args .grid .now) (start e .args .m) (start e .args .n) (start e .args .triangles .now) (start e .args .flipped .now)
 let-in e =
-    let a = e .before .before .before .before .before .before .before .before .args in
+    let a = start e .args in
     admitted (a .grid .now) (a .m) (a .n) (a .triangles .now) (a .flipped .now) (sym (e .before .before .check-mesh .ensures) ∙ e .enum-told .given .1)
 
 find-seams-requires : tie.Need-find-seams-requires

@@ -13,8 +13,11 @@ use Rattle.mesh.proofs.Flips.{rims-v, seam-most, held-pairs, flipped-is
 use Rattle.mesh.proofs.flipped.flip_seams.Statement.{statement}
 use Rattle.mesh.proofs.flipped.flip_seams.Tie as tie
 
+abbrev start : tie.After-flip-seam → tie.Start
+start e = e .before .before .before .before .before .before
+
 -- the u seam's pairs
-first : (e : tie.After-flip-seam) → pairsIn (e .flip-seam .result) (e .flip-seam .last .1 .1 .1 .1 .1 .0) ≡ flips U (shapeOf (e .before .before .before .before .before .before .args .surface)) (seamOf (e .before .before .before .before .before .before .args .surface .u)) []
+first : (e : tie.After-flip-seam) → pairsIn (e .flip-seam .result) (e .flip-seam .last .1 .1 .1 .1 .1 .0) ≡ flips U (shapeOf (start e .args .surface)) (seamOf (start e .args .surface .u)) []
 unfolding firsts
 first e = e .flip-seam .ensures
 
