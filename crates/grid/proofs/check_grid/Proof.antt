@@ -21,18 +21,6 @@ returns : tie.Need-returns
 unfolding gridCheck
 returns c = rw (failed (c .before .steps-fit .ensures) (c .if1 .taken))
 
-add-if2 : tie.Need-add-if2
-add-if2 c = omega (arith, stepped c)
-
-add-if2-2 : tie.Need-add-if2-2
-add-if2-2 c = omega (arith, stepped c)
-
-mul-if2 : tie.Need-mul-if2
-mul-if2 c = omega (arith, stepped c)
-
-mul-if2-2 : tie.Need-mul-if2-2
-mul-if2-2 c = omega (arith, stepped c)
-
 returns-2 : tie.Need-returns-2
 unfolding gridCheck
 returns-2 c = rw (steps-stand (c .before), ne-eqb _ _ (c .if2 .taken))
@@ -63,10 +51,10 @@ check-grid-spec =
     (tie.spec
     (λ c κs. search needs)
     returns
-    add-if2
-    add-if2-2
-    mul-if2
-    mul-if2-2
+    (λ c. omega (arith, stepped c))
+    (λ c. omega (arith, stepped c))
+    (λ c. omega (arith, stepped c))
+    (λ c. omega (arith, stepped c))
     returns-2
     (λ c. search needs)
     returns-3

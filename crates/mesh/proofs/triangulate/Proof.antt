@@ -12,10 +12,10 @@ use Rattle.mesh.proofs.Answers.{all-kept, triangles-most, triangles-fil
 use Rattle.mesh.proofs.triangulate.Statement.{statement}
 use Rattle.mesh.proofs.triangulate.Tie as tie
 
-triangles-fit : (e : tie.After-build-triangles) → 3 * e .build-triangles .result ≤ 6 * (e .before .before .before .before .before .args .surface .m * e .before .before .before .before .before .args .surface .n)
+triangles-fit : (e : tie.After-build-triangles) → let a = e .before .before .before .before .before .args in 3 * e .build-triangles .result ≤ 6 * (a .surface .m * a .surface .n)
 triangles-fit e = triangles-most (shapeOf (e .before .before .before .before .before .args .surface)) (e .build-triangles .result) (e .build-triangles .last .1 .0) (e .build-triangles .ensures .0)
 
-pairs-fit : (e : tie.After-find-flipped) → 2 * e .find-flipped .result ≤ 2 * (e .before .before .before .before .before .before .before .before .before .before .before .args .surface .m + e .before .before .before .before .before .before .before .before .before .before .before .args .surface .n)
+pairs-fit : (e : tie.After-find-flipped) → let a = e .before .before .before .before .before .before .before .before .before .before .before .args in 2 * e .find-flipped .result ≤ 2 * (a .surface .m + a .surface .n)
 pairs-fit e = pairs-most (shapeOf (e .before .before .before .before .before .before .before .before .before .before .before .args .surface)) (e .find-flipped .result) (e .find-flipped .last .1 .1 .0) (e .find-flipped .ensures)
 
 build-triangles-requires : tie.Need-build-triangles-requires

@@ -17,12 +17,12 @@ use Rattle.mesh.proofs.flipped.flip_step.Statement.{statement}
 use Rattle.mesh.proofs.flipped.flip_step.Tie as tie
 
 -- the step of the low rim
-on-is : (e : tie.After-step-on) → e .step-on .result ≡ stepOn (ofMapping (e .before .before .before .before .before .args .mapping)) (stepsOf (e .before .before .before .before .before .args .axis) (shapeOf (e .before .before .before .before .before .args .surface))) (e .before .before .before .before .before .args .i)
+on-is : (e : tie.After-step-on) → let a = e .before .before .before .before .before .args in e .step-on .result ≡ stepOn (ofMapping (a .mapping)) (stepsOf (a .axis) (shapeOf (a .surface))) (a .i)
 on-is e =
     let a = e .before .before .before .before .before .args in
     e .step-on .ensures ∙ ap (λ (k : ℕ). stepOn (ofMapping (a .mapping)) k (a .i)) (e .before .rim-steps .ensures)
 
-on-there : (e : tie.Else1) → e .before .step-on .result < stepsOf (e .before .before .before .before .before .before .args .axis) (shapeOf (e .before .before .before .before .before .before .args .surface))
+on-there : (e : tie.Else1) → let a = e .before .before .before .before .before .before .args in e .before .step-on .result < stepsOf (a .axis) (shapeOf (a .surface))
 on-there e = omega (arith, e .if1 .left, e .before .before .rim-steps .ensures)
 
 -- where both triangles are there: the start, the surface, the step, the pairs before

@@ -22,15 +22,6 @@ loop-holds c = (refl, refl, refl, omega arith, refl)
 less : (t : tie.In-loop Inv-loop μ-loop) → Fewer 1 (t .before .loop .left) (t .before .before .before .before .args .step)
 less t = fewer 1 _ _ (t .loop-test .taken)
 
-add-number1 : tie.Need-add-number1 Inv-loop μ-loop
-add-number1 c = omega (arith, less c, c)
-
-add-number2 : tie.Need-add-number2 Inv-loop μ-loop
-add-number2 c = omega (arith, less c, c)
-
-add-number3 : tie.Need-add-number3 Inv-loop μ-loop
-add-number3 c = omega (arith, less c, c)
-
 point-at-requires : tie.Need-point-at-requires Inv-loop μ-loop
 point-at-requires c κs = let t = c .before in omega (arith, less t, t)
 
@@ -110,9 +101,9 @@ draw-four-spec =
     μ-loop
     (λ c. omega arith)
     loop-holds
-    add-number1
-    add-number2
-    add-number3
+    (λ c. omega (arith, less c, c))
+    (λ c. omega (arith, less c, c))
+    (λ c. omega (arith, less c, c))
     (λ c. omega arith)
     (λ c. omega arith)
     (λ c. omega arith)

@@ -15,12 +15,6 @@ there c = let s = c .before .before in has-index-as _ (s .self .given .1) (s .be
 returns : tie.Need-returns
 returns c = rw (c .before .before .self .given .1) (sym (forward-zero _ _ _ (c .if1 .taken)))
 
-add-result : tie.Need-add-result
-add-result c = omega (arith, there c)
-
-rem-result : tie.Need-rem-result
-rem-result c = omega (arith, there c)
-
 reversed-requires : tie.Need-reversed-requires
 reversed-requires c κs = has-index-as (c .before .before .before .args .a-idx) (c .before .self2 .given .1) (c .before .before .before .pre)
 
@@ -36,8 +30,8 @@ image-spec =
     (tie.spec
     (λ c. search needs)
     returns
-    add-result
-    rem-result
+    (λ c. omega (arith, there c))
+    (λ c. omega (arith, there c))
     (λ c. search needs)
     reversed-requires
     returns-2

@@ -16,19 +16,10 @@ there c = let s = c .before .before in has-index-as _ (s .self .given .1) (s .be
 returns : tie.Need-returns
 returns c = rw (c .before .before .self .given .1) (sym (inverse-zero _ _ _ (c .if1 .taken)))
 
-add-result : tie.Need-add-result
-add-result c = omega (arith, there c)
-
-rem-result : tie.Need-rem-result
-rem-result c = omega (arith, there c)
-
 sub-result : tie.Need-sub-result
 sub-result c =
     let s = c .before .before .self .given .0 in
     omega (arith, there c, mod-lt (s .0) {m = s .1 .0} (omega (arith, there c)))
-
-rem-result-2 : tie.Need-rem-result-2
-rem-result-2 c = omega (arith, there c)
 
 reversed-requires : tie.Need-reversed-requires
 reversed-requires c κs = has-index-as (c .before .before .before .args .b-idx) (c .before .self2 .given .1) (c .before .before .before .pre)
@@ -45,10 +36,10 @@ inverse-spec =
     (tie.spec
     (λ c. search needs)
     returns
-    add-result
-    rem-result
+    (λ c. omega (arith, there c))
+    (λ c. omega (arith, there c))
     sub-result
-    rem-result-2
+    (λ c. omega (arith, there c))
     (λ c. search needs)
     reversed-requires
     returns-2
