@@ -1,15 +1,13 @@
 -- `texture::plan::texture_fits` meets its contract: each case's test is the definition's. Assumes nothing.
-use Rattle.texture.specs.Plan.{textureFits}
-use mathlib.Core.Path.{sym, ap, _∙_}
 use borrow.Author.Needs.{needs}
 use Rattle.texture.proofs.plan.texture_fits.Statement.{statement}
 use Rattle.texture.proofs.plan.texture_fits.Tie as tie
 
 returns-2 : tie.Need-returns-2
-returns-2 c = c .at-most .ensures ∙ ap textureFits (sym (c .before .before .texture .given .1))
+returns-2 c = rw (c .before .before .texture .given .1) (c .at-most .ensures)
 
 returns-3 : tie.Need-returns-3
-returns-3 c = ap textureFits (sym (c .before .texture2 .given .1))
+returns-3 c = rw (c .before .texture2 .given .1)
 
 pub texture-fits-spec : {M : Type 1} → statement M
 texture-fits-spec =
