@@ -6,7 +6,7 @@ use native.Mathlib.Nat.{suc-mul, mul-assoc, mul-left-comm, mul-le-mul-right}
 use native.Mathlib.Omega.{arith}
 use mathlib.Core.Path.{_≡_, refl, sym, subst, _∙_}
 use mathlib.Core.Logic.{_⊎_, inl, inr}
-use mathlib.Core.Bool.{Bool, true, false, _&&_, true≢false}
+use mathlib.Core.Bool.{Bool, true, false, _&&_, true≢false, cond}
 use lib.Dec.{ltb}
 use borrow.Author.Tests.{ltb-true, ltb-false}
 use Rattle.cyclic.specs.declared.mapping.CyclicMapping.{CyclicMapping}
@@ -15,7 +15,7 @@ use Rattle.cyclic.specs.declared.seam.Seam.{Seam}
 use Rattle.cyclic.specs.declared.seam.Seam.the-variants.{Joined, Unjoined}
 use Rattle.cyclic.specs.declared.seam.SeamSearch.{SeamSearch}
 use Rattle.cyclic.specs.declared.seam.Tried.{Tried}
-use Rattle.cyclic.specs.Mapping.{pick, image, offsetOf, stepsOf, isReverse}
+use Rattle.cyclic.specs.Mapping.{image, offsetOf, stepsOf, isReverse}
 use Rattle.cyclic.specs.Search.{Row, Closeness, tried, searched, tryFrom, closed, searchFrom, searchRows}
 
 -- row a fits row b by m: each point of a is close to its image
@@ -28,7 +28,7 @@ Neither close a b n o = (Fits close a b (Forward o n) → ⊥) × (Fits close a 
 
 -- how many offsets are tried: all where both rows are closed, else offset 0
 abbrev pub offsetsTried : Closeness → Row → Row → ℕ → ℕ
-offsetsTried close a b n = pick (close (a 0) (a n) && close (b 0) (b n)) n 1
+offsetsTried close a b n = cond (close (a 0) (a n) && close (b 0) (b n)) n 1
 
 -- the mapping that a search of k offsets from o on finds
 pub record Joins (close : Closeness) (a b : Row) (n o k : ℕ) (m : CyclicMapping) : Type 0 where
@@ -58,7 +58,7 @@ module _ (close : Closeness) (a b : Row) where
   tried-close m zero j c h i l g = absurd (omega arith)
   tried-close m (suc k) j c h i l g = go (close (a j) (b (image m j))) refl h (at-least j i l) (λ e q. tried-close m k (j + 1) (c + 1) e i q (omega arith))
     where
-      go : (t : Bool) → close (a j) (b (image m j)) ≡ t → pick t (tryFrom close a b m k (j + 1) (c + 1)) (tried false (c + 1)) .fits ≡ true → (j ≡ i) ⊎ (j + 1 ≤ i) → (tryFrom close a b m k (j + 1) (c + 1) .fits ≡ true → j + 1 ≤ i → close (a i) (b (image m i)) ≡ true) → close (a i) (b (image m i)) ≡ true
+      go : (t : Bool) → close (a j) (b (image m j)) ≡ t → cond t (tryFrom close a b m k (j + 1) (c + 1)) (tried false (c + 1)) .fits ≡ true → (j ≡ i) ⊎ (j + 1 ≤ i) → (tryFrom close a b m k (j + 1) (c + 1) .fits ≡ true → j + 1 ≤ i → close (a i) (b (image m i)) ≡ true) → close (a i) (b (image m i)) ≡ true
       go true e h (inl q) f = subst (λ (x : ℕ). close (a x) (b (image m x)) ≡ true) q e
       go true e h (inr q) f = f h q
       go false e h q f = absurd (true≢false (sym h))
@@ -73,7 +73,7 @@ module _ (close : Closeness) (a b : Row) where
   made-most m zero j c = omega arith
   made-most m (suc k) j c = go (close (a j) (b (image m j))) (made-most m k (j + 1) (c + 1))
     where
-      go : (t : Bool) → tryFrom close a b m k (j + 1) (c + 1) .made ≤ c + 1 + k → pick t (tryFrom close a b m k (j + 1) (c + 1)) (tried false (c + 1)) .made ≤ c + suc k
+      go : (t : Bool) → tryFrom close a b m k (j + 1) (c + 1) .made ≤ c + 1 + k → cond t (tryFrom close a b m k (j + 1) (c + 1)) (tried false (c + 1)) .made ≤ c + suc k
       go true h = omega arith
       go false h = omega arith
 
@@ -102,10 +102,10 @@ module _ (close : Closeness) (a b : Row) where
       go i g (inr q) = t i q (omega arith)
 
   -- one offset: forward, then reverse, then what is left
-  one-offset : (n o k : ℕ) (f r : Tried) (s : SeamSearch) → (f .fits ≡ true → Fits close a b (Forward o n)) → (f .fits ≡ false → Fits close a b (Forward o n) → ⊥) → (r .fits ≡ true → Fits close a b (Reverse o n)) → (r .fits ≡ false → Fits close a b (Reverse o n) → ⊥) → Outcome close a b n (o + 1) k (s .seam) → Outcome close a b n o (suc k) (pick (f .fits) (searched (Joined (Forward o n)) (f .made)) (pick (r .fits) (searched (Joined (Reverse o n)) (r .made)) s) .seam)
+  one-offset : (n o k : ℕ) (f r : Tried) (s : SeamSearch) → (f .fits ≡ true → Fits close a b (Forward o n)) → (f .fits ≡ false → Fits close a b (Forward o n) → ⊥) → (r .fits ≡ true → Fits close a b (Reverse o n)) → (r .fits ≡ false → Fits close a b (Reverse o n) → ⊥) → Outcome close a b n (o + 1) k (s .seam) → Outcome close a b n o (suc k) (cond (f .fits) (searched (Joined (Forward o n)) (f .made)) (cond (r .fits) (searched (Joined (Reverse o n)) (r .made)) s) .seam)
   one-offset n o k f r s ft ff rt rf t = go (f .fits) (r .fits) refl refl
     where
-      go : (x y : Bool) → f .fits ≡ x → r .fits ≡ y → Outcome close a b n o (suc k) (pick x (searched (Joined (Forward o n)) (f .made)) (pick y (searched (Joined (Reverse o n)) (r .made)) s) .seam)
+      go : (x y : Bool) → f .fits ≡ x → r .fits ≡ y → Outcome close a b n o (suc k) (cond x (searched (Joined (Forward o n)) (f .made)) (cond y (searched (Joined (Reverse o n)) (r .made)) s) .seam)
       go true y e g = record { steps = refl; least = omega arith; below = omega arith; fits = ft e; earlier = λ i l h. absurd (omega arith); not-forward = λ h. absurd (true≢false (sym h)) }
       go false true e g = record { steps = refl; least = omega arith; below = omega arith; fits = rt g; earlier = λ i l h. absurd (omega arith); not-forward = λ h. ff e }
       go false false e g = extend n o k (s .seam) (ff e, rf g) t
@@ -123,14 +123,14 @@ module _ (close : Closeness) (a b : Row) where
   unfolding closed
   closed-both n = go (close (a 0) (a n))
     where
-      go : (t : Bool) → pick t (tried (close (b 0) (b n)) 2) (tried false 1) .fits ≡ t && close (b 0) (b n)
+      go : (t : Bool) → cond t (tried (close (b 0) (b n)) 2) (tried false 1) .fits ≡ t && close (b 0) (b n)
       go true = refl
       go false = refl
 
   -- what a search's answer says
   pub outcome : (n : ℕ) → Outcome close a b n 0 (offsetsTried close a b n) (searchRows close a b n .seam)
   unfolding searchRows
-  outcome n = rw (← closed-both n) (outcome-from n (pick (closed close a b n .fits) n 1) 0 (closed close a b n .made))
+  outcome n = rw (← closed-both n) (outcome-from n (cond (closed close a b n .fits) n 1) 0 (closed close a b n .made))
 
   -- A mapping was found
 
@@ -140,7 +140,7 @@ module _ (close : Closeness) (a b : Row) where
   tried-most : (n : ℕ) → 1 ≤ n → offsetsTried close a b n ≤ n
   tried-most n l = go (close (a 0) (a n) && close (b 0) (b n))
     where
-      go : (t : Bool) → pick t n 1 ≤ n
+      go : (t : Bool) → cond t n 1 ≤ n
       go true = omega arith
       go false = l
 
@@ -182,10 +182,10 @@ module _ (close : Closeness) (a b : Row) where
 
   -- Comparisons: at most 2 for the ends, and 2·(n + 1) at each offset
 
-  pick-most : (x y : Bool) (p q : Seam) (s : SeamSearch) (f r t : ℕ) → f ≤ t → r ≤ t → s .comparisons ≤ t → pick x (searched p f) (pick y (searched q r) s) .comparisons ≤ t
-  pick-most true y p q s f r t h g l = h
-  pick-most false true p q s f r t h g l = g
-  pick-most false false p q s f r t h g l = l
+  cond-most : (x y : Bool) (p q : Seam) (s : SeamSearch) (f r t : ℕ) → f ≤ t → r ≤ t → s .comparisons ≤ t → cond x (searched p f) (cond y (searched q r) s) .comparisons ≤ t
+  cond-most true y p q s f r t h g l = h
+  cond-most false true p q s f r t h g l = g
+  cond-most false false p q s f r t h g l = l
 
   count-from : (n k o c : ℕ) → searchFrom close a b n k o c .comparisons ≤ c + k * (2 * (n + 1))
   unfolding searchFrom
@@ -197,20 +197,20 @@ module _ (close : Closeness) (a b : Row) where
       let hr = made-most (Reverse o n) (n + 1) 0 (f .made) in
       let hs = count-from n k (o + 1) (r .made) in
       let e = suc-mul k (2 * (n + 1)) in
-      pick-most (f .fits) (r .fits) (Joined (Forward o n)) (Joined (Reverse o n)) (searchFrom close a b n k (o + 1) (r .made)) (f .made) (r .made) (c + suc k * (2 * (n + 1))) (omega arith) (omega arith) (omega arith)
+      cond-most (f .fits) (r .fits) (Joined (Forward o n)) (Joined (Reverse o n)) (searchFrom close a b n k (o + 1) (r .made)) (f .made) (r .made) (c + suc k * (2 * (n + 1))) (omega arith) (omega arith) (omega arith)
 
   ends-most : (n : ℕ) → closed close a b n .made ≤ 2
   unfolding closed
   ends-most n = go (close (a 0) (a n))
     where
-      go : (t : Bool) → pick t (tried (close (b 0) (b n)) 2) (tried false 1) .made ≤ 2
+      go : (t : Bool) → cond t (tried (close (b 0) (b n)) 2) (tried false 1) .made ≤ 2
       go true = omega arith
       go false = omega arith
 
   pub count-most : (n : ℕ) → 1 ≤ n → searchRows close a b n .comparisons ≤ 2 + 2 * n * (n + 1)
   unfolding searchRows
   count-most n l =
-      let k = pick (closed close a b n .fits) n 1 in
+      let k = cond (closed close a b n .fits) n 1 in
       let h = count-from n k 0 (closed close a b n .made) in
-      let e : k ≤ n = subst (λ (t : Bool). pick t n 1 ≤ n) (sym (closed-both n)) (tried-most n l) in
+      let e : k ≤ n = subst (λ (t : Bool). cond t n 1 ≤ n) (sym (closed-both n)) (tried-most n l) in
       omega (arith, ends-most n, mul-le-mul-right (2 * (n + 1)) e, mul-left-comm n 2 (n + 1), mul-assoc 2 n (n + 1))

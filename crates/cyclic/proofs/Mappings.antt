@@ -3,18 +3,24 @@
 use Prim.Native.Nat.{ℕ, zero, suc, _+_, _-_, _%_, _≤_, _<_}
 use native.Mathlib.Nat.{mod-eq-of-lt, mod-eq-sub-mod}
 use native.Mathlib.Omega.{arith}
-use mathlib.Core.Path.{_≡_, refl, sym, subst, _∙_}
-use mathlib.Core.Logic.{_⊎_, inl, inr}
-use mathlib.Core.Bool.{Bool, true, false, _&&_, true≢false}
+use mathlib.Core.Path.{_≡_, refl, subst, _∙_}
+use mathlib.Core.Logic.{_⊎_, inl, inr, ⊎-elim}
+use mathlib.Core.Bool.{Bool, true, false, _&&_}
 use lib.Dec.{ltb, leb}
 use borrow.Author.Tests.{ltb-true, ltb-false, leb-true, eq-eqb, ne-eqb}
+use Rattle.float.proofs.Tests.{and-both}
 use Rattle.cyclic.specs.declared.mapping.CyclicMapping.{CyclicMapping}
 use Rattle.cyclic.specs.declared.mapping.CyclicMapping.the-variants.{Forward, Reverse}
-use Rattle.cyclic.specs.Mapping.{image, inverse, offsetOf, stepsOf, usable, Usable}
+use Rattle.cyclic.specs.Mapping.{image, inverse, offsetOf, stepsOf, usable, HasIndex}
 
 -- one of three
 abbrev OneOf : Type 0 → Type 0 → Type 0 → Type 0
 OneOf a b c = a ⊎ (b ⊎ c)
+
+pub three : {A B C P : Type 0} → OneOf A B C → (A → P) → (B → P) → (C → P) → P
+three (inl a) f g h = f a
+three (inr (inl b)) f g h = g b
+three (inr (inr c)) f g h = h c
 
 -- a number below twice n, modulo n
 wrapped : (x n : ℕ) → x < n + n → ((x < n) × (x % n ≡ x)) ⊎ ((n ≤ x) × (x % n + n ≡ x))
@@ -114,25 +120,19 @@ inverse-at o n j h l = go (offset-cases o)
 -- Within the row
 
 forward-within : (o n j k : ℕ) → o < n → j ≤ n → ForwardAt o n j k → k ≤ n
-forward-within o n j k h l (inl w) = omega arith
-forward-within o n j k h l (inr (inl w)) = omega arith
-forward-within o n j k h l (inr (inr w)) = omega arith
+forward-within o n j k h l c = three c (λ w. omega arith) (λ w. omega arith) (λ w. omega arith)
 
 reverse-within : (o n j k : ℕ) → o < n → j ≤ n → ReverseAt o n j k → k ≤ n
-reverse-within o n j k h l (inl w) = omega arith
-reverse-within o n j k h l (inr (inl w)) = omega arith
-reverse-within o n j k h l (inr (inr w)) = omega arith
+reverse-within o n j k h l c = three c (λ w. omega arith) (λ w. omega arith) (λ w. omega arith)
 
 inverse-below : (o n j k : ℕ) → o < n → j ≤ n → InverseAt o n j k → k ≤ n
-inverse-below o n j k h l (inl w) = omega arith
-inverse-below o n j k h l (inr (inl w)) = omega arith
-inverse-below o n j k h l (inr (inr w)) = omega arith
+inverse-below o n j k h l c = three c (λ w. omega arith) (λ w. omega arith) (λ w. omega arith)
 
-pub image-within : (m : CyclicMapping) (j : ℕ) → Usable m j → image m j ≤ stepsOf m
+pub image-within : (m : CyclicMapping) (j : ℕ) → HasIndex m j → image m j ≤ stepsOf m
 image-within (Forward o n) j u = forward-within o n j (image (Forward o n) j) (u .1) (u .2) (forward-at o n j (u .1) (u .2))
 image-within (Reverse o n) j u = reverse-within o n j (image (Reverse o n) j) (u .1) (u .2) (reverse-at o n j (u .1) (u .2))
 
-pub inverse-within : (m : CyclicMapping) (j : ℕ) → Usable m j → inverse m j ≤ stepsOf m
+pub inverse-within : (m : CyclicMapping) (j : ℕ) → HasIndex m j → inverse m j ≤ stepsOf m
 inverse-within (Forward o n) j u = inverse-below o n j (inverse (Forward o n) j) (u .1) (u .2) (inverse-at o n j (u .1) (u .2))
 inverse-within (Reverse o n) j u = rw reverse-same (image-within (Reverse o n) j u)
 
@@ -174,7 +174,7 @@ reverse-twice o n j k i h l (inr (inr w)) (inl v) = absurd (omega arith)
 reverse-twice o n j k i h l (inr (inr w)) (inr (inl v)) = inr (inr (w .0, omega arith, omega arith))
 reverse-twice o n j k i h l (inr (inr w)) (inr (inr v)) = inr (inl (w .0, omega arith, omega arith))
 
-there-and-back : (m : CyclicMapping) (j : ℕ) → Usable m j → Undone (offsetOf m) (stepsOf m) j (inverse m (image m j))
+there-and-back : (m : CyclicMapping) (j : ℕ) → HasIndex m j → Undone (offsetOf m) (stepsOf m) j (inverse m (image m j))
 there-and-back (Forward o n) j u =
     let k = image (Forward o n) j in
     forward-inverse o n j k (inverse (Forward o n) k) (u .1) (u .2) (forward-at o n j (u .1) (u .2)) (inverse-at o n k (u .1) (image-within (Forward o n) j u))
@@ -182,35 +182,31 @@ there-and-back (Reverse o n) j u =
     let k = image (Reverse o n) j in
     rw reverse-same (reverse-twice o n j k (image (Reverse o n) k) (u .1) (u .2) (reverse-at o n j (u .1) (u .2)) (reverse-at o n k (u .1) (image-within (Reverse o n) j u)))
 
-back-and-there : (m : CyclicMapping) (j : ℕ) → Usable m j → Undone (offsetOf m) (stepsOf m) j (image m (inverse m j))
+back-and-there : (m : CyclicMapping) (j : ℕ) → HasIndex m j → Undone (offsetOf m) (stepsOf m) j (image m (inverse m j))
 back-and-there (Forward o n) j u =
     let k = inverse (Forward o n) j in
     inverse-forward o n j k (image (Forward o n) k) (u .1) (u .2) (inverse-at o n j (u .1) (u .2)) (forward-at o n k (u .1) (inverse-within (Forward o n) j u))
 back-and-there (Reverse o n) j u = rw reverse-same (rw reverse-same at (there-and-back (Reverse o n) j u))
 
 undone-same : (o n j i : ℕ) → (0 < o → j < n) → Undone o n j i → i ≡ j
-undone-same o n j i f (inl w) = w .1
-undone-same o n j i f (inr (inl w)) = w .2
-undone-same o n j i f (inr (inr w)) = absurd (omega (arith, f (w .0)))
+undone-same o n j i f c = three c (λ w. w .1) (λ w. w .2) (λ w. absurd (omega (arith, f (w .0))))
 
 undone-end : (o n i : ℕ) → 0 < o → Undone o n n i → i ≡ 0
-undone-end o n i p (inl w) = absurd (omega arith)
-undone-end o n i p (inr (inl w)) = absurd (omega arith)
-undone-end o n i p (inr (inr w)) = w .2
+undone-end o n i p c = three c (λ w. absurd (omega arith)) (λ w. absurd (omega arith)) (λ w. w .2)
 
 -- `map_index_inv` undoes `map_index`: at offset 0 at every index from 0 to steps, at another offset at every index below steps
-pub inverse-image : (m : CyclicMapping) (j : ℕ) → Usable m j → (0 < offsetOf m → j < stepsOf m) → inverse m (image m j) ≡ j
+pub inverse-image : (m : CyclicMapping) (j : ℕ) → HasIndex m j → (0 < offsetOf m → j < stepsOf m) → inverse m (image m j) ≡ j
 inverse-image m j u f = undone-same (offsetOf m) (stepsOf m) j (inverse m (image m j)) f (there-and-back m j u)
 
 -- and `map_index` undoes `map_index_inv` there
-pub image-inverse : (m : CyclicMapping) (j : ℕ) → Usable m j → (0 < offsetOf m → j < stepsOf m) → image m (inverse m j) ≡ j
+pub image-inverse : (m : CyclicMapping) (j : ℕ) → HasIndex m j → (0 < offsetOf m → j < stepsOf m) → image m (inverse m j) ≡ j
 image-inverse m j u f = undone-same (offsetOf m) (stepsOf m) j (image m (inverse m j)) f (back-and-there m j u)
 
 -- at an offset other than 0 the index steps comes back as 0, which it equals modulo steps
-pub inverse-image-end : (m : CyclicMapping) → Usable m (stepsOf m) → 0 < offsetOf m → inverse m (image m (stepsOf m)) ≡ 0
+pub inverse-image-end : (m : CyclicMapping) → HasIndex m (stepsOf m) → 0 < offsetOf m → inverse m (image m (stepsOf m)) ≡ 0
 inverse-image-end m u p = undone-end (offsetOf m) (stepsOf m) (inverse m (image m (stepsOf m))) p (there-and-back m (stepsOf m) u)
 
-pub image-inverse-end : (m : CyclicMapping) → Usable m (stepsOf m) → 0 < offsetOf m → image m (inverse m (stepsOf m)) ≡ 0
+pub image-inverse-end : (m : CyclicMapping) → HasIndex m (stepsOf m) → 0 < offsetOf m → image m (inverse m (stepsOf m)) ≡ 0
 image-inverse-end m u p = undone-end (offsetOf m) (stepsOf m) (image m (inverse m (stepsOf m))) p (back-and-there m (stepsOf m) u)
 
 -- The image of the next index
@@ -239,60 +235,40 @@ reverse-step o n j k l h b (inr (inr w)) (inr (inr v)) = inr (omega arith)
 
 -- the index after k = `image m j`, forward: k + 1, but 0 past the last where the offset is not 0
 pub forward-next : (o n j k : ℕ) → o < n → j < n → k ≡ image (Forward o n) j → (o ≡ 0) ⊎ ((k + 1 ≡ n) → ⊥) → k + 1 ≡ image (Forward o n) (j + 1)
-forward-next o n j k h b e f = go f (forward-step o n j (image (Forward o n) j) (image (Forward o n) (j + 1)) h b (forward-at o n j h (omega arith)) (forward-at o n (j + 1) h (omega arith)))
-  where
-    go : (o ≡ 0) ⊎ ((k + 1 ≡ n) → ⊥) → OneOf ((o ≡ 0) × (image (Forward o n) (j + 1) ≡ image (Forward o n) j + 1)) ((image (Forward o n) j + 1 < n) × (image (Forward o n) (j + 1) ≡ image (Forward o n) j + 1)) ((0 < o) × (image (Forward o n) j + 1 ≡ n) × (image (Forward o n) (j + 1) ≡ 0)) → k + 1 ≡ image (Forward o n) (j + 1)
-    go f (inl w) = omega arith
-    go f (inr (inl w)) = omega arith
-    go (inl z) (inr (inr w)) = absurd (omega arith)
-    go (inr g) (inr (inr w)) = absurd (g (omega arith))
+forward-next o n j k h b e f =
+    three (forward-step o n j (image (Forward o n) j) (image (Forward o n) (j + 1)) h b (forward-at o n j h (omega arith)) (forward-at o n (j + 1) h (omega arith)))
+    (λ w. omega arith)
+    (λ w. omega arith)
+    (λ w. ⊎-elim (λ z. absurd (omega arith)) (λ g. absurd (g (omega arith))) f)
 
 pub forward-wraps : (o n j k : ℕ) → o < n → j < n → k ≡ image (Forward o n) j → (o ≡ 0 → ⊥) → k + 1 ≡ n → 0 ≡ image (Forward o n) (j + 1)
-forward-wraps o n j k h b e f g = go (forward-step o n j (image (Forward o n) j) (image (Forward o n) (j + 1)) h b (forward-at o n j h (omega arith)) (forward-at o n (j + 1) h (omega arith)))
-  where
-    go : OneOf ((o ≡ 0) × (image (Forward o n) (j + 1) ≡ image (Forward o n) j + 1)) ((image (Forward o n) j + 1 < n) × (image (Forward o n) (j + 1) ≡ image (Forward o n) j + 1)) ((0 < o) × (image (Forward o n) j + 1 ≡ n) × (image (Forward o n) (j + 1) ≡ 0)) → 0 ≡ image (Forward o n) (j + 1)
-    go (inl w) = absurd (f (w .0))
-    go (inr (inl w)) = omega arith
-    go (inr (inr w)) = omega arith
+forward-wraps o n j k h b e f g =
+    three (forward-step o n j (image (Forward o n) j) (image (Forward o n) (j + 1)) h b (forward-at o n j h (omega arith)) (forward-at o n (j + 1) h (omega arith)))
+    (λ w. absurd (f (w .0)))
+    (λ w. omega arith)
+    (λ w. omega arith)
 
 -- the index after k in reverse: k - 1, and after 0 the last below steps
 pub reverse-next : (o n j k : ℕ) → o < n → j < n → k ≡ image (Reverse o n) j → ((0 < k) × (k - 1 ≡ image (Reverse o n) (j + 1))) ⊎ ((k ≡ 0) × (n - 1 ≡ image (Reverse o n) (j + 1)))
-reverse-next o n j k h b e = go (reverse-step o n j (image (Reverse o n) j) (image (Reverse o n) (j + 1)) h b (reverse-at o n j h (omega arith)) (reverse-at o n (j + 1) h (omega arith)))
-  where
-    go : ((image (Reverse o n) j ≡ 0) × (image (Reverse o n) (j + 1) + 1 ≡ n)) ⊎ (image (Reverse o n) (j + 1) + 1 ≡ image (Reverse o n) j) → ((0 < k) × (k - 1 ≡ image (Reverse o n) (j + 1))) ⊎ ((k ≡ 0) × (n - 1 ≡ image (Reverse o n) (j + 1)))
-    go (inl w) = inr (omega arith, omega arith)
-    go (inr w) = inl (omega arith, omega arith)
+reverse-next o n j k h b e =
+    ⊎-elim (λ w. inr (omega arith, omega arith)) (λ w. inl (omega arith, omega arith))
+    (reverse-step o n j (image (Reverse o n) j) (image (Reverse o n) (j + 1)) h b (reverse-at o n j h (omega arith)) (reverse-at o n (j + 1) h (omega arith)))
 
 -- the image of index 0, where the offset is not 0
 pub forward-first : (o n : ℕ) → o < n → (o ≡ 0 → ⊥) → o ≡ image (Forward o n) 0
-forward-first o n h f = go (forward-at o n 0 h (omega arith))
-  where
-    go : ForwardAt o n 0 (image (Forward o n) 0) → o ≡ image (Forward o n) 0
-    go (inl w) = absurd (f (w .0))
-    go (inr (inl w)) = omega arith
-    go (inr (inr w)) = absurd (omega arith)
+forward-first o n h f = three (forward-at o n 0 h (omega arith)) (λ w. absurd (f (w .0))) (λ w. omega arith) (λ w. absurd (omega arith))
 
 pub reverse-first : (o n : ℕ) → o < n → (o ≡ 0 → ⊥) → o ≡ image (Reverse o n) 0
-reverse-first o n h f = go (reverse-at o n 0 h (omega arith))
-  where
-    go : ReverseAt o n 0 (image (Reverse o n) 0) → o ≡ image (Reverse o n) 0
-    go (inl w) = absurd (f (w .0))
-    go (inr (inl w)) = omega arith
-    go (inr (inr w)) = absurd (omega arith)
+reverse-first o n h f = three (reverse-at o n 0 h (omega arith)) (λ w. absurd (f (w .0))) (λ w. omega arith) (λ w. absurd (omega arith))
 
 -- What the test of an index shows
 
-pub and-both : (a b : Bool) → a && b ≡ true → (a ≡ true) × (b ≡ true)
-and-both true true h = (refl, refl)
-and-both true false h = absurd (true≢false (sym h))
-and-both false b h = absurd (true≢false (sym h))
-
-pub usable-known : (m : CyclicMapping) (i : ℕ) → usable m i ≡ true → Usable m i
+pub usable-known : (m : CyclicMapping) (i : ℕ) → usable m i ≡ true → HasIndex m i
 usable-known m i h =
     let b = and-both (leb 1 (stepsOf m) && leb (stepsOf m) 65535) (ltb (offsetOf m) (stepsOf m) && leb i (stepsOf m)) h in
     let s = and-both (leb 1 (stepsOf m)) (leb (stepsOf m) 65535) (b .0) in
     let t = and-both (ltb (offsetOf m) (stepsOf m)) (leb i (stepsOf m)) (b .1) in
     (leb-true (stepsOf m) 65535 (s .1), ltb-true (offsetOf m) (stepsOf m) (t .0), leb-true i (stepsOf m) (t .1))
 
-pub usable-as : {m k : CyclicMapping} (i : ℕ) → m ≡ k → Usable m i → Usable k i
-usable-as i e u = subst (λ (x : CyclicMapping). Usable x i) e u
+pub has-index-as : {m k : CyclicMapping} (i : ℕ) → m ≡ k → HasIndex m i → HasIndex k i
+has-index-as i e u = subst (λ (x : CyclicMapping). HasIndex x i) e u

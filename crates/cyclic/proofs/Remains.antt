@@ -3,27 +3,21 @@
 use Prim.Native.Nat.{ℕ, zero, suc, _+_, _-_, _*_, _≤_, _<_}
 use native.Mathlib.Omega.{arith}
 use mathlib.Core.Path.{_≡_, refl, sym, ap, subst, _∙_}
-use mathlib.Core.Bool.{Bool, true, false, not}
+use mathlib.Core.Bool.{Bool, true, false, not, cond}
 use lib.Dec.{ltb}
-use borrow.Author.Tests.{not-true, not-false, ltb-true, ltb-false}
+use borrow.Author.Tests.{ltb-true, ltb-false}
+use Rattle.float.proofs.Tests.{held, failed}
 use Rattle.cyclic.specs.declared.mapping.CyclicMapping.{CyclicMapping}
 use Rattle.cyclic.specs.declared.mapping.CyclicMapping.the-variants.{Forward, Reverse}
 use Rattle.cyclic.specs.declared.seam.Seam.the-variants.{Joined, Unjoined}
 use Rattle.cyclic.specs.declared.seam.Tried.{Tried}
-use Rattle.cyclic.specs.Mapping.{pick, image, stepsOf, Usable}
+use Rattle.cyclic.specs.Mapping.{image, stepsOf, HasIndex}
 use Rattle.cyclic.proofs.Mappings.{image-within, forward-zero, reverse-zero}
 use Rattle.cyclic.specs.Search.{Row, Closeness, tried, searched, tryFrom, closed, searchFrom, searchRows}
 
--- a comparison whose answer is tested by `!`
-pub held : {r x : Bool} → r ≡ x → not r ≡ false → x ≡ true
-held e h = sym e ∙ not-false _ h
-
-pub failed : {r x : Bool} → r ≡ x → not r ≡ true → x ≡ false
-failed e h = sym e ∙ not-true _ h
-
 -- The first r points of a are close to their images at offset 0
 abbrev pub Run : Closeness → Row → Row → ℕ → Bool → ℕ → Type 0
-Run close a b n reverse r = (j : ℕ) → j < r → close (a j) (b (pick reverse (n - j) j)) ≡ true
+Run close a b n reverse r = (j : ℕ) → j < r → close (a j) (b (cond reverse (n - j) j)) ≡ true
 
 -- Point j of a is next, with point k of b; c comparisons were made before the first point
 pub record Trying (close : Closeness) (a b : Row) (m : CyclicMapping) (c j k : ℕ) : Type 0 where
@@ -62,14 +56,14 @@ module _ (close : Closeness) (a b : Row) where
   pub no-run : (n : ℕ) (reverse : Bool) → Run close a b n reverse 0
   no-run n reverse j l = absurd (omega arith)
 
-  longer-run : (n : ℕ) (reverse : Bool) (r : ℕ) → Run close a b n reverse r → close (a r) (b (pick reverse (n - r) r)) ≡ true → Run close a b n reverse (r + 1)
+  longer-run : (n : ℕ) (reverse : Bool) (r : ℕ) → Run close a b n reverse r → close (a r) (b (cond reverse (n - r) r)) ≡ true → Run close a b n reverse (r + 1)
   longer-run n reverse r f h j l = go (ltb j r) refl
     where
-      go : (t : Bool) → ltb j r ≡ t → close (a j) (b (pick reverse (n - j) j)) ≡ true
+      go : (t : Bool) → ltb j r ≡ t → close (a j) (b (cond reverse (n - j) j)) ≡ true
       go true e = f j (ltb-true j r e)
-      go false e = let g = ltb-false j r e in subst (λ (i : ℕ). close (a i) (b (pick reverse (n - i) i)) ≡ true) (omega arith) h
+      go false e = let g = ltb-false j r e in subst (λ (i : ℕ). close (a i) (b (cond reverse (n - i) i)) ≡ true) (omega arith) h
 
-  pub two-longer : (n : ℕ) (reverse : Bool) (r : ℕ) → Run close a b n reverse r → close (a r) (b (pick reverse (n - r) r)) ≡ true → close (a (r + 1)) (b (pick reverse (n - (r + 1)) (r + 1))) ≡ true → Run close a b n reverse (r + 2)
+  pub two-longer : (n : ℕ) (reverse : Bool) (r : ℕ) → Run close a b n reverse r → close (a r) (b (cond reverse (n - r) r)) ≡ true → close (a (r + 1)) (b (cond reverse (n - (r + 1)) (r + 1))) ≡ true → Run close a b n reverse (r + 2)
   two-longer n reverse r f h g j l = longer-run n reverse (r + 1) (longer-run n reverse r f h) g j (omega arith)
 
   known-tried : (m : CyclicMapping) (c r : ℕ) → r ≤ stepsOf m → ((j : ℕ) → j < r → close (a j) (b (image m j)) ≡ true) → tryFrom close a b m (stepsOf m + 1) 0 c ≡ tryFrom close a b m (stepsOf m + 1 - r) r (c + r)
@@ -86,43 +80,44 @@ module _ (close : Closeness) (a b : Row) where
 
   -- Points
 
-  known-points : (m : CyclicMapping) (c r : ℕ) {k : ℕ} → Usable m r → ((j : ℕ) → j < r → close (a j) (b (image m j)) ≡ true) → k ≡ image m r → Trying close a b m c r k
+  known-points : (m : CyclicMapping) (c r : ℕ) {k : ℕ} → HasIndex m r → ((j : ℕ) → j < r → close (a j) (b (image m j)) ≡ true) → k ≡ image m r → Trying close a b m c r k
   known-points m c r u f e =
       let w = image-within m r u in
       record { point = omega arith; other = omega arith; mapped = e; rest = known-tried m c r (omega arith) f }
 
-  pub forward-known : (o n c r : ℕ) {k : ℕ} → o ≡ 0 → Usable (Forward o n) r → Run close a b n false r → k ≡ r → Trying close a b (Forward o n) c r k
+  pub forward-known : (o n c r : ℕ) {k : ℕ} → o ≡ 0 → HasIndex (Forward o n) r → Run close a b n false r → k ≡ r → Trying close a b (Forward o n) c r k
   forward-known o n c r z u f e = known-points (Forward o n) c r u (λ j l. rw (forward-zero o n j z) (f j l)) (e ∙ sym (forward-zero o n r z))
 
-  pub reverse-known : (o n c r : ℕ) {k : ℕ} → o ≡ 0 → Usable (Reverse o n) r → Run close a b n true r → k ≡ n - r → Trying close a b (Reverse o n) c r k
+  pub reverse-known : (o n c r : ℕ) {k : ℕ} → o ≡ 0 → HasIndex (Reverse o n) r → Run close a b n true r → k ≡ n - r → Trying close a b (Reverse o n) c r k
   reverse-known o n c r z u f e = known-points (Reverse o n) c r u (λ j l. rw (reverse-zero o n j z) (f j l)) (e ∙ sym (reverse-zero o n r z))
 
-  pub first-point : (m : CyclicMapping) (c : ℕ) {k : ℕ} → Usable m 0 → k ≡ image m 0 → Trying close a b m c 0 k
+  pub first-point : (m : CyclicMapping) (c : ℕ) {k : ℕ} → HasIndex m 0 → k ≡ image m 0 → Trying close a b m c 0 k
   first-point m c u e = known-points m c 0 u (λ j l. absurd (omega arith)) e
 
-  pub next-point : (m : CyclicMapping) (c j k : ℕ) {l : ℕ} → Usable m j → (j ≡ stepsOf m → ⊥) → Trying close a b m c j k → close (a j) (b k) ≡ true → l ≡ image m (j + 1) → Trying close a b m c (j + 1) l
+  -- r is the answer of the comparison that was made
+  pub next-point : (m : CyclicMapping) (c j k : ℕ) {l : ℕ} {r : Bool} → HasIndex m j → (j ≡ stepsOf m → ⊥) → Trying close a b m c j k → r ≡ close (a j) (b k) → not r ≡ false → l ≡ image m (j + 1) → Trying close a b m c (j + 1) l
   unfolding tryFrom
-  next-point m c j k u f t h e =
+  next-point m c j k u f t q h e =
       let w = image-within m (j + 1) (u .0, u .1, omega arith) in
       let x : stepsOf m + 1 - j ≡ suc (stepsOf m - j) = omega arith in
       let y : stepsOf m + 1 - (j + 1) ≡ stepsOf m - j = omega arith in
       let z : c + (j + 1) ≡ c + j + 1 = omega arith in
-      let g : close (a j) (b (image m j)) ≡ true = rw (t .mapped) at h in
+      let g : close (a j) (b (image m j)) ≡ true = rw (t .mapped) at (held q h) in
       record { point = omega arith; other = omega arith; mapped = e; rest = t .rest ∙ rw (x, g, y, z) }
 
-  pub last-point : (m : CyclicMapping) (c j k : ℕ) → j ≡ stepsOf m → Trying close a b m c j k → close (a j) (b k) ≡ true → tryFrom close a b m (stepsOf m + 1) 0 c ≡ tried true (c + j + 1)
+  pub last-point : (m : CyclicMapping) (c j k : ℕ) {r : Bool} → j ≡ stepsOf m → Trying close a b m c j k → r ≡ close (a j) (b k) → not r ≡ false → tryFrom close a b m (stepsOf m + 1) 0 c ≡ tried true (c + j + 1)
   unfolding tryFrom
-  last-point m c j k l t h =
+  last-point m c j k l t q h =
       let x : stepsOf m + 1 - j ≡ 1 = omega arith in
-      let g : close (a j) (b (image m j)) ≡ true = rw (t .mapped) at h in
+      let g : close (a j) (b (image m j)) ≡ true = rw (t .mapped) at (held q h) in
       t .rest ∙ rw (x, g)
 
-  pub far-point : (m : CyclicMapping) (c j k : ℕ) → Trying close a b m c j k → close (a j) (b k) ≡ false → tryFrom close a b m (stepsOf m + 1) 0 c ≡ tried false (c + (j + 1))
+  pub far-point : (m : CyclicMapping) (c j k : ℕ) {r : Bool} → Trying close a b m c j k → r ≡ close (a j) (b k) → not r ≡ true → tryFrom close a b m (stepsOf m + 1) 0 c ≡ tried false (c + (j + 1))
   unfolding tryFrom
-  far-point m c j k t h =
+  far-point m c j k t q h =
       let x : stepsOf m + 1 - j ≡ suc (stepsOf m - j) = omega arith in
       let z : c + (j + 1) ≡ c + j + 1 = omega arith in
-      let g : close (a j) (b (image m j)) ≡ false = rw (t .mapped) at h in
+      let g : close (a j) (b (image m j)) ≡ false = rw (t .mapped) at (failed q h) in
       t .rest ∙ rw (x, g, z)
 
   -- Offsets

@@ -3,8 +3,8 @@
 use Prim.Native.Nat.{ℕ, _+_, _-_, _*_, _/_, _%_, _≤_, _<_}
 use native.Mathlib.Nat.{mul-le-mul-right}
 use native.Mathlib.Omega.{arith}
-use mathlib.Core.Path.{_≡_, refl, ap, fun-ext}
-use mathlib.Core.Bool.{Bool, true, false, _&&_, or-true}
+use mathlib.Core.Path.{_≡_, ap, fun-ext}
+use mathlib.Core.Bool.{Bool, true, false, _&&_, or-true, cond}
 use mathlib.Core.Logic.{_⊎_, inl, inr}
 use mathlib.Core.List.{List}
 use lib.Dec.{eqb, leb}
@@ -13,21 +13,31 @@ use lib.ListN.{length}
 use borrow.Author.Tests.{lt-ltb, le-ltb, leb-true, eq-eqb, ne-eqb}
 use Rattle.vector.specs.Vectors.{allClose}
 use Rattle.grid.specs.Grid.{pointAt, coordinatesFit}
-use Rattle.refusal.specs.declared.Check.{Check}
+use Rattle.grid.proofs.Laws.{and-both, unless-passed}
 use Rattle.refusal.specs.declared.Check.the-variants.{Passed, Failed}
 use Rattle.refusal.specs.declared.Refusal.{Refusal}
 use Rattle.refusal.specs.declared.Refusal.the-variants.{Length, Coordinate}
 use Rattle.refusal.specs.Refusals.{ok, refused, numberOf, unless}
 use Rattle.cyclic.specs.declared.seam.Seam.the-variants.{Unjoined}
 use Rattle.cyclic.specs.declared.seam.SeamSearch.{SeamSearch}
-use Rattle.cyclic.specs.Mapping.{pick}
-use Rattle.cyclic.proofs.Mappings.{and-both}
-use Rattle.cyclic.specs.Search.{Row, Closeness, rowOf, searched, searchRows, search, rowFits, rowsCheck, newVector}
+use Rattle.cyclic.specs.Search.{Row, Rows, Closeness, rowOf, searched, searchRows, search, rowFits, rowsCheck, newVector}
 
 -- Points
 
-pub inside : (start steps stride j : ℕ) {size : ℕ} → 3 * (start + steps * stride) + 3 ≤ size → j ≤ steps → 3 * (start + j * stride) + 3 ≤ size
-inside start steps stride j h l = omega (arith, mul-le-mul-right stride l)
+opposite-within : (n j : ℕ) (reverse : Bool) → j ≤ n → cond reverse (n - j) j ≤ n
+opposite-within n j true l = omega arith
+opposite-within n j false l = l
+
+module _ {a b : List Float} {aStart bStart stride steps : ℕ} (rows : Rows a aStart b bStart stride steps) (j : ℕ) (l : j ≤ steps) where
+  pub inside : (3 * (aStart + j * stride) + 3 ≤ length a) × (3 * (bStart + j * stride) + 3 ≤ length b)
+  inside = let most = mul-le-mul-right stride l in (omega arith, omega arith)
+
+  -- of rows whose points follow each other in their lists: point j of a, and point k of b that it meets at offset 0
+  pub inside-next : (reverse : Bool) {k : ℕ} → stride ≡ 1 → k ≡ cond reverse (steps - j) j → (3 * (aStart + j) + 3 ≤ length a) × (3 * (bStart + k) + 3 ≤ length b)
+  inside-next reverse {k} e f =
+      let same : steps * stride ≡ steps = rw e (omega arith) in
+      let most : k ≤ steps = rw f (opposite-within steps j reverse l) in
+      (omega arith, omega arith)
 
 pub first-point : (l : List Float) (start stride : ℕ) → pointAt l start ≡ rowOf l start stride 0
 first-point l start stride = ap (pointAt l) (omega arith)
@@ -43,13 +53,6 @@ close-in-rows a aStart b bStart stride j {i} {k} {l} e f g h =
     let y : bStart + l * stride ≡ bStart + k = rw e (omega arith) in
     rw (x, y) h
 
-pub inside-next : (start steps stride j : ℕ) {size : ℕ} → stride ≡ 1 → 3 * (start + steps * stride) + 3 ≤ size → j ≤ steps → 3 * (start + j) + 3 ≤ size
-inside-next start steps stride j e h l = let g : steps * stride ≡ steps = rw e (omega arith) in omega arith
-
-pub opposite-within : (n j : ℕ) (reverse : Bool) → j ≤ n → pick reverse (n - j) j ≤ n
-opposite-within n j true l = omega arith
-opposite-within n j false l = l
-
 -- Lengths
 
 module _ (close : Closeness) (a b : Row) where
@@ -63,10 +66,6 @@ module _ (close : Closeness) (a b : Row) where
   long-rows m n l e = rw (le-ltb m 2 l, eq-eqb m n e)
 
 -- Tests
-
-unless-passed : (t : Bool) (k : Refusal) (after : Check) → unless t k after ≡ Passed → t ≡ true
-unless-passed true k after h = refl
-unless-passed false k after h = let z : _≡_ {A = ℕ} 0 1 = cc in absurd (omega arith)
 
 module _ (a b : List Float) where
   pub no-length : rowFits a && rowFits b ≡ false → rowsCheck a b ≡ Failed Length
@@ -84,7 +83,7 @@ module _ (a b : List Float) where
   pub passed-length : rowsCheck a b ≡ Passed → length a ≤ 196608
   unfolding rowsCheck
   passed-length h =
-      let t = unless-passed (rowFits a && rowFits b) Length (unless (coordinatesFit a && coordinatesFit b) Coordinate Passed) h in
+      let t = unless-passed (rowFits a && rowFits b) Length (unless (coordinatesFit a && coordinatesFit b) Coordinate Passed) h .0 in
       let u = and-both (rowFits a) (rowFits b) t in
       leb-true (length a) 196608 (and-both (eqb (length a % 3) 0) (leb (length a) 196608) (u .0) .1)
 

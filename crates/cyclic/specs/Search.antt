@@ -1,7 +1,7 @@
 -- Seam search (01): the first offset at which row a fits row b, forward before reverse, and the comparisons made.
 -- A row is its points by index, 0 to steps; `close` compares a point of one row with a point of another (or the same). Assumes nothing.
 use Prim.Native.Nat.{ℕ, zero, suc, _+_, _-_, _*_, _/_, _%_, _≤_}
-use mathlib.Core.Bool.{Bool, true, false, _&&_, _||_, not}
+use mathlib.Core.Bool.{Bool, true, false, _&&_, _||_, not, cond}
 use mathlib.Core.List.{List}
 use lib.Dec.{eqb, ltb, leb}
 use lib.ListN.{length}
@@ -21,7 +21,7 @@ use Rattle.cyclic.specs.declared.seam.SeamSearch.{SeamSearch}
 use Rattle.cyclic.specs.declared.seam.Tried.{Tried}
 use Rattle.cyclic.specs.declared.seam.SeamAnswer.{SeamAnswer}
 use Rattle.cyclic.specs.declared.seam.SeamAnswer.the-variants.{Found, NotFound, Refused}
-use Rattle.cyclic.specs.Mapping.{pick, image}
+use Rattle.cyclic.specs.Mapping.{image}
 
 abbrev pub Row : Type 0
 Row = ℕ → Vector
@@ -52,11 +52,11 @@ module _ (close : Closeness) (a b : Row) where
   -- "j runs 0 to n−1 and stops at the first failure": k points from j on, after c comparisons
   unfoldable pub tryFrom : CyclicMapping → ℕ → ℕ → ℕ → Tried
   tryFrom m zero j c = tried true c
-  tryFrom m (suc k) j c = pick (close (a j) (b (image m j))) (tryFrom m k (j + 1) (c + 1)) (tried false (c + 1))
+  tryFrom m (suc k) j c = cond (close (a j) (b (image m j))) (tryFrom m k (j + 1) (c + 1)) (tried false (c + 1))
 
   -- "Rows are closed if a's ends are close and then b's ends are"
   unfoldable pub closed : ℕ → Tried
-  closed steps = pick (close (a 0) (a steps)) (tried (close (b 0) (b steps)) 2) (tried false 1)
+  closed steps = cond (close (a 0) (a steps)) (tried (close (b 0) (b steps)) 2) (tried false 1)
 
   -- "At each offset forward is tried, then reverse; the search leaves at the first offset that fits": k offsets from o on, after c comparisons
   unfoldable pub searchFrom : ℕ → ℕ → ℕ → ℕ → SeamSearch
@@ -64,17 +64,17 @@ module _ (close : Closeness) (a b : Row) where
   searchFrom steps (suc k) o c =
       let forward = tryFrom (Forward o steps) (steps + 1) 0 c in
       let reverse = tryFrom (Reverse o steps) (steps + 1) 0 (forward .made) in
-      pick (forward .fits) (searched (Joined (Forward o steps)) (forward .made))
-      (pick (reverse .fits) (searched (Joined (Reverse o steps)) (reverse .made))
+      cond (forward .fits) (searched (Joined (Forward o steps)) (forward .made))
+      (cond (reverse .fits) (searched (Joined (Reverse o steps)) (reverse .made))
       (searchFrom steps k (o + 1) (reverse .made)))
 
   -- "closed rows try offsets 0 to steps−1, others offset 0"
   unfoldable pub searchRows : ℕ → SeamSearch
-  searchRows steps = searchFrom steps (pick (closed steps .fits) steps 1) 0 (closed steps .made)
+  searchRows steps = searchFrom steps (cond (closed steps .fits) steps 1) 0 (closed steps .made)
 
 -- "Rows a and b of n points, steps = n−1. None if n < 2 or the lengths differ, after 0 comparisons."
 unfoldable pub search : Closeness → Row → Row → ℕ → ℕ → SeamSearch
-search close a b na nb = pick (ltb na 2 || not (eqb na nb)) (searched Unjoined 0) (searchRows close a b (na - 1))
+search close a b na nb = cond (ltb na 2 || not (eqb na nb)) (searched Unjoined 0) (searchRows close a b (na - 1))
 
 -- not "a seam row not a multiple of 3 or over 65,536 points"
 abbrev pub rowFits : List Float → Bool

@@ -1,7 +1,7 @@
 // CyclicMapping: an index of row a to one of row b, and back.
 use refusal::Refusal;
 ghost use mathlib.Core.Path.{_≡_};
-ghost use Rattle.cyclic.specs.Mapping.{isReverse, image, inverse, usable, inRows, Usable, mapIndex, mapIndexInv, statedIndex};
+ghost use Rattle.cyclic.specs.Mapping.{isReverse, image, inverse, usable, inRows, HasIndex, mapIndex, mapIndexInv, statedIndex};
 
 // The largest number of steps of a row.
 pub const MAX_STEPS: usize = 65535;
@@ -61,7 +61,7 @@ impl CyclicMapping {
 
     // map_index of an index that is there.
     pub fn image(self, a_idx: usize) -> usize
-        requires { ⌜ Usable self «a_idx» ⌝ }
+        requires { ⌜ HasIndex self «a_idx» ⌝ }
         ensures { λ r. ⌜ r ≡ image self «a_idx» ⌝ }
     {
         match self {
@@ -77,7 +77,7 @@ impl CyclicMapping {
 
     // map_index_inv of an index that is there.
     pub fn inverse(self, b_idx: usize) -> usize
-        requires { ⌜ Usable self «b_idx» ⌝ }
+        requires { ⌜ HasIndex self «b_idx» ⌝ }
         ensures { λ r. ⌜ r ≡ inverse self «b_idx» ⌝ }
     {
         match self {
@@ -94,7 +94,7 @@ impl CyclicMapping {
 
 // The index that j joins where the rows run against each other, from a to b and from b to a.
 fn reversed(offset: usize, steps: usize, j: usize) -> usize
-    requires { ⌜ Usable (CyclicMapping.Reverse offset steps) j ⌝ }
+    requires { ⌜ HasIndex (CyclicMapping.Reverse offset steps) j ⌝ }
     ensures { λ r. ⌜ r ≡ image (CyclicMapping.Reverse offset steps) j ⌝ }
 {
     if offset == 0 {

@@ -4,12 +4,12 @@ use float::consts::EPS;
 use refusal::Check;
 use refusal::Refusal;
 ghost use mathlib.Core.Path.{_≡_};
-ghost use mathlib.Core.Bool.{true};
+ghost use mathlib.Core.Bool.{true, cond};
 ghost use Prim.Native.Nat.{ℕ, _+_, _-_, _*_, _/_, _≤_, _<_};
 ghost use lib.ListN.{length};
 ghost use Rattle.grid.specs.Grid.{pointAt};
 ghost use Rattle.vector.specs.Vectors.{allClose};
-ghost use Rattle.cyclic.specs.Mapping.{pick, image, Usable};
+ghost use Rattle.cyclic.specs.Mapping.{image, HasIndex};
 ghost use Rattle.cyclic.specs.Search.{rowOf, Rows, searched, closed, searchRows, search, rowFits, rowsCheck, newVector, statedSeam};
 
 // A row has at most 65,536 points.
@@ -100,7 +100,7 @@ fn rows_closed(
 
 // The index of b that follows k, going forward.
 fn ahead(k: usize, offset: usize, steps: usize) -> usize
-    requires { ⌜ Usable (CyclicMapping.Forward offset steps) k ⌝ }
+    requires { ⌜ HasIndex (CyclicMapping.Forward offset steps) k ⌝ }
     ensures { λ r. ⌜ ((j : ℕ) → j < steps → k ≡ image (CyclicMapping.Forward offset steps) j → r ≡ image (CyclicMapping.Forward offset steps) (j + 1)) ⌝ }
 {
     if offset != 0 && k + 1 == steps {
@@ -111,7 +111,7 @@ fn ahead(k: usize, offset: usize, steps: usize) -> usize
 
 // The index of b that follows k, going in reverse.
 fn back(k: usize, offset: usize, steps: usize) -> usize
-    requires { ⌜ Usable (CyclicMapping.Reverse offset steps) k ⌝ }
+    requires { ⌜ HasIndex (CyclicMapping.Reverse offset steps) k ⌝ }
     ensures { λ r. ⌜ ((j : ℕ) → j < steps → k ≡ image (CyclicMapping.Reverse offset steps) j → r ≡ image (CyclicMapping.Reverse offset steps) (j + 1)) ⌝ }
 {
     if k == 0 {
@@ -123,7 +123,7 @@ fn back(k: usize, offset: usize, steps: usize) -> usize
 // The index of b that index j of a meets at offset 0.
 fn opposite(j: usize, steps: usize, reverse: bool) -> usize
     requires { ⌜ j ≤ steps ⌝ }
-    ensures { λ r. ⌜ r ≡ pick reverse («steps» - j) j ⌝ }
+    ensures { λ r. ⌜ r ≡ cond reverse («steps» - j) j ⌝ }
 {
     if reverse { steps - j } else { j }
 }
@@ -140,7 +140,7 @@ fn close_run(
     reverse: bool,
 ) -> usize
     requires { ⌜ Rows (now a) «a_start» (now b) «b_start» stride steps ⌝ }
-    ensures { λ r. ⌜ (r ≤ steps) × ((j : ℕ) → j < r → allClose (rowOf (now (a .entry)) «a_start» stride j) (rowOf (now (b .entry)) «b_start» stride (pick reverse («steps» - j) j)) ≡ true) ⌝ }
+    ensures { λ r. ⌜ (r ≤ steps) × ((j : ℕ) → j < r → allClose (rowOf (now (a .entry)) «a_start» stride j) (rowOf (now (b .entry)) «b_start» stride (cond reverse («steps» - j) j)) ≡ true) ⌝ }
 {
     let mut run: usize = 0;
     if stride != 1 {

@@ -12,6 +12,12 @@ pub struct Components {
     pub z: f64,
 }
 
+fn from_c(x: f64, y: f64, z: f64) -> Vector
+    ensures { λ r. ⌜ r ≡ vector x y z ⌝ }
+{
+    Vector { x, y, z }
+}
+
 fn to_c(a: Vector) -> Components
     ensures { λ r. ⌜ r ≡ components a ⌝ }
 {
@@ -26,16 +32,8 @@ fn to_c(a: Vector) -> Components
 pub extern "C" fn mt_vector_add(ax: f64, ay: f64, az: f64, bx: f64, by: f64, bz: f64) -> Components
     ensures { λ r. ⌜ r ≡ components (plus (vector ax ay az) (vector bx by bz)) ⌝ }
 {
-    let a = Vector {
-        x: ax,
-        y: ay,
-        z: az,
-    };
-    let b = Vector {
-        x: bx,
-        y: by,
-        z: bz,
-    };
+    let a = from_c(ax, ay, az);
+    let b = from_c(bx, by, bz);
     to_c(a.add(b))
 }
 
@@ -43,16 +41,8 @@ pub extern "C" fn mt_vector_add(ax: f64, ay: f64, az: f64, bx: f64, by: f64, bz:
 pub extern "C" fn mt_vector_sub(ax: f64, ay: f64, az: f64, bx: f64, by: f64, bz: f64) -> Components
     ensures { λ r. ⌜ r ≡ components (minus (vector ax ay az) (vector bx by bz)) ⌝ }
 {
-    let a = Vector {
-        x: ax,
-        y: ay,
-        z: az,
-    };
-    let b = Vector {
-        x: bx,
-        y: by,
-        z: bz,
-    };
+    let a = from_c(ax, ay, az);
+    let b = from_c(bx, by, bz);
     to_c(a.sub(b))
 }
 
@@ -60,11 +50,7 @@ pub extern "C" fn mt_vector_sub(ax: f64, ay: f64, az: f64, bx: f64, by: f64, bz:
 pub extern "C" fn mt_vector_mul_scalar(ax: f64, ay: f64, az: f64, s: f64) -> Components
     ensures { λ r. ⌜ r ≡ components (scaled (vector ax ay az) s) ⌝ }
 {
-    let a = Vector {
-        x: ax,
-        y: ay,
-        z: az,
-    };
+    let a = from_c(ax, ay, az);
     to_c(a.mul_scalar(s))
 }
 
@@ -72,15 +58,7 @@ pub extern "C" fn mt_vector_mul_scalar(ax: f64, ay: f64, az: f64, s: f64) -> Com
 pub extern "C" fn mt_vector_all_close(ax: f64, ay: f64, az: f64, bx: f64, by: f64, bz: f64) -> bool
     ensures { λ r. ⌜ r ≡ allClose (vector ax ay az) (vector bx by bz) ⌝ }
 {
-    let a = Vector {
-        x: ax,
-        y: ay,
-        z: az,
-    };
-    let b = Vector {
-        x: bx,
-        y: by,
-        z: bz,
-    };
+    let a = from_c(ax, ay, az);
+    let b = from_c(bx, by, bz);
     a.all_close(b)
 }

@@ -19,6 +19,7 @@ use Rattle.float.specs.Order.{clamped}
 use Rattle.float.specs.Whole.{over, floorZ, ceilZ}
 use Rattle.float.specs.Consts.{eps, zero64}
 use Rattle.float.specs.Cast.{natFloat, count}
+use Rattle.float.proofs.Tests.{cond-keeps}
 use Rattle.float.proofs.Rounding.{round-both}
 use Rattle.float.proofs.Value.{lt-values, lt-value, lt-whole, whole-lt}
 use Rattle.float.proofs.Less.{lt-irreflexive, not-ltb, le-is, le-not-nan, le-of-not-lt, not-lt-of-le, value-not-nan}
@@ -83,11 +84,7 @@ clamp-between x lo hi h k = simp (h, k)
 -- the result is the value or an end: what holds of all three holds of it
 pub clamp-keeps : (P : Float → Type 0) (x lo hi : Float) → P x → P lo → P hi → P (clamped x lo hi)
 unfolding clamped
-clamp-keeps P x lo hi p l h = one (lt hi (cond (lt x lo) lo x)) hi (cond (lt x lo) lo x) h (one (lt x lo) lo x l p)
-  where
-    one : (t : Bool) (a b : Float) → P a → P b → P (cond t a b)
-    one true a b p q = p
-    one false a b p q = q
+clamp-keeps P x lo hi p l h = cond-keeps P (lt hi (cond (lt x lo) lo x)) hi (cond (lt x lo) lo x) h (cond-keeps P (lt x lo) lo x l p)
 
 pub clamp-finite : (x lo hi : Float) → isFinite x ≡ true → isFinite lo ≡ true → isFinite hi ≡ true → isFinite (clamped x lo hi) ≡ true
 clamp-finite = clamp-keeps (λ y. isFinite y ≡ true)
@@ -215,7 +212,7 @@ over-le a d n h = go (eq-or-lt-of-le (div-mul-le-self a d))
 nothing : (n : ℕ) → 0 ≤ n
 nothing n = omega arith
 
-min-le : (q c n : ℕ) → q ≤ n → min q c ≤ n
+pub min-le : (q c n : ℕ) → q ≤ n → min q c ≤ n
 min-le q c n h = omega arith
 
 pub whole-at-most : (v : Float) (n : ℕ) → n ≤ 2 ^ 53 → lt (natFloat n) v ≡ false → (count (floorZ v) ≤ n) × (count (ceilZ v) ≤ n)

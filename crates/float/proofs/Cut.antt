@@ -2,7 +2,7 @@
 -- ceiling is one above it; and whether something was cut off is one comparison with the cut as a float, which is exact. Assumes nothing.
 use mathlib.Core.Path.{_≡_, refl, sym, ap, _∙_, subst}
 use Prim.Native.Nat.{ℕ, zero, suc, _+_, _-_, _*_, _/_, _%_, _^_, _≤_, _<_, min}
-use native.Mathlib.Nat.{le-trans, lt-of-le-of-lt, lt-of-lt-of-le, le-of-lt, le-of-eq, mul-one, mul-comm, div-one, add-zero, div-le-self, div-mul-le-self, div-add-mod', div-le-of-le-mul, div-lt-iff-lt-mul, le-div-iff-mul-le, lt-of-mul-lt-mul-right}
+use native.Mathlib.Nat.{le-trans, lt-of-le-of-lt, lt-of-lt-of-le, le-of-lt, le-of-eq, mul-one, mul-comm, div-one, add-zero, le-add-right, div-le-self, div-mul-le-self, div-add-mod', div-le-of-le-mul, div-lt-iff-lt-mul, le-div-iff-mul-le, lt-of-mul-lt-mul-right}
 use native.Mathlib.Numerals.{add-one}
 use native.Mathlib.Omega.{arith}
 use mathlib.Core.Bool.{Bool, true, false, cond, true≢false}
@@ -35,10 +35,7 @@ module _ (n d : ℕ) where
       gone a r b p l = omega arith
 
   pub over-ge : n / d ≤ over n d
-  over-ge = go (n / d) (cond (eqb (n % d) 0) 0 1)
-    where
-      go : (a b : ℕ) → a ≤ a + b
-      go a b = omega arith
+  over-ge = le-add-right (n / d) (cond (eqb (n % d) 0) 0 1)
 
 -- ---- the range, as sizes
 abbrev pub lowest : Float
@@ -69,11 +66,11 @@ minus-is q h = ap (λ (k : ℕ). negℤ (pos k)) (cap q (2 ^ 63) h)
     cap : (q c : ℕ) → q ≤ c → min q c ≡ q
     cap q c h = omega arith
 
+pub uncapped : (q c : ℕ) → q < c → min q (c - 1) ≡ q
+uncapped q c h = omega arith
+
 plus-is : (q : ℕ) → q < 2 ^ 63 → int64 false q ≡ pos q
-plus-is q h = ap pos (cap q (2 ^ 63) h)
-  where
-    cap : (q c : ℕ) → q < c → min q (c - 1) ≡ q
-    cap q c h = omega arith
+plus-is q h = ap pos (uncapped q (2 ^ 63) h)
 
 step-down : (q : ℕ) → q < 2 ^ 63 → SFits w64 (int64 true q -ℤ pos 1) × (int64 true q -ℤ pos 1 ≡ int64 true (suc q))
 step-down q h =
@@ -156,10 +153,10 @@ kept z = toZ w64 (ofZ w64 z)
 pub kept-is : {z w : ℤ} → SFits w64 z × (z ≡ w) → kept z ≡ w
 kept-is {z} h = toZ-ofZ w64 z (h .0) ∙ h .1
 
-pub cut-of : (x : Float) → T (fits binary64 x) → le lowest x ≡ true → lt x highest ≡ true → {t : ℤ} {b : Float} → t ≡ toSigned 63 x → b ≡ ofInt binary64 (kept t) → Cut x (kept t) b
+pub cut-of : (x : Float) → fits binary64 x ≡ true → le lowest x ≡ true → lt x highest ≡ true → {t : ℤ} {b : Float} → t ≡ toSigned 63 x → b ≡ ofInt binary64 (kept t) → Cut x (kept t) b
 cut-of x f lo hi {t} {b} p q =
     let is : kept t ≡ toSigned 63 x = ap kept p ∙ toZ-ofZ w64 (toSigned 63 x) (record { sfits = toSigned-in 63 x }) in
-    rw (q, is) (cut-at x f lo hi)
+    rw (q, is) (cut-at x (subst T (sym f) tt) lo hi)
 
 -- ---- out of the range, and a NaN
 capped : (s : Bool) (q : ℕ) → 2 ^ 63 ≤ q → int64 s q ≡ int64 s (2 ^ 63)

@@ -6,6 +6,7 @@ use lib.Ieee.{Float, nan, inf, fin, lt, ne, isNan}
 use lib.Ieee.Compare.{differs-from-itself}
 use Rattle.float.specs.Sign.{absolute}
 use Rattle.float.specs.Order.{larger}
+use Rattle.float.proofs.Tests.{cond-keeps}
 use Rattle.float.proofs.Less.{lt-transitive, not-lt-trans}
 
 pub abs-nan : (x : Float) → isNan (absolute x) ≡ isNan x
@@ -19,10 +20,6 @@ unfolding larger isNan
 larger-is nan y n = absurd (true≢false n)
 larger-is (inf s) y n = refl
 larger-is (fin s m e) y n = refl
-
-neither : (b : Bool) (x y : Float) → isNan x ≡ false → isNan y ≡ false → isNan (cond b x y) ≡ false
-neither true x y m n = m
-neither false x y m n = n
 
 -- by the two tests of `max`
 pub larger-second : (x y : Float) → lt x y ≡ true → y ≡ larger x y
@@ -57,11 +54,11 @@ pub larger-nan : (x y : Float) → isNan (larger x y) ≡ isNan x && isNan y
 unfolding larger lt isNan
 larger-nan nan y = refl
 larger-nan (inf s) nan = refl
-larger-nan (inf s) (inf t) = neither (lt (inf s) (inf t)) (inf t) (inf s) refl refl
-larger-nan (inf s) (fin t n d) = neither (lt (inf s) (fin t n d)) (fin t n d) (inf s) refl refl
+larger-nan (inf s) (inf t) = cond-keeps (λ z. isNan z ≡ false) (lt (inf s) (inf t)) (inf t) (inf s) refl refl
+larger-nan (inf s) (fin t n d) = cond-keeps (λ z. isNan z ≡ false) (lt (inf s) (fin t n d)) (fin t n d) (inf s) refl refl
 larger-nan (fin s m e) nan = refl
-larger-nan (fin s m e) (inf t) = neither (lt (fin s m e) (inf t)) (inf t) (fin s m e) refl refl
-larger-nan (fin s m e) (fin t n d) = neither (lt (fin s m e) (fin t n d)) (fin t n d) (fin s m e) refl refl
+larger-nan (fin s m e) (inf t) = cond-keeps (λ z. isNan z ≡ false) (lt (fin s m e) (inf t)) (inf t) (fin s m e) refl refl
+larger-nan (fin s m e) (fin t n d) = cond-keeps (λ z. isNan z ≡ false) (lt (fin s m e) (fin t n d)) (fin t n d) (fin s m e) refl refl
 
 under-both : (x y e : Float) → isNan x ≡ false → isNan y ≡ false → lt (larger x y) e || isNan (larger x y) ≡ (lt x e || isNan x) && (lt y e || isNan y)
 under-both x y e m n = simp (larger-below x y e m n, larger-nan x y, m, n, or-false)

@@ -6,13 +6,13 @@ use Prim.Native.Nat.{ℕ, _+_, _*_, _≤_, _<_}
 use native.Mathlib.Nat.{le-of-eq, le-of-lt, eq-or-lt-of-le, add-comm, add-zero, zero-add, mul-le-mul-right, le-of-mul-le-mul-right, zero-mul}
 use native.Mathlib.Omega.{arith}
 use mathlib.Core.Bool.{Bool, true, false, not, _&&_, _||_, cond, true≢false}
-use lib.IntN.{ℤ}
 use lib.Dec.{ltb, leb, eqb}
 use lib.Ieee.{Float, nan, inf, fin, up, down, below, level, lt, le, eq, isNan}
 use lib.Ieee.Fits.{down-pos}
 use lib.Ieee.Exact.{HasValue}
 use borrow.Author.Tests.{not-true, ltb-true, lt-ltb, le-ltb, ltb-false, le-leb, lt-leb, eqb-true, eqb-false, eq-eqb, ne-eqb}
 use Rattle.float.specs.Sign.{isFinite}
+use Rattle.float.proofs.Tests.{must}
 
 -- ---- a signed size as what it adds to one side of a comparison and to the other
 abbrev gain : Bool → ℕ → ℕ
@@ -192,18 +192,10 @@ le-transitive x y z h k =
 
 -- less than what is at most, and at most what is less
 pub lt-le-trans : (x y z : Float) → lt x y ≡ true → le y z ≡ true → lt x z ≡ true
-lt-le-trans x y z h k = go (lt x z) refl
-  where
-    go : (t : Bool) → lt x z ≡ t → t ≡ true
-    go true p = refl
-    go false p = absurd (true≢false (sym h ∙ not-lt-trans x z y (le-not-nan y z k .1) p (not-lt-of-le y z k)))
+lt-le-trans x y z h k = must (lt x z) (λ p. true≢false (sym h ∙ not-lt-trans x z y (le-not-nan y z k .1) p (not-lt-of-le y z k)))
 
 pub le-lt-trans : (x y z : Float) → le x y ≡ true → lt y z ≡ true → lt x z ≡ true
-le-lt-trans x y z h k = go (lt x z) refl
-  where
-    go : (t : Bool) → lt x z ≡ t → t ≡ true
-    go true p = refl
-    go false p = absurd (true≢false (sym k ∙ not-lt-trans y x z (le-not-nan x y h .0) (not-lt-of-le x y h) p))
+le-lt-trans x y z h k = must (lt x z) (λ p. true≢false (sym k ∙ not-lt-trans y x z (le-not-nan x y h .0) (not-lt-of-le x y h) p))
 
 pub lt-transitive : (x y z : Float) → lt x y ≡ true → lt y z ≡ true → lt x z ≡ true
 lt-transitive x y z h k = lt-le-trans x y z h (lt-le y z k)

@@ -1,4 +1,5 @@
--- Laws that belong to no one function. Callers of other crates use Less, Orders, Larger, Differences, Bounds and Range.
+-- Laws that belong to no one function. Callers of other crates use Tests, Less, Orders, Larger, Differences, Bounds and Range.
+pub mod Tests
 pub mod Value
 pub mod Less
 pub mod Rounding

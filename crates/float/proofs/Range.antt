@@ -1,6 +1,6 @@
 -- A value between 0 and a count n can be cut to a whole number, which is at most n: it lies above -1 and below 2^64. Assumes nothing.
 use mathlib.Core.Path.{_≡_, refl, sym, _∙_, subst}
-use Prim.Native.Nat.{ℕ, _-_, _*_, _/_, _^_, _≤_, _<_, min}
+use Prim.Native.Nat.{ℕ, _-_, _*_, _/_, _^_, _≤_, _<_}
 use native.Mathlib.Nat.{le-trans, le-of-eq, mul-comm, div-le-of-le-mul}
 use native.Mathlib.Omega.{arith}
 use mathlib.Core.Bool.{true, false, true≢false}
@@ -12,7 +12,7 @@ use Rattle.float.specs.Consts.{zero64}
 use Rattle.float.specs.Cast.{natFloat}
 use Rattle.float.proofs.Value.{whole-lt}
 use Rattle.float.proofs.Less.{not-lt-of-le, lt-le-trans, le-lt-trans}
-use Rattle.float.proofs.Bounds.{nat-value, inside, most}
+use Rattle.float.proofs.Bounds.{nat-value, inside, most, min-le}
 
 -- what `std::num::truncating_f64_to_u64` asks of y, and a bound on what it gives
 abbrev pub Counted : Float → ℕ → Type 0
@@ -25,10 +25,7 @@ cut-at-most nan n h l = omega arith
 cut-at-most (inf true) n h l = omega arith
 cut-at-most (inf false) n h l = absurd (true≢false (sym (inside (natFloat n) false n 1 (nat-value n h) .0) ∙ l))
 cut-at-most (fin true m e) n h l = omega arith
-cut-at-most (fin false m e) n h l = cap (m * up e / down e) (2 ^ 64 - 1) n (div-le-of-le-mul (down e) (le-trans (most m e n h l) (le-of-eq (mul-comm n (down e)))))
-  where
-    cap : (q c k : ℕ) → q ≤ k → min q c ≤ k
-    cap q c k p = omega arith
+cut-at-most (fin false m e) n h l = min-le (m * up e / down e) (2 ^ 64 - 1) n (div-le-of-le-mul (down e) (le-trans (most m e n h l) (le-of-eq (mul-comm n (down e)))))
 
 pub counted : (y : Float) (n : ℕ) → n ≤ 2 ^ 53 → le zero64 y ≡ true → le y (natFloat n) ≡ true → Counted y n
 counted y n h lo hi =

@@ -1,7 +1,7 @@
 -- `rounded` and `ceiled` from the whole part of the magnitude: twice a magnitude below 2^52 is exact, its whole part is a float exactly, and from 2^52 on a value is whole.
 -- Assumes nothing.
 use mathlib.Core.Path.{_≡_, refl, sym, ap, _∙_, subst}
-use Prim.Native.Nat.{ℕ, zero, suc, _+_, _-_, _*_, _/_, _^_, _≤_, _<_, min}
+use Prim.Native.Nat.{ℕ, zero, suc, _+_, _-_, _*_, _/_, _^_, _≤_, _<_}
 use native.Mathlib.Nat.{le-trans, lt-of-lt-of-le, le-of-eq, lt-irrefl, mul-one, one-mul, mul-assoc, mul-right-comm, zero-lt-suc, mul-pos, mul-le-mul-right, mul-lt-mul-of-pos-right, lt-of-mul-lt-mul-right, div-lt-iff-lt-mul, div-one, mul-add-div-right, pow-suc, div-div-eq-div-mul}
 use native.Mathlib.Numerals.{add-one}
 use native.Mathlib.Omega.{arith}
@@ -13,13 +13,14 @@ use lib.Ieee.{Float, nan, inf, fin, binary64, up, down, lt, neg, round, mul, ofI
 use lib.Ieee.Fits.{down-pos, round-fits}
 use lib.Ieee.Exact.{HasValue, round-exact}
 use lib.Ieee.Back.{whole-unique}
+use lib.Ieee.Digits.{back}
 use lib.Ieee.Nearest.{div-same}
 use borrow.Author.Tests.{ltb-true, ltb-false, leb-true, leb-false, lt-ltb}
 use Rattle.float.specs.Sign.{negative, absolute}
 use Rattle.float.specs.Whole.{near, over, under, rounded, ceiled}
 use Rattle.float.proofs.Rounding.{neg-round}
 use Rattle.float.proofs.Value.{lt-values, lt-whole, whole-lt, held, cut-exact, back-pos}
-use Rattle.float.proofs.Cut.{over-more, over-same}
+use Rattle.float.proofs.Cut.{over-more, over-same, uncapped}
 
 -- ---- a value that fits is a whole number of the smallest values: 2 ^ e is 2 ^ j of them
 pow-le-back : (i p : ℕ) → 2 ^ i ≤ 2 ^ p → i ≤ p
@@ -32,9 +33,6 @@ pow-le-back i p h = go (leb i p) refl
 steps-of : (s : Bool) (m : ℕ) (e : ℤ) → T (fits binary64 (fin s m e)) → (j : ℕ) × (up e * 2 ^ 1074 ≡ 2 ^ j * down e)
 steps-of s m (pos k) f = (k + 1074, sym (pow-add 2 k 1074) ∙ sym (mul-one (2 ^ (k + 1074))))
 steps-of s m (negsuc k) f = (1074 - suc k, one-mul (2 ^ 1074) ∙ ap (λ (x : ℕ). 2 ^ x) (sym (back 1074 (suc k) (pow-le-back (suc k) 1074 (held s m (negsuc k) f .1)))) ∙ pow-add 2 (1074 - suc k) (suc k))
-  where
-    back : (a b : ℕ) → b ≤ a → a - b + b ≡ a
-    back a b h = omega arith
 
 -- ---- twice a value is exact
 module _ (m : ℕ) (e : ℤ) (f : T (fits binary64 (fin false m e))) (small : m * up e < 2 ^ 52 * down e) where
@@ -81,9 +79,6 @@ whole-part (fin true m e) a c C v h = absurd (true≢false (v .0))
 whole-part (fin false m e) a c C v h =
     let q : m * up e / down e ≡ a / c = div-same (m * up e) (down e) a c (down-pos e) C (v .1) in
     uncapped (m * up e / down e) (2 ^ 64) (subst (λ (x : ℕ). x < 2 ^ 64) (sym q) (div-lt-iff-lt-mul C .1 h)) ∙ q
-  where
-    uncapped : (a c : ℕ) → a < c → min a (c - 1) ≡ a
-    uncapped a c h = omega arith
 
 part-of : (y : Float) (a c : ℕ) → 0 < c → HasValue y false a c → a < 2 ^ 64 * c → Part y (a / c)
 part-of y a c C v h =
@@ -185,8 +180,8 @@ halved (fin s m e) f h =
     tight : (a b : ℕ) → a < 4503599627370496 * b → a * 2 < 9007199254740992 * (b * 1)
     tight a b h = omega arith
 
-pub round-small : (x : Float) {a : Float} → T (fits binary64 x) → a ≡ absolute x → lt a p52 ≡ true → Halved x a
-round-small x f p h = rw p (halved x f (rw p at h))
+pub round-small : (x : Float) {a : Float} → fits binary64 x ≡ true → a ≡ absolute x → lt a p52 ≡ true → Halved x a
+round-small x f p h = rw p (halved x (subst T (sym f) tt) (rw p at h))
 
 whole-near : (a b : ℕ) → b ≡ 1 → near a b ≡ a
 whole-near a b h = ap (near a) h ∙ go a
@@ -200,8 +195,8 @@ large-rounded nan f h = refl
 large-rounded (inf s) f h = refl
 large-rounded (fin s m e) f h = large s m e (near (m * up e) (down e)) f (from-p52 m e h) (whole-near (m * up e) (down e))
 
-pub round-large : (x : Float) {a : Float} → T (fits binary64 x) → a ≡ absolute x → lt a p52 ≡ false → x ≡ rounded x
-round-large x f p h = large-rounded x f (rw p at h)
+pub round-large : (x : Float) {a : Float} → fits binary64 x ≡ true → a ≡ absolute x → lt a p52 ≡ false → x ≡ rounded x
+round-large x f p h = large-rounded x (subst T (sym f) tt) (rw p at h)
 
 -- ---- `ceil`: x is a in size, t the whole part of a, and r is t as a float
 pub record Cuts (x a : Float) : Type 0 where
@@ -248,8 +243,8 @@ cuts (fin s m e) f h =
       more = λ {t} {r} p q g l. ap (λ (i : ℕ). ofInt binary64 (pos (i + 1))) (p ∙ k .1) ∙ ceil-more s m e f g (rw (is t r p q) at l);
     }
 
-pub ceil-small : (x : Float) {a : Float} → T (fits binary64 x) → a ≡ absolute x → lt a p52 ≡ true → Cuts x a
-ceil-small x f p h = rw p (cuts x f (rw p at h))
+pub ceil-small : (x : Float) {a : Float} → fits binary64 x ≡ true → a ≡ absolute x → lt a p52 ≡ true → Cuts x a
+ceil-small x f p h = rw p (cuts x (subst T (sym f) tt) (rw p at h))
 
 over-one : (a d : ℕ) → d ≡ 1 → over a d ≡ a
 over-one a d h = ap (over a) h ∙ over-same a 1 (le-of-eq (sym (mul-one (a / 1) ∙ div-one a))) ∙ div-one a
@@ -264,5 +259,5 @@ large-ceiled (inf s) f h = refl
 large-ceiled (fin true m e) f h = large true m e (under (m * up e) (down e)) f (from-p52 m e h) (under-one (m * up e) (down e))
 large-ceiled (fin false m e) f h = large false m e (over (m * up e) (down e)) f (from-p52 m e h) (over-one (m * up e) (down e))
 
-pub ceil-large : (x : Float) {a : Float} → T (fits binary64 x) → a ≡ absolute x → lt a p52 ≡ false → x ≡ ceiled x
-ceil-large x f p h = large-ceiled x f (rw p at h)
+pub ceil-large : (x : Float) {a : Float} → fits binary64 x ≡ true → a ≡ absolute x → lt a p52 ≡ false → x ≡ ceiled x
+ceil-large x f p h = large-ceiled x (subst T (sym f) tt) (rw p at h)

@@ -3,16 +3,18 @@ use Prim.Native.Nat.{ℕ, zero, suc, _+_, _*_, _/_, _%_, _≤_, _<_}
 use native.Mathlib.Nat.{mul-le-mul}
 use native.Mathlib.Omega.{arith}
 use native.Mathlib.Numerals.{add-one}
-use mathlib.Core.Path.{_≡_, refl, sym, subst}
-use mathlib.Core.Bool.{Bool, true, false, _&&_, true≢false}
+use mathlib.Core.Path.{_≡_, refl, subst}
+use mathlib.Core.Bool.{Bool, true, false, _&&_}
 use mathlib.Core.List.{List, [], _∷_}
 use lib.Arith.{digits-lt, digits-div, digits-mod}
 use lib.Dec.{leb}
-use lib.Ieee.{Float, nan, inf, fin, le, ofBits}
+use lib.Ieee.{Float, ofBits}
 use lib.ListN.{length, getD, drop}
 use lib.Seq.{drop-cons}
 use borrow.Author.Tests.{leb-true, eqb-true}
-use Rattle.float.specs.Sign.{absolute, isFinite, atMost}
+use Rattle.float.specs.Sign.{isFinite, atMost}
+pub use Rattle.float.proofs.Tests.{and-both}
+use Rattle.float.proofs.Bounds.{at-most-finite}
 use Rattle.refusal.specs.declared.Check.{Check}
 use Rattle.refusal.specs.declared.Check.the-variants.{Passed, Failed}
 use Rattle.refusal.specs.declared.Refusal.{Refusal}
@@ -31,20 +33,7 @@ pub record Shaped (g : List Float) (m n : ℕ) : Type 0 where
   pub steps : Stepped m n
   pub size : length g ≡ 3 * ((m + 1) * (n + 1))
 
-pub and-true : (a : Bool) → a && true ≡ a
-and-true true = refl
-and-true false = refl
-
-pub and-assoc : (a b c : Bool) → (a && b) && c ≡ a && (b && c)
-and-assoc true b c = refl
-and-assoc false b c = refl
-
--- both halves of a test, and both of two tests that pass
-pub and-both : (a b : Bool) → a && b ≡ true → (a ≡ true) × (b ≡ true)
-and-both true true h = (refl, refl)
-and-both true false h = absurd (true≢false (sym h))
-and-both false b h = absurd (true≢false (sym h))
-
+-- both of two tests that pass
 pub unless-passed : (t : Bool) (k : Refusal) (after : Check) → unless t k after ≡ Passed → (t ≡ true) × (after ≡ Passed)
 unless-passed true k after h = (refl, h)
 unless-passed false k after h = let z : _≡_ {A = ℕ} 0 1 = cc in absurd (omega arith)
@@ -113,12 +102,6 @@ pub coordinates-step : (g : List Float) (i : ℕ) (d : Float) → i < length g �
 unfolding coordinatesFit
 coordinates-step g i d h = rw (add-one, drop-cons g i d)
 
-fitting-finite : (x : Float) → atMost x maxCoordinate ≡ true → isFinite x ≡ true
-unfolding absolute isFinite le ofBits
-fitting-finite nan h = h
-fitting-finite (inf s) h = h
-fitting-finite (fin s m e) h = refl
-
 pub coordinate-fits : (g : List Float) (i : ℕ) (d : Float) → coordinatesFit g ≡ true → i < length g → atMost (getD g i d) maxCoordinate ≡ true
 unfolding coordinatesFit
 coordinate-fits [] i d h l = absurd (omega arith)
@@ -126,7 +109,8 @@ coordinate-fits (x ∷ xs) zero d h l = and-both (atMost x maxCoordinate) (coord
 coordinate-fits (x ∷ xs) (suc i) d h l = coordinate-fits xs i d (and-both (atMost x maxCoordinate) (coordinatesFit xs) h .1) (omega arith)
 
 pub coordinate-finite : (g : List Float) (i : ℕ) (d : Float) → coordinatesFit g ≡ true → i < length g → isFinite (getD g i d) ≡ true
-coordinate-finite g i d h l = fitting-finite (getD g i d) (coordinate-fits g i d h l)
+unfolding isFinite ofBits
+coordinate-finite g i d h l = at-most-finite (getD g i d) maxCoordinate refl (coordinate-fits g i d h l)
 
 -- Point numbers
 

@@ -1,7 +1,7 @@
 -- The grid of 01: point numbers, points, and when a grid is refused. M is the number of u steps and N of v steps. Assumes nothing.
 use Prim.Native.Nat.{ℕ, _+_, _*_}
 use mathlib.Core.Path.{_≡_}
-use mathlib.Core.Bool.{Bool, true, false, _&&_}
+use mathlib.Core.Bool.{Bool, true, _&&_}
 use mathlib.Core.List.{List, [], _∷_}
 use lib.Dec.{eqb, leb}
 use lib.ListN.{length, getD}
@@ -10,7 +10,7 @@ use Rattle.float.specs.Sign.{atMost}
 use Rattle.vector.specs.declared.Vector.{Vector}
 use Rattle.vector.specs.Vectors.{vector}
 use Rattle.refusal.specs.declared.Check.{Check}
-use Rattle.refusal.specs.declared.Check.the-variants.{Passed, Failed}
+use Rattle.refusal.specs.declared.Check.the-variants.{Passed}
 use Rattle.refusal.specs.declared.Refusal.the-variants.{Steps, Length, Coordinate}
 use Rattle.refusal.specs.Refusals.{unless, andThen}
 

@@ -1,11 +1,11 @@
 -- `zeroedFrom` as a loop makes it, place by place, and what it says of a list whose front is known. Over any element. Assumes nothing.
-use mathlib.Core.Path.{_≡_, refl, sym, ap, _∙_}
-use mathlib.Core.List.{List, [], _∷_, _++_, append-assoc}
+use mathlib.Core.Path.{_≡_, sym}
+use mathlib.Core.List.{List, append-nil, append-assoc}
 use Prim.Native.Nat.{ℕ, suc, _+_, _-_, _≤_, _<_}
 use native.Mathlib.Omega.{arith}
 use native.Mathlib.Numerals.{add-one}
-use lib.ListN.{length, take, set, replicate, length-set}
-use lib.Seq.{take-all, take-suc-set, take-at, append-snoc}
+use lib.ListN.{length, take, set, length-set}
+use lib.Seq.{take-all, take-suc-set}
 use Rattle.lent.specs.Lent.{filled, zeroedFrom}
 
 module _ {A : Type 0} (z : A) where
@@ -20,10 +20,6 @@ module _ {A : Type 0} (z : A) where
   zeroed-done l i h =
       let none : length l - i ≡ 0 = omega arith in
       rw (none, take-all i l) (sym (append-nil l))
-    where
-      append-nil : (m : List A) → m ++ [] ≡ m
-      append-nil [] = refl
-      append-nil (x ∷ xs) = ap {B = List A} (λ r. x ∷ r) (append-nil xs)
 
   -- a list that is as long as the lent one and whose first places are the contents is, zeroed after them, the lent list filled with them
   pub zeroed-filled : (contents l lent : List A) → length l ≡ length lent → take (length contents) l ≡ contents → zeroedFrom z (length contents) l ≡ filled z contents lent

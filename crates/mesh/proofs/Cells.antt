@@ -1,18 +1,19 @@
 -- The triangles of a cell among all: which slots are its, and what is kept after them. Assumes nothing.
-use Prim.Native.Nat.{ℕ, zero, suc, _+_, _*_, _/_, _%_, _≤_, _<_}
+use Prim.Native.Nat.{ℕ, suc, _+_, _*_, _/_, _%_, _≤_, _<_}
 use mathlib.Core.Path.{_≡_, sym, ap, _∙_}
 use mathlib.Core.Logic.{⊎-elim}
-use mathlib.Core.Bool.{Bool, true, false}
+use mathlib.Core.Bool.{true, false, cond}
 use mathlib.Core.List.{List, [], _∷_, _++_, append-nil}
 use native.Mathlib.Omega.{arith}
 use native.Mathlib.Nat.{zero-mul, add-mul}
 use lib.Arith.{digits-div, digits-mod, digits-lt}
-use lib.ListN.{length, getD, set, length-append}
+use lib.ListN.{length, getD, set}
 use lib.Seq.{getD-set-same, getD-set-other}
 use Rattle.surface.proofs.Steps.{lt-or-le}
 use Rattle.cyclic.specs.declared.seam.Seam.{Seam}
-use Rattle.surface.specs.Surface.{pick, Shape, Triangle, tri, proper, falling, halfOf, slot, kept, triangleNumber}
+use Rattle.surface.specs.Surface.{Shape, Triangle, tri, proper, falling, halfOf, slot, kept, triangleNumber}
 use Rattle.surface.specs.Found.{surfaceWith}
+use Rattle.surface.proofs.Triangles.{kept-at-most}
 use Rattle.mesh.specs.declared.corner.Cell.{Cell}
 use Rattle.mesh.specs.Held.{firsts, triangleAt, trianglesIn}
 use Rattle.mesh.proofs.Firsts.{length-firsts}
@@ -27,7 +28,7 @@ secondOf c = tri (c .i10) (c .i11) (c .i01)
 
 -- the triangles that a slot adds
 abbrev pub addedBy : Triangle → List Triangle
-addedBy t = pick (proper t) (t ∷ []) []
+addedBy t = cond (proper t) (t ∷ []) []
 
 pub added-none : (ts : List Triangle) (t : Triangle) → proper t ≡ false → ts ≡ ts ++ addedBy t
 added-none ts t e = rw e (sym (append-nil ts))
@@ -39,18 +40,9 @@ added-one ts t e = rw e
 pub corners-same : {A : Type 0} (f : ℕ → ℕ → ℕ → ℕ → A) {a b c d a′ b′ c′ d′ : ℕ} → a ≡ a′ → b ≡ b′ → c ≡ c′ → d ≡ d′ → f a b c d ≡ f a′ b′ c′ d′
 corners-same f p q r t = cc
 
-pub kept-most : (s : Shape) (k : ℕ) → length (kept s k) ≤ k
-unfolding kept
-kept-most s zero = omega arith
-kept-most s (suc k) = rw length-append (omega (arith, kept-most s k, one (proper (slot s k))))
-  where
-    one : (b : Bool) → length (pick b (slot s k ∷ []) []) ≤ 1
-    one true = omega arith
-    one false = omega arith
-
 -- a list that holds the triangles of the first k slots holds at most k
 pub held-most : (s : Shape) (k count : ℕ) (l : List ℕ) → trianglesIn count l ≡ kept s k → count ≤ k
-held-most s k count l e = omega (arith, length-firsts (triangleAt l) count, ap length e, kept-most s k)
+held-most s k count l e = omega (arith, length-firsts (triangleAt l) count, ap length e, kept-at-most s k)
 
 pub held-count : (s : Shape) (k count : ℕ) (l : List ℕ) → trianglesIn count l ≡ kept s k → count ≡ triangleNumber s k
 unfolding triangleNumber

@@ -1,7 +1,7 @@
 -- What a step of a reversed seam puts down, from what the code finds there, and how many pairs there can be. Assumes nothing.
 use Prim.Native.Nat.{ℕ, zero, suc, _+_, _-_, _*_, _≤_, _<_, min, max}
 use mathlib.Core.Path.{_≡_, refl, sym, ap, _∙_}
-use mathlib.Core.Bool.{Bool, true, false, _&&_}
+use mathlib.Core.Bool.{Bool, true, false, _&&_, cond}
 use mathlib.Core.List.{List, [], _∷_}
 use native.Mathlib.Nat.{add-mul}
 use native.Mathlib.Omega.{arith}
@@ -14,7 +14,7 @@ use Rattle.cyclic.specs.declared.mapping.CyclicMapping.the-variants.{Forward, R
 use Rattle.cyclic.specs.declared.seam.Seam.{Seam as Found}
 use Rattle.cyclic.specs.declared.seam.Seam.the-variants.{Joined, Unjoined}
 use Rattle.cyclic.specs.Mapping as cyclic
-use Rattle.surface.specs.Surface.{pick, Seam, Shape, Pair, ordered, insert, proper, slot, triangleNumber, stepOn, reversed, process, flipped, highU, lowV, highV, pair}
+use Rattle.surface.specs.Surface.{Seam, Shape, Pair, ordered, insert, proper, slot, triangleNumber, stepOn, reversed, process, flipped, highU, lowV, highV, pair}
 use Rattle.surface.specs.Found.{ofMapping, seamOf}
 use Rattle.mesh.specs.declared.corner.Surface.{Surface}
 use Rattle.mesh.specs.declared.flipped.Axis.{Axis}
@@ -79,23 +79,23 @@ pub flips-more : (axis : Axis) (s : Shape) (m : Seam) (i : ℕ) (ps : List Pair)
 unfolding process
 flips-more axis s m i ps = sym (ap (λ (n : ℕ). flipSteps axis s m n ps) (add-one i))
 
-pick-most : (b : Bool) (x y : List Pair) (n : ℕ) → length x ≤ n → length y ≤ n → length (pick b x y) ≤ n
-pick-most true x y n p q = p
-pick-most false x y n p q = q
+cond-most : (b : Bool) (x y : List Pair) (n : ℕ) → length x ≤ n → length y ≤ n → length (cond b x y) ≤ n
+cond-most true x y n p q = p
+cond-most false x y n p q = q
 
 insert-most : (p : Pair) (ps : List Pair) → length (insert p ps) ≤ suc (length ps)
 insert-most p [] = omega arith
 insert-most p (q ∷ qs) =
     let on = insert-most p qs in
-    pick-most (ltb (p .low) (q .low)) _ _ _ (omega arith)
-    (pick-most (ltb (q .low) (p .low)) _ _ _ (omega arith)
-    (pick-most (ltb (p .high) (q .high)) _ _ _ (omega arith)
-    (pick-most (ltb (q .high) (p .high)) _ _ _ (omega arith) (omega arith))))
+    cond-most (ltb (p .low) (q .low)) _ _ _ (omega arith)
+    (cond-most (ltb (q .low) (p .low)) _ _ _ (omega arith)
+    (cond-most (ltb (p .high) (q .high)) _ _ _ (omega arith)
+    (cond-most (ltb (q .high) (p .high)) _ _ _ (omega arith) (omega arith))))
 
 step-most : (axis : Axis) (s : Shape) (m : Seam) (i : ℕ) (ps : List Pair) → length (flipStep axis s m i ps) ≤ suc (length ps)
 step-most axis s m i ps =
-    pick-most (ltb (stepOn m (stepsOf axis s) i) (stepsOf axis s)) _ _ _
-    (pick-most (proper (slot s (lowOf axis s (stepOn m (stepsOf axis s) i))) && proper (slot s (highOf axis s i))) _ _ _
+    cond-most (ltb (stepOn m (stepsOf axis s) i) (stepsOf axis s)) _ _ _
+    (cond-most (proper (slot s (lowOf axis s (stepOn m (stepsOf axis s) i))) && proper (slot s (highOf axis s i))) _ _ _
     (insert-most (ordered (triangleNumber s (lowOf axis s (stepOn m (stepsOf axis s) i))) (triangleNumber s (highOf axis s i))) ps)
     (omega arith))
     (omega arith)
@@ -107,7 +107,7 @@ flips-most axis s m zero ps = omega arith
 flips-most axis s m (suc n) ps = omega (arith, step-most axis s m n (flipSteps axis s m n ps), flips-most axis s m n ps)
 
 pub seam-most : (axis : Axis) (s : Shape) (m : Seam) (ps : List Pair) → length (flips axis s m ps) ≤ length ps + stepsOf axis s
-seam-most axis s m ps = pick-most (reversed m) _ _ _ (flips-most axis s m (stepsOf axis s) ps) (omega arith)
+seam-most axis s m ps = cond-most (reversed m) _ _ _ (flips-most axis s m (stepsOf axis s) ps) (omega arith)
 
 pub held-pairs : (count : ℕ) (l : List ℕ) {ps : List Pair} → pairsIn count l ≡ ps → count ≡ length ps
 held-pairs count l e = sym (length-firsts (pairAt l) count) ∙ ap length e

@@ -11,6 +11,7 @@ use lib.Arith.{lt-of-le-ne}
 use lib.ListN.{length, getD, take, drop, set, length-set, take-append-drop, drop-of-length-le}
 use lib.Seq.{take-suc, drop-cons, append-snoc, getD-set-same, getD-set-other}
 use borrow.Author.Tests.{ltb-false, eqb-true, eqb-false, lt-ltb, le-ltb, eq-eqb}
+use Rattle.float.proofs.Tests.{and-both}
 use Rattle.surface.proofs.Steps.{lt-or-le}
 use Rattle.surface.specs.Surface.{Triangle, tri, Pair, insert, pair}
 use Rattle.mesh.specs.declared.pairs.Spot.{Spot}
@@ -115,50 +116,46 @@ comes p q = ltb (p .low) (q .low) || (eqb (p .low) (q .low) && ltb (p .high) (q 
 abbrev pub alike : Pair → Pair → Bool
 alike p q = eqb (p .low) (q .low) && eqb (p .high) (q .high)
 
-or-true : (a b : Bool) → a || b ≡ true → (a ≡ true) ⊎ (b ≡ true)
-or-true true b h = inl refl
-or-true false b h = inr h
+or-one : (a b : Bool) → a || b ≡ true → (a ≡ true) ⊎ (b ≡ true)
+or-one true b h = inl refl
+or-one false b h = inr h
 
-or-false : (a b : Bool) → a || b ≡ false → (a ≡ false) × (b ≡ false)
-or-false true b h = absurd (true≢false h)
-or-false false b h = (refl, h)
+or-neither : (a b : Bool) → a || b ≡ false → (a ≡ false) × (b ≡ false)
+or-neither true b h = absurd (true≢false h)
+or-neither false b h = (refl, h)
 
-and-true : (a b : Bool) → a && b ≡ true → (a ≡ true) × (b ≡ true)
-and-true true b h = (refl, h)
-and-true false b h = absurd (true≢false (sym h))
-
-and-false : (a b : Bool) → a && b ≡ false → a ≡ true → b ≡ false
-and-false true b h e = h
-and-false false b h e = absurd (true≢false (sym e))
+and-other : (a b : Bool) → a && b ≡ false → a ≡ true → b ≡ false
+and-other true b h e = h
+and-other false b h e = absurd (true≢false (sym e))
 
 insert-front : (p q : Pair) (qs : List Pair) → comes p q ≡ true → insert p (q ∷ qs) ≡ p ∷ q ∷ qs
 insert-front p q qs h =
     ⊎-elim
     (λ e. rw e)
-    (λ e. let w = and-true (eqb (p .low) (q .low)) (ltb (p .high) (q .high)) e in
+    (λ e. let w = and-both (eqb (p .low) (q .low)) (ltb (p .high) (q .high)) e in
     let l = eqb-true (p .low) (q .low) (w .0) in
     rw (le-ltb (p .low) (q .low) (omega arith), le-ltb (q .low) (p .low) (omega arith), w .1))
-    (or-true (ltb (p .low) (q .low)) (eqb (p .low) (q .low) && ltb (p .high) (q .high)) h)
+    (or-one (ltb (p .low) (q .low)) (eqb (p .low) (q .low) && ltb (p .high) (q .high)) h)
 
 insert-alike : (p q : Pair) (qs : List Pair) → alike p q ≡ true → insert p (q ∷ qs) ≡ q ∷ qs
 insert-alike p q qs h =
-    let w = and-true (eqb (p .low) (q .low)) (eqb (p .high) (q .high)) h in
+    let w = and-both (eqb (p .low) (q .low)) (eqb (p .high) (q .high)) h in
     let l = eqb-true (p .low) (q .low) (w .0) in
     let r = eqb-true (p .high) (q .high) (w .1) in
     rw (le-ltb (p .low) (q .low) (omega arith), le-ltb (q .low) (p .low) (omega arith), le-ltb (p .high) (q .high) (omega arith), le-ltb (q .high) (p .high) (omega arith))
 
 insert-behind : (p q : Pair) (qs : List Pair) → comes p q ≡ false → alike p q ≡ false → insert p (q ∷ qs) ≡ q ∷ insert p qs
 insert-behind p q qs h k =
-    let w = or-false (ltb (p .low) (q .low)) (eqb (p .low) (q .low) && ltb (p .high) (q .high)) h in
+    let w = or-neither (ltb (p .low) (q .low)) (eqb (p .low) (q .low) && ltb (p .high) (q .high)) h in
     let l : q .low ≤ p .low = ltb-false (p .low) (q .low) (w .0) in
     ⊎-elim (λ m. rw (w .0, lt-ltb (q .low) (p .low) m)) (λ m. level (w .0) (w .1) (omega arith)) (lt-or-le (q .low) (p .low))
   where
     level : ltb (p .low) (q .low) ≡ false → eqb (p .low) (q .low) && ltb (p .high) (q .high) ≡ false → p .low ≡ q .low → insert p (q ∷ qs) ≡ q ∷ insert p qs
     level a b e =
         let t = eq-eqb (p .low) (q .low) e in
-        let f = and-false (eqb (p .low) (q .low)) (ltb (p .high) (q .high)) b t in
+        let f = and-other (eqb (p .low) (q .low)) (ltb (p .high) (q .high)) b t in
         let g = ltb-false (p .high) (q .high) f in
-        let n = eqb-false (p .high) (q .high) (and-false (eqb (p .low) (q .low)) (eqb (p .high) (q .high)) k t) in
+        let n = eqb-false (p .high) (q .high) (and-other (eqb (p .low) (q .low)) (eqb (p .high) (q .high)) k t) in
         let j : q .high < p .high = lt-of-le-ne g (λ z. n (sym z)) in
         rw (a, le-ltb (q .low) (p .low) (omega arith), f, lt-ltb (q .high) (p .high) j)
 

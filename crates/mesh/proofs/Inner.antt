@@ -1,24 +1,18 @@
 -- A cell that touches neither the last u nor the last v: no rule applies to its corners, and its two triangles are proper. Assumes nothing.
 use Prim.Native.Nat.{ℕ, _+_, _*_, _<_}
-use mathlib.Core.Path.{_≡_, refl, sym, ap, _∙_}
-use mathlib.Core.Bool.{Bool, true, false, _&&_}
+use mathlib.Core.Path.{_≡_, sym, ap, _∙_}
+use mathlib.Core.Bool.{and-false}
 use mathlib.Core.List.{List, [], _∷_, _++_}
 use native.Mathlib.Nat.{add-mul}
 use native.Mathlib.Omega.{arith}
 use borrow.Author.Tests.{ne-eqb}
 use Rattle.grid.specs.Grid.{pointNumber}
 use Rattle.cyclic.specs.declared.seam.Seam.{Seam}
-use Rattle.surface.specs.Surface.{joined, corner, cornerBy, Triangle, tri, proper, kept}
+use Rattle.surface.specs.Surface.{joined, corner, cornerBy, Triangle, tri, kept}
 use Rattle.surface.specs.Found.{seamOf, surfaceWith}
+use Rattle.surface.proofs.Demand.{proper-of}
 use Rattle.mesh.specs.Corners.{cellOf}
 use Rattle.mesh.proofs.Cells.{corners-same, added-one, cell-first, cell-second}
-
-and-false : (b : Bool) → b && false ≡ false
-and-false true = refl
-and-false false = refl
-
-proper-of : (a b c : ℕ) → (a ≡ b → ⊥) → (a ≡ c → ⊥) → (b ≡ c → ⊥) → proper (tri a b c) ≡ true
-proper-of a b c p q r = rw (ne-eqb a b p, ne-eqb a c q, ne-eqb b c r)
 
 module _ (m n : ℕ) (su sv : Seam) where
   plain-corner : (row u v : ℕ) → u < m → row + 1 < n → corner (surfaceWith m n su sv) row u v ≡ pointNumber n u v
@@ -40,6 +34,6 @@ module _ (m n : ℕ) (su sv : Seam) where
         both ≡ kept (surfaceWith m n su sv) (2 * (u * n + (v + 1)))
     inner-cell {i} {ts} {after} {both} e t a b =
         let cell = ap (λ (j : ℕ). record { i00 = j; i10 = j + n + 1; i01 = j + 1; i11 = j + n + 1 + 1 }) e ∙ sym plain-cell in
-        let first = cell-first m n su sv u v (omega arith) cell t (a ∙ added-one ts (tri i (i + n + 1) (i + 1)) (proper-of i (i + n + 1) (i + 1) (λ z. omega arith) (λ z. omega arith) (λ z. omega arith))) in
+        let first = cell-first m n su sv u v (omega arith) cell t (a ∙ added-one ts (tri i (i + n + 1) (i + 1)) (proper-of (tri i (i + n + 1) (i + 1)) (λ z. omega arith) (λ z. omega arith) (λ z. omega arith))) in
         cell-second m n su sv u v (omega arith) cell first
-        (b ∙ added-one after (tri (i + n + 1) (i + n + 1 + 1) (i + 1)) (proper-of (i + n + 1) (i + n + 1 + 1) (i + 1) (λ z. omega arith) (λ z. omega arith) (λ z. omega arith)))
+        (b ∙ added-one after (tri (i + n + 1) (i + n + 1 + 1) (i + 1)) (proper-of (tri (i + n + 1) (i + n + 1 + 1) (i + 1)) (λ z. omega arith) (λ z. omega arith) (λ z. omega arith)))

@@ -1,7 +1,7 @@
 -- The corner rule by the code's steps: one rule for either seam gives 01's two, and stays within the grid. Assumes nothing.
 use Prim.Native.Nat.{ℕ, _+_, _≤_}
 use mathlib.Core.Path.{_≡_, refl, sym, ap, subst, _∙_}
-use mathlib.Core.Bool.{Bool, true, false, _&&_}
+use mathlib.Core.Bool.{Bool, true, false, _&&_, cond}
 use native.Mathlib.Omega.{arith}
 use lib.Dec.{eqb}
 use borrow.Author.Tests.{eq-eqb, ne-eqb}
@@ -12,7 +12,7 @@ use Rattle.cyclic.specs.declared.seam.Seam.{Seam}
 use Rattle.cyclic.specs.declared.seam.Seam.the-variants.{Joined, Unjoined}
 use Rattle.cyclic.specs.Mapping as cyclic
 use Rattle.cyclic.proofs.Mappings.{inverse-within}
-use Rattle.surface.specs.Surface.{pick, joined, inverse, Point, at, uRule, vRule, corner, cornerBy}
+use Rattle.surface.specs.Surface.{joined, inverse, Point, at, uRule, vRule, corner, cornerBy}
 use Rattle.surface.proofs.Joinings.{inverse-of}
 use Rattle.surface.specs.Found.{ofMapping, seamOf, surfaceWith}
 use Rattle.mesh.specs.declared.corner.Place.{Place}
@@ -32,7 +32,7 @@ pub join-none : {seam : Seam} (last line step : ℕ) → seam ≡ Unjoined → p
 unfolding joinOf
 join-none {seam} last line step e = sym (ap (λ (s : Seam). joinOf s last line step) e)
 
-pub joins-as : {seam : Seam} {m : CyclicMapping} (step : ℕ) → seam ≡ Joined m → Joins seam step → cyclic.Usable m step
+pub joins-as : {seam : Seam} {m : CyclicMapping} (step : ℕ) → seam ≡ Joined m → Joins seam step → cyclic.HasIndex m step
 joins-as step e h = subst (λ (s : Seam). Joins s step) e h
 
 -- a seam of lines of so many steps takes each of them
@@ -46,7 +46,7 @@ unfolding joinOf
 join-bounds Unjoined steps last line step h most l = (omega arith, l)
 join-bounds (Joined m) steps last line step h most l = go (eqb line last)
   where
-    go : (b : Bool) → (pick b (placed 0 (cyclic.inverse m step)) (placed line step) .line ≤ line) × (pick b (placed 0 (cyclic.inverse m step)) (placed line step) .step ≤ steps)
+    go : (b : Bool) → (cond b (placed 0 (cyclic.inverse m step)) (placed line step) .line ≤ line) × (cond b (placed 0 (cyclic.inverse m step)) (placed line step) .step ≤ steps)
     go true = (omega arith, omega (arith, inverse-within m step (maps-joins (Joined m) steps step h most l)))
     go false = (omega arith, l)
 
@@ -61,7 +61,7 @@ inverse-is m steps j e = ap (λ (n : ℕ). inverse (ofMapping m) n j) (sym e) �
 
 -- 01's rule, of points that are given by their lines and steps
 rule-is : (f : ℕ → ℕ → Point) (seam : Seam) (steps last line step : ℕ) → Maps seam steps →
-    pick (joined (seamOf seam) && eqb line last) (f 0 (inverse (seamOf seam) steps step)) (f line step) ≡ f (joinOf seam last line step .line) (joinOf seam last line step .step)
+    cond (joined (seamOf seam) && eqb line last) (f 0 (inverse (seamOf seam) steps step)) (f line step) ≡ f (joinOf seam last line step .line) (joinOf seam last line step .step)
 unfolding joinOf
 rule-is f Unjoined steps last line step h = refl
 rule-is f (Joined m) steps last line step h = rw (found m, inverse-is m steps step (h .0)) (go (eqb line last))
@@ -70,7 +70,7 @@ rule-is f (Joined m) steps last line step h = rw (found m, inverse-is m steps st
     found (Forward o n) = refl
     found (Reverse o n) = refl
 
-    go : (b : Bool) → pick b (f 0 (cyclic.inverse m step)) (f line step) ≡ f (pick b (placed 0 (cyclic.inverse m step)) (placed line step) .line) (pick b (placed 0 (cyclic.inverse m step)) (placed line step) .step)
+    go : (b : Bool) → cond b (f 0 (cyclic.inverse m step)) (f line step) ≡ f (cond b (placed 0 (cyclic.inverse m step)) (placed line step) .line) (cond b (placed 0 (cyclic.inverse m step)) (placed line step) .step)
     go true = refl
     go false = refl
 

@@ -1,7 +1,7 @@
 -- Numbers of triangles: how a slot adds to the count, which slots the rims have, and the step of one rim on another. Assumes nothing.
 use Prim.Native.Nat.{ℕ, suc, _+_, _-_, _*_, _≤_, _<_}
 use mathlib.Core.Path.{_≡_, refl, sym, ap, subst, _∙_}
-use mathlib.Core.Bool.{Bool, true, false}
+use mathlib.Core.Bool.{Bool, true, false, cond}
 use mathlib.Core.List.{[], _∷_}
 use native.Mathlib.Nat.{zero-mul, mul-le-mul}
 use native.Mathlib.Omega.{arith}
@@ -9,24 +9,24 @@ use lib.ListN.{length, length-append}
 use Rattle.cyclic.specs.declared.mapping.CyclicMapping.{CyclicMapping}
 use Rattle.cyclic.specs.declared.seam.Seam.{Seam}
 use Rattle.cyclic.specs.Mapping as cyclic
-use Rattle.surface.specs.Surface.{pick, Shape, proper, slot, kept, triangleNumber, wrapEnds, stepOn, lowU, highU, lowV, highV}
+use Rattle.surface.specs.Surface.{Shape, proper, slot, kept, triangleNumber, wrapEnds, stepOn, lowU, highU, lowV, highV}
 use Rattle.surface.specs.Found.{ofMapping, surfaceWith}
 use Rattle.mesh.specs.declared.flipped.Axis.{Axis}
 use Rattle.mesh.specs.Rims.{oneMore, stepsOf}
-use Rattle.mesh.proofs.Cells.{kept-most}
+use Rattle.surface.proofs.Triangles.{kept-at-most}
 use Rattle.mesh.proofs.Joins.{inverse-is}
 
 pub number-step : (s : Shape) (k : ℕ) → triangleNumber s (suc k) ≡ oneMore (triangleNumber s k) (proper (slot s k))
 unfolding triangleNumber kept
-number-step s k = length-append (kept s k) (pick (proper (slot s k)) (slot s k ∷ []) []) ∙ go (proper (slot s k))
+number-step s k = length-append (kept s k) (cond (proper (slot s k)) (slot s k ∷ []) []) ∙ go (proper (slot s k))
   where
-    go : (b : Bool) → length (kept s k) + length (pick b (slot s k ∷ []) []) ≡ oneMore (length (kept s k)) b
+    go : (b : Bool) → length (kept s k) + length (cond b (slot s k ∷ []) []) ≡ oneMore (length (kept s k)) b
     go true = refl
     go false = omega arith
 
 pub number-most : (s : Shape) (k : ℕ) → triangleNumber s k ≤ k
 unfolding triangleNumber
-number-most s k = kept-most s k
+number-most s k = kept-at-most s k
 
 pub one-more-most : (k : ℕ) (b : Bool) → oneMore k b ≤ k + 1
 one-more-most k true = omega arith

@@ -1,12 +1,12 @@
 -- The corner rule as the code takes it: one rule for either seam, and the corners of a cell (01, "Joining and triangles"). Assumes nothing.
 use Prim.Native.Nat.{ℕ, _+_, _≤_, _<_}
 use mathlib.Core.Path.{_≡_}
+use mathlib.Core.Bool.{cond}
 use lib.Dec.{eqb}
-use Rattle.cyclic.specs.declared.mapping.CyclicMapping.{CyclicMapping}
 use Rattle.cyclic.specs.declared.seam.Seam.{Seam}
 use Rattle.cyclic.specs.declared.seam.Seam.the-variants.{Joined, Unjoined}
-use Rattle.cyclic.specs.Mapping.{offsetOf, stepsOf, inverse, Usable}
-use Rattle.surface.specs.Surface.{pick, Shape, corner}
+use Rattle.cyclic.specs.Mapping.{offsetOf, stepsOf, inverse, HasIndex}
+use Rattle.surface.specs.Surface.{Shape, corner}
 use Rattle.surface.specs.Found.{surfaceWith}
 use Rattle.mesh.specs.declared.corner.Surface.{Surface}
 use Rattle.mesh.specs.declared.corner.Place.{Place}
@@ -23,7 +23,7 @@ Maps (Joined m) steps = (stepsOf m ≡ steps) × (offsetOf m < steps)
 -- a step that the seam's mapping takes
 abbrev pub Joins : Seam → ℕ → Type 0
 Joins Unjoined step = Unit {0}
-Joins (Joined m) step = Usable m step
+Joins (Joined m) step = HasIndex m step
 
 -- steps that pass refusal 1, and seams of the grid's own lines
 pub record Bounded (s : Surface) : Type 0 where
@@ -40,7 +40,7 @@ placed line step = record { line = line; step = step }
 -- "if its u is M and the u seam was found, v becomes the inverse image and u becomes 0", for either seam: its lines, and the steps along them
 unfoldable pub joinOf : Seam → ℕ → ℕ → ℕ → Place
 joinOf Unjoined last line step = placed line step
-joinOf (Joined m) last line step = pick (eqb line last) (placed 0 (inverse m step)) (placed line step)
+joinOf (Joined m) last line step = cond (eqb line last) (placed 0 (inverse m step)) (placed line step)
 
 -- "With i00, i10, i01, i11 for corners (u,v), (u+1,v), (u,v+1), (u+1,v+1)"
 abbrev pub cellOf : Shape → ℕ → ℕ → Cell

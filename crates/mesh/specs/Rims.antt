@@ -1,11 +1,11 @@
 -- The rims of a seam and their triangles, for either seam (01, "Flipped pairs follow `process_flipped` for reversed seams"). Assumes nothing.
 use Prim.Native.Nat.{ℕ, _+_, _*_, _≤_, _<_}
 use mathlib.Core.Path.{_≡_}
-use mathlib.Core.Bool.{Bool, true, false}
+use mathlib.Core.Bool.{Bool, true, false, cond}
 use mathlib.Core.List.{List, []}
 use lib.Dec.{ltb}
 use lib.ListN.{length, getD}
-use Rattle.surface.specs.Surface.{pick, Seam, reversed, Shape, triangleNumber, stepOn, lowU, highU, lowV, highV, Pair, putDown, process}
+use Rattle.surface.specs.Surface.{Seam, reversed, Shape, triangleNumber, stepOn, lowU, highU, lowV, highV, Pair, putDown, process}
 use Rattle.mesh.specs.declared.corner.Surface.{Surface}
 use Rattle.mesh.specs.Corners.{shapeOf}
 use Rattle.mesh.specs.declared.flipped.Axis.{Axis}
@@ -44,7 +44,7 @@ pub record Rims (axis : Axis) (s : Shape) (low high : List ℕ) : Type 0 where
 
 -- step i of the high rim with the step of the low rim that lies on it, if there is one
 abbrev pub flipStep : Axis → Shape → Seam → ℕ → List Pair → List Pair
-flipStep axis s m i ps = pick (ltb (stepOn m (stepsOf axis s) i) (stepsOf axis s)) (putDown s (lowOf axis s (stepOn m (stepsOf axis s) i)) (highOf axis s i) ps) ps
+flipStep axis s m i ps = cond (ltb (stepOn m (stepsOf axis s) i) (stepsOf axis s)) (putDown s (lowOf axis s (stepOn m (stepsOf axis s) i)) (highOf axis s i) ps) ps
 
 -- steps 0 to n−1
 abbrev pub flipSteps : Axis → Shape → Seam → ℕ → List Pair → List Pair
@@ -52,4 +52,4 @@ flipSteps axis s m n ps = process s m (stepsOf axis s) (lowOf axis s) (highOf ax
 
 -- "for reversed seams"
 abbrev pub flips : Axis → Shape → Seam → List Pair → List Pair
-flips axis s m ps = pick (reversed m) (flipSteps axis s m (stepsOf axis s) ps) ps
+flips axis s m ps = cond (reversed m) (flipSteps axis s m (stepsOf axis s) ps) ps

@@ -2,10 +2,11 @@
 use crate::corner::Surface;
 use crate::corner::cell_corners;
 ghost use mathlib.Core.Path.{_≡_};
+ghost use mathlib.Core.Bool.{cond};
 ghost use mathlib.Core.List.{[], _∷_, _++_};
 ghost use Prim.Native.Nat.{_+_, _-_, _*_, _≤_, _<_};
 ghost use lib.ListN.{length};
-ghost use Rattle.surface.specs.Surface.{pick, tri, proper, kept};
+ghost use Rattle.surface.specs.Surface.{tri, proper, kept};
 ghost use Rattle.mesh.specs.Corners.{shapeOf, Bounded};
 ghost use Rattle.mesh.specs.Held.{trianglesIn};
 ghost use Rattle.mesh.specs.Rims.{Starts};
@@ -30,7 +31,7 @@ fn write_triangle(triangles: &mut [usize], count: usize, a: usize, b: usize, c: 
 // Adds a triangle to the first `count` if its three numbers differ, and gives the new count.
 fn add_triangle(triangles: &mut [usize], count: usize, a: usize, b: usize, c: usize) -> usize
     requires { ⌜ 3 * count + 3 ≤ length (now triangles) ⌝ }
-    ensures { λ r. ⌜ trianglesIn r (now (triangles .exit)) ≡ trianglesIn count (now (triangles .entry)) ++ pick (proper (tri a b c)) (tri a b c ∷ []) [] ⌝ }
+    ensures { λ r. ⌜ trianglesIn r (now (triangles .exit)) ≡ trianglesIn count (now (triangles .entry)) ++ cond (proper (tri a b c)) (tri a b c ∷ []) [] ⌝ }
 {
     if !differ(a, b, c) {
         return count;

@@ -4,7 +4,7 @@ use Prim.Native.Nat.{ℕ, zero, suc, _+_, _-_, _*_, _≤_, _<_}
 use native.Mathlib.Omega.{arith}
 use mathlib.Core.Path.{_≡_, refl, sym, ap, _∙_}
 use mathlib.Core.Bool.{Bool, true, false}
-use mathlib.Core.List.{List, [], _∷_, _++_, map, flatten, append-assoc}
+use mathlib.Core.List.{List, [], _∷_, _++_, map, flatten, append-assoc, append-nil}
 use lib.Dec.{ltb}
 use lib.Ieee.{Float}
 use lib.ListN.{length, getD, take, drop, replicate, length-append, length-replicate, take-append-drop, List·getD-append}
@@ -20,10 +20,6 @@ use Rattle.path.proofs.Stores.{length-coordinates, coordinates-append, 
 use Rattle.path.proofs.Lines.{grid-lines}
 use Rattle.path.proofs.Checks.{passed-room}
 use Rattle.path.proofs.There.{There, span-there}
-
-append-nil : {A : Type 0} (l : List A) → l ++ [] ≡ l
-append-nil [] = refl
-append-nil {A} (x ∷ xs) = ap {B = List A} (λ r. x ∷ r) (append-nil xs)
 
 -- the count of points before line k
 abbrev before : List (List Vector) → ℕ → ℕ

@@ -13,14 +13,15 @@ use Rattle.grid.specs.Grid.{pointAt}
 use Rattle.path.specs.GridPaths.{coordinates}
 use Rattle.path.specs.Runs.{run, runs, spaced}
 
-pub fewer : (j k a : ℕ) → j ≤ k → k * a ≡ (k - j) * a + j * a
+-- j turns fewer than k, of a each
+abbrev pub Fewer : ℕ → ℕ → ℕ → Type 0
+Fewer j k a = k * a ≡ (k - j) * a + j * a
+
+pub fewer : (j k a : ℕ) → j ≤ k → Fewer j k a
 fewer j k a h = ap (λ (i : ℕ). i * a) split ∙ add-mul (k - j) j a
   where
     split : k ≡ k - j + j
     split = omega arith
-
-pub one-less : (k a : ℕ) → 0 < k → k * a ≡ (k - 1) * a + a
-one-less k a h = fewer 1 k a h ∙ omega arith
 
 -- stores of two lists, one after the other
 pub sets-append : {A : Type 0} (l : List A) (i : ℕ) (vs ws : List A) → sets l i (vs ++ ws) ≡ sets (sets l i vs) (i + length vs) ws

@@ -3,7 +3,7 @@
 use Prim.Native.Nat.{ℕ, zero, suc, _+_, _-_, _*_, _/_, _%_, _≤_, _<_}
 use mathlib.Core.Path.{_≡_, refl, sym, ap, _∙_, subst}
 use mathlib.Core.Logic.{_⊎_, inl, inr, ⊎-elim}
-use mathlib.Core.Bool.{Bool, true, false, _||_, not, true≢false}
+use mathlib.Core.Bool.{Bool, true, _||_, not, true≢false}
 use native.Mathlib.Omega.{arith}
 use lib.Arith.{digits-div, digits-mod}
 use Rattle.surface.specs.Surface.{Seam, unjoined, forward, reverse, joined, reversed, inverse, Rule, once, twice, Split, falling, rising, Shape, number, at, EnoughSteps}
@@ -164,7 +164,7 @@ inside-mapping : (m : Seam) (n : ℕ) → Beside once m n → (b : ℕ) → b < 
 inside-mapping unjoined n h b k = absurd h
 inside-mapping (forward zero) n h b k = omega (arith, inv-forward-0 n b)
 inside-mapping (forward (suc o)) n h b k = ⊎-elim (λ w. omega arith) (λ w. omega arith) (inv-forward (suc o) n b (omega arith) h (omega arith))
-inside-mapping (reverse o) n h b k = ⊎-elim (λ w. omega arith) (λ v. ⊎-elim (λ w. omega arith) (λ w. omega arith) v) (inv-reverse o n b (h .0) (h .1) (omega arith))
+inside-mapping (reverse o) n h b k = ⊎-elim (λ w. omega arith) (λ w. omega arith) (inv-reverse o n b (h .0) (h .1) (omega arith))
 
 offset-closed : (o n : ℕ) → o < n → Offset o true n
 offset-closed zero n h = tt

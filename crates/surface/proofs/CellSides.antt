@@ -3,11 +3,10 @@
 use Prim.Native.Nat.{ℕ, _+_, _-_, _≤_, _<_}
 use mathlib.Core.Path.{_≡_, refl, sym, ap, _∙_}
 use mathlib.Core.Logic.{_⊎_, inl, inr, ⊎-elim}
-use mathlib.Core.Bool.{Bool, true, false, _&&_, not}
+use mathlib.Core.Bool.{Bool, true, false, _&&_, not, cond}
 use native.Mathlib.Omega.{arith}
 use lib.Dec.{eqb}
 use borrow.Author.Tests.{eq-eqb}
-use Rattle.cyclic.specs.Mapping.{pick}
 use Rattle.surface.specs.Surface.{Seam, unjoined, forward, reverse, joined, Split, falling, rising}
 use Rattle.surface.proofs.Steps.{lt-or-le, wrap, wrap-open, wrap-below, wrap-end, laidOn, laidBack, back-below, on-back, on-inj}
 use Rattle.surface.proofs.Strip.{Strip, crossing, colOf, rowOf, pointOf, stepAt, turned, next, Kind, straight, across, diagonal, nameFrom, nameTo, fromY, toY, Valid, row-below, col-below, step-below, stepAt-lt, col-le, next-le, next-ne, next-inj, col-ne, col-inj, row-next, adjacent}
@@ -124,7 +123,7 @@ module _ (S : Strip) where
   unfolding stepAt
   step-inj-at z a b h k = go (crossing S z)
     where
-      go : (w : Bool) → pick w (laidOn seam Y a) a ≡ pick w (laidOn seam Y b) b → a ≡ b
+      go : (w : Bool) → cond w (laidOn seam Y a) a ≡ cond w (laidOn seam Y b) b → a ≡ b
       go true e = on-inj seam closed Y a b fits h k e
       go false e = e
 
@@ -161,7 +160,7 @@ module _ (S : Strip) where
 
   pub far-step : (y : ℕ) → joined seam ≡ true → stepAt S X y ≡ laidOn seam Y y
   unfolding stepAt
-  far-step y j = ap (λ (t : Bool). pick t (laidOn seam Y y) y) (ap (λ (t : Bool). t && eqb X X) j ∙ eq-eqb X X refl)
+  far-step y j = ap (λ (t : Bool). cond t (laidOn seam Y y) y) (ap (λ (t : Bool). t && eqb X X) j ∙ eq-eqb X X refl)
 
   col-unjoined : (x : ℕ) → seam ≡ unjoined → colOf S x ≡ x
   unfolding colOf

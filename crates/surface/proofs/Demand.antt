@@ -4,13 +4,12 @@
 use Prim.Native.Nat.{ℕ, _+_, _-_, _*_, _≤_, _<_, min, max}
 use mathlib.Core.Path.{_≡_, refl, sym, ap, _∙_, subst}
 use mathlib.Core.Logic.{_⊎_, inl, inr, ⊎-elim}
-use mathlib.Core.Bool.{Bool, true, false}
-use mathlib.Core.List.{List, [], List·Memᴰ, List·Memᴰ·not-nil, Memᴰ·cast}
+use mathlib.Core.Bool.{Bool, true, false, cond}
+use mathlib.Core.List.{[], List·Memᴰ, List·Memᴰ·not-nil, Memᴰ·cast}
 use native.Mathlib.Omega.{arith}
 use lib.Arith.{digits-div, digits-mod}
 use lib.ListN.{length}
 use borrow.Author.Tests.{ne-eqb}
-use Rattle.cyclic.specs.Mapping.{pick}
 use Rattle.surface.specs.Surface.{Seam, unjoined, forward, reverse, reversed, Shape, J, Triangle, slot, proper, slots, triangles, Pair, pair, ordered, triangleNumber, stepOn, process, flipped, Follows, nth, Owns, OwnedOnce, OwnedTwice, Rim, SameWay, GridEdge, along-u, along-v, number, at, Jₙ, Meets, falls, rises}
 use Rattle.surface.proofs.Covered.{Covered}
 use Rattle.surface.proofs.Steps.{lt-or-le, Fits, laidOn, on-below}
@@ -23,7 +22,7 @@ use Rattle.surface.proofs.Seen.{to-runs, from-runs, seen-cell, rim-seen
 use Rattle.surface.proofs.Triangles.{index, halfAt, uAt, vAt, slot-at, uAt-lt, vAt-lt, index-at, index-lt, uAt-index, vAt-index, halfAt-index, kept-length, kept-at}
 use Rattle.surface.proofs.Pairs.{step-on, pair-eq, mem-in, process-to, process-from}
 
-proper-of : (t : Triangle) → (t .a ≡ t .b → ⊥) → (t .a ≡ t .c → ⊥) → (t .b ≡ t .c → ⊥) → proper t ≡ true
+pub proper-of : (t : Triangle) → (t .a ≡ t .b → ⊥) → (t .a ≡ t .c → ⊥) → (t .b ≡ t .c → ⊥) → proper t ≡ true
 proper-of t p q r = rw (ne-eqb (t .a) (t .b) p, ne-eqb (t .a) (t .c) q, ne-eqb (t .b) (t .c) r)
 
 reversed-step : (m : Seam) (c : Bool) (n y : ℕ) → 3 ≤ n → Fits m c n → reversed m ≡ true → y < n → stepOn m n y ≡ laidOn m n y
@@ -245,11 +244,11 @@ module _ (s : Shape) (steps : HasSteps s) (ax : Axis) (seen : SeenAlong ax s) wh
 
   flipped-reversed : reversed (Z .seam) ≡ true → flipped s ≡ process s (Z .seam) (Z .Y) (lows ax s) (highs ax s) (Z .Y) []
   unfolding strip
-  flipped-reversed e = flipped-seen s ax (seen .plain) ∙ ap (λ (t : Bool). pick t (process s (Z .seam) (Z .Y) (lows ax s) (highs ax s) (Z .Y) []) []) e
+  flipped-reversed e = flipped-seen s ax (seen .plain) ∙ ap (λ (t : Bool). cond t (process s (Z .seam) (Z .Y) (lows ax s) (highs ax s) (Z .Y) []) []) e
 
   flipped-none : reversed (Z .seam) ≡ false → flipped s ≡ []
   unfolding strip
-  flipped-none e = flipped-seen s ax (seen .plain) ∙ ap (λ (t : Bool). pick t (process s (Z .seam) (Z .Y) (lows ax s) (highs ax s) (Z .Y) []) []) e
+  flipped-none e = flipped-seen s ax (seen .plain) ∙ ap (λ (t : Bool). cond t (process s (Z .seam) (Z .Y) (lows ax s) (highs ax s) (Z .Y) []) []) e
 
   -- the two triangles at a turn, by their numbers
   turn-low : (i j : ℕ) → TurnAt (halfAt i) (xAt i) (yAt i) (halfAt j) (xAt j) (yAt j) → i ≡ lows ax s (on (yAt j))

@@ -3,13 +3,13 @@
 use Prim.Native.Nat.{ℕ, _+_, _-_, _<_}
 use mathlib.Core.Path.{_≡_, refl, sym, ap, _∙_, subst}
 use mathlib.Core.Logic.{_⊎_, inl, inr, ⊎-elim}
-use mathlib.Core.Bool.{Bool, true, false, _&&_, not, false≢true}
+use mathlib.Core.Bool.{Bool, true, false, _&&_, not, false≢true, cond, Bool·not-not}
 use native.Mathlib.Omega.{arith}
 use lib.Dec.{eqb}
 use borrow.Author.Tests.{eqb-true, eq-eqb}
-use Rattle.cyclic.specs.Mapping.{pick}
 use Rattle.surface.specs.Surface.{Seam, unjoined, forward, reverse, joined, reversed, Same}
-use Rattle.surface.proofs.Steps.{both-true, laidOn, on-below}
+use Rattle.float.proofs.Tests.{and-both}
+use Rattle.surface.proofs.Steps.{laidOn, on-below}
 use Rattle.surface.proofs.Strip.{Strip, Kind, straight, across, diagonal, nameFrom, nameTo, fromY, toX, toY, Valid, x-le, toX-le, fromY-le, toY-le, turned, colOf, stepAt, col-ne, next-ne}
 use Rattle.surface.proofs.CellSides.{Cell, sideFrom, sideTo, nameX, nameY, turnedAt, valid, named, far-col, far-step}
 use Rattle.surface.proofs.Owners.{same-flip, not-self, Holds, compare, SameTri, Opposite}
@@ -43,7 +43,7 @@ module _ (S : Strip) where
 
   turned-far : (x : ℕ) → turned S x ≡ true → (reversed seam ≡ true) × (x ≡ X)
   unfolding turned
-  turned-far x e = let p = both-true (reversed seam) (eqb x X) e in (p .0, eqb-true x X (p .1))
+  turned-far x e = let p = and-both (reversed seam) (eqb x X) e in (p .0, eqb-true x X (p .1))
 
   far-turned : reversed seam ≡ true → turned S X ≡ true
   unfolding turned
@@ -154,12 +154,8 @@ module _ (S : Strip) where
       (begins (p .k) (p .t) x y a b (p .cell) (p .along)))
       (compare S a b (p .k) (q .k) (p .t) (q .t) x y x′ y′ (p .cell) (q .cell) (along-same (p .along)) (along-same (q .along)))
     where
-      not-not : (t : Bool) → not (not t) ≡ t
-      not-not true = refl
-      not-not false = refl
-
       swap : Opposite S (p .k) (p .t) x y (q .k) (q .t) x′ y′ → Opposite S (q .k) (q .t) x′ y′ (p .k) (p .t) x y
-      swap o = (sym (o .0), cc (o .1, not-not (p .t)), cc (o .0, o .1, o .2, not-not (p .t)), cc (o .0, o .1, o .3, not-not (p .t)))
+      swap o = (sym (o .0), cc (o .1, Bool·not-not (p .t)), cc (o .0, o .1, o .2, Bool·not-not (p .t)), cc (o .0, o .1, o .3, Bool·not-not (p .t)))
 
   pub record Shared (h : Bool) (x y : ℕ) (h′ : Bool) (x′ y′ : ℕ) : Type 0 where
     pub a : ℕ
@@ -212,11 +208,11 @@ module _ (S : Strip) where
             two = record { k = straight; t = true; cell = cell-high; on = sym (r .high-half); along = inl (dir-not straight false ∙ ap not e, sym (high .1), sym (high .0)) };
           }
 
-  pub along-ends : (w : Bool) (a b c d : ℕ) → Along w a b c d → (a ≡ pick w c d) × (b ≡ pick w d c)
-  along-ends w a b c d (inl e) = (e .1 ∙ ap (λ (z : Bool). pick z c d) (sym (e .0)), e .2 ∙ ap (λ (z : Bool). pick z d c) (sym (e .0)))
-  along-ends w a b c d (inr e) = (e .1 ∙ ap (λ (z : Bool). pick z c d) (sym (e .0)), e .2 ∙ ap (λ (z : Bool). pick z d c) (sym (e .0)))
+  pub along-ends : (w : Bool) (a b c d : ℕ) → Along w a b c d → (a ≡ cond w c d) × (b ≡ cond w d c)
+  along-ends w a b c d (inl e) = (e .1 ∙ ap (λ (z : Bool). cond z c d) (sym (e .0)), e .2 ∙ ap (λ (z : Bool). cond z d c) (sym (e .0)))
+  along-ends w a b c d (inr e) = (e .1 ∙ ap (λ (z : Bool). cond z c d) (sym (e .0)), e .2 ∙ ap (λ (z : Bool). cond z d c) (sym (e .0)))
 
-  pub ends-along : (w : Bool) (a b c d : ℕ) → a ≡ pick w c d → b ≡ pick w d c → Along w a b c d
+  pub ends-along : (w : Bool) (a b c d : ℕ) → a ≡ cond w c d → b ≡ cond w d c → Along w a b c d
   ends-along true a b c d p q = inl (refl, p, q)
   ends-along false a b c d p q = inr (refl, p, q)
 

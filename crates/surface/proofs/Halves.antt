@@ -3,9 +3,8 @@
 use Prim.Native.Nat.{ℕ, _+_, _-_, _*_, _<_}
 use mathlib.Core.Path.{_≡_, refl, sym}
 use mathlib.Core.Logic.{inl, inr}
-use mathlib.Core.Bool.{Bool, true, false, not}
+use mathlib.Core.Bool.{Bool, true, false, not, cond}
 use native.Mathlib.Omega.{arith}
-use Rattle.cyclic.specs.Mapping.{pick}
 use Rattle.surface.specs.Surface.{Split, falling, rising, Shape, corner, halfOf, slots, bySplit, lowU, highU, lowV, highV, Follows}
 use Rattle.surface.proofs.Strip.{Kind, straight, across, diagonal}
 use Rattle.surface.proofs.CellSides.{shift, endsOf}
@@ -26,10 +25,10 @@ cellDir diagonal t = t
 
 -- where a run along a side starts, and where it ends
 abbrev pub start : Bool → ℕ × ℕ → ℕ
-start w e = pick w (e .0) (e .1)
+start w e = cond w (e .0) (e .1)
 
 abbrev pub finish : Bool → ℕ × ℕ → ℕ
-finish w e = pick w (e .1) (e .0)
+finish w e = cond w (e .1) (e .0)
 
 module _ (s : Shape) (u v : ℕ) where
   -- the corners of cell (u, v)

@@ -3,15 +3,15 @@
 use Prim.Native.Nat.{ℕ, zero, suc, _+_, _-_, _≤_, _<_}
 use mathlib.Core.Path.{_≡_, refl, sym, ap, _∙_, subst}
 use mathlib.Core.Logic.{_⊎_, inl, inr, ⊎-elim}
-use mathlib.Core.Bool.{Bool, true, false, _&&_}
+use mathlib.Core.Bool.{Bool, true, false, _&&_, cond}
 use mathlib.Core.List.{List, [], _∷_, List·Memᴰ, List·Memᴰ·head, List·Memᴰ·tail, List·Memᴰ·cases-cons, List·Memᴰ·not-nil, Memᴰ·cast}
 use native.Mathlib.Omega.{arith}
 use lib.Dec.{eqb, ltb}
 use lib.ListN.{length}
 use borrow.Author.Tests.{eq-eqb, ne-eqb, ltb-true, ltb-false, lt-ltb}
-use Rattle.cyclic.specs.Mapping.{pick}
 use Rattle.surface.specs.Surface.{Seam, reverse, reversed, inverse, Shape, slot, proper, triangles, Pair, pair, ordered, insert, triangleNumber, stepOn, process, flipped, lowU, highU, lowV, highV, wrapEnds}
-use Rattle.surface.proofs.Steps.{both-true, eqb-cases, lt-or-le, Offset, laidOn, reverse-step}
+use Rattle.float.proofs.Tests.{and-both}
+use Rattle.surface.proofs.Steps.{eqb-cases, lt-or-le, Offset, laidOn, reverse-step}
 use Rattle.surface.proofs.Triangles.{number-below}
 use Rattle.surface.proofs.Halves.{lowU-lt, highU-lt, lowV-lt, highV-lt}
 
@@ -60,9 +60,9 @@ pub pair-eq : (p q : Pair) → p .low ≡ q .low → p .high ≡ q .high → p �
 pair-eq p q e f = ap (λ (z : ℕ). pair z (p .high)) e ∙ ap (pair (q .low)) f
 
 picks : (a b c d : Bool) (x y z : List Pair) →
-    (pick a x (pick b y (pick c x (pick d y z))) ≡ x)
-    ⊎ ((pick a x (pick b y (pick c x (pick d y z))) ≡ y)
-    ⊎ ((pick a x (pick b y (pick c x (pick d y z))) ≡ z) × (a ≡ false) × (b ≡ false) × (c ≡ false) × (d ≡ false)))
+    (cond a x (cond b y (cond c x (cond d y z))) ≡ x)
+    ⊎ ((cond a x (cond b y (cond c x (cond d y z))) ≡ y)
+    ⊎ ((cond a x (cond b y (cond c x (cond d y z))) ≡ z) × (a ≡ false) × (b ≡ false) × (c ≡ false) × (d ≡ false)))
 picks true b c d x y z = inl refl
 picks false true c d x y z = inr (inl refl)
 picks false false true d x y z = inl refl
@@ -136,18 +136,18 @@ before-trans p q r (inl a) (inr b) = inl (omega arith)
 before-trans p q r (inr a) (inl b) = inl (omega arith)
 before-trans p q r (inr a) (inr b) = inr (omega arith)
 
-pick-case : (t : Bool) (P : List Pair → Type 0) (x y : List Pair) → (t ≡ true → P x) → (t ≡ false → P y) → P (pick t x y)
-pick-case true P x y f g = f refl
-pick-case false P x y f g = g refl
+cond-case : (t : Bool) (P : List Pair → Type 0) (x y : List Pair) → (t ≡ true → P x) → (t ≡ false → P y) → P (cond t x y)
+cond-case true P x y f g = f refl
+cond-case false P x y f g = g refl
 
 pub insert-ascending : (p : Pair) (ps : List Pair) → Ascending ps → Ascending (insert p ps)
 insert-ascending p [] a = (λ q m. absurd (List·Memᴰ·not-nil m), tt)
 insert-ascending p (r ∷ rs) a =
     let below = insert-ascending p rs (a .1) in
-    pick-case (ltb (p .low) (r .low)) Ascending _ _ (λ e. front (inl (ltb-true (p .low) (r .low) e)))
-    (λ e₁. pick-case (ltb (r .low) (p .low)) Ascending _ _ (λ e. behind below (inl (ltb-true (r .low) (p .low) e)))
-    (λ e₂. pick-case (ltb (p .high) (r .high)) Ascending _ _ (λ e. front (inr (level e₁ e₂, ltb-true (p .high) (r .high) e)))
-    (λ e₃. pick-case (ltb (r .high) (p .high)) Ascending _ _ (λ e. behind below (inr (sym (level e₁ e₂), ltb-true (r .high) (p .high) e)))
+    cond-case (ltb (p .low) (r .low)) Ascending _ _ (λ e. front (inl (ltb-true (p .low) (r .low) e)))
+    (λ e₁. cond-case (ltb (r .low) (p .low)) Ascending _ _ (λ e. behind below (inl (ltb-true (r .low) (p .low) e)))
+    (λ e₂. cond-case (ltb (p .high) (r .high)) Ascending _ _ (λ e. front (inr (level e₁ e₂, ltb-true (p .high) (r .high) e)))
+    (λ e₃. cond-case (ltb (r .high) (p .high)) Ascending _ _ (λ e. behind below (inr (sym (level e₁ e₂), ltb-true (r .high) (p .high) e)))
     (λ e₄. a))))
   where
     level : ltb (p .low) (r .low) ≡ false → ltb (r .low) (p .low) ≡ false → p .low ≡ r .low
@@ -184,9 +184,9 @@ module _ (s : Shape) (m : Seam) (steps : ℕ) (low high : ℕ → ℕ) (P : ℕ 
       let rest = process s m steps low high n ps in
       let before : P n rest = process-keeps n ps p (λ y qs h. skip y qs (omega arith)) (λ y qs h. put y qs (omega arith)) in
       let i = low (stepOn m steps n) in
-      pick-case (ltb (stepOn m steps n) steps) (P (suc n)) _ _
-      (λ e. pick-case (proper (slot s i) && proper (slot s (high n))) (P (suc n)) _ _
-      (λ f. let g = both-true (proper (slot s i)) (proper (slot s (high n))) f in put n rest (omega arith) (ltb-true (stepOn m steps n) steps e) (g .0) (g .1) before)
+      cond-case (ltb (stepOn m steps n) steps) (P (suc n)) _ _
+      (λ e. cond-case (proper (slot s i) && proper (slot s (high n))) (P (suc n)) _ _
+      (λ f. let g = and-both (proper (slot s i)) (proper (slot s (high n))) f in put n rest (omega arith) (ltb-true (stepOn m steps n) steps e) (g .0) (g .1) before)
       (λ f. skip n rest (omega arith) before))
       (λ e. skip n rest (omega arith) before)
 
@@ -197,10 +197,10 @@ module _ (s : Shape) (P : List Pair → Type 0) where
 
   flipped-keeps : P [] → Kept (s .su) (s .N) (lowU s) (highU s) → Kept (s .sv) (s .M) (lowV s) (highV s) → P (flipped s)
   unfolding flipped
-  flipped-keeps p us vs = pick-case (reversed (s .sv)) P _ _ (λ e. process-keeps s (s .sv) (s .M) (lowV s) (highV s) (λ k. P) (s .M) _ after-u (λ y qs h r. r) vs) (λ e. after-u)
+  flipped-keeps p us vs = cond-case (reversed (s .sv)) P _ _ (λ e. process-keeps s (s .sv) (s .M) (lowV s) (highV s) (λ k. P) (s .M) _ after-u (λ y qs h r. r) vs) (λ e. after-u)
     where
-      after-u : P (pick (reversed (s .su)) (process s (s .su) (s .N) (lowU s) (highU s) (s .N) []) [])
-      after-u = pick-case (reversed (s .su)) P _ _ (λ e. process-keeps s (s .su) (s .N) (lowU s) (highU s) (λ k. P) (s .N) [] p (λ y qs h r. r) us) (λ e. p)
+      after-u : P (cond (reversed (s .su)) (process s (s .su) (s .N) (lowU s) (highU s) (s .N) []) [])
+      after-u = cond-case (reversed (s .su)) P _ _ (λ e. process-keeps s (s .su) (s .N) (lowU s) (highU s) (λ k. P) (s .N) [] p (λ y qs h r. r) us) (λ e. p)
 
 pub flipped-ascending : (s : Shape) → Ascending (flipped s)
 flipped-ascending s = flipped-keeps s Ascending tt (λ y qs h l e f a. insert-ascending _ qs a) (λ y qs h l e f a. insert-ascending _ qs a)
@@ -239,10 +239,10 @@ pub flipped-at-most : (s : Shape) → length (flipped s) ≤ s .M + s .N
 unfolding flipped
 flipped-at-most s =
     let pu = process s (s .su) (s .N) (lowU s) (highU s) (s .N) [] in
-    let us = pick (reversed (s .su)) pu [] in
-    let after-u : length us ≤ s .N = pick-case (reversed (s .su)) (λ (l : List Pair). length l ≤ s .N) pu [] (λ e. omega (arith, process-at-most s (s .su) (s .N) (lowU s) (highU s) (s .N) [])) (λ e. omega arith) in
+    let us = cond (reversed (s .su)) pu [] in
+    let after-u : length us ≤ s .N = cond-case (reversed (s .su)) (λ (l : List Pair). length l ≤ s .N) pu [] (λ e. omega (arith, process-at-most s (s .su) (s .N) (lowU s) (highU s) (s .N) [])) (λ e. omega arith) in
     let pv = process s (s .sv) (s .M) (lowV s) (highV s) (s .M) us in
-    pick-case (reversed (s .sv)) (λ (l : List Pair). length l ≤ s .M + s .N) pv us (λ e. omega (arith, process-at-most s (s .sv) (s .M) (lowV s) (highV s) (s .M) us)) (λ e. omega arith)
+    cond-case (reversed (s .sv)) (λ (l : List Pair). length l ≤ s .M + s .N) pv us (λ e. omega (arith, process-at-most s (s .sv) (s .M) (lowV s) (highV s) (s .M) us)) (λ e. omega arith)
 
 -- What process_flipped puts down: one pair for each step of the high rim, where each step lies on `on` of it and all is proper.
 module _ (s : Shape) (m : Seam) (Y : ℕ) (lows highs on : ℕ → ℕ)

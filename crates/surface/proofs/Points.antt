@@ -5,11 +5,10 @@
 use Prim.Native.Nat.{ℕ, _+_, _-_, _≤_, _<_}
 use mathlib.Core.Path.{_≡_, refl, sym, ap, _∙_}
 use mathlib.Core.Logic.{_⊎_, inl, inr, ⊎-elim}
-use mathlib.Core.Bool.{Bool, true, false, _&&_, false≢true}
+use mathlib.Core.Bool.{Bool, true, false, _&&_, false≢true, cond}
 use native.Mathlib.Omega.{arith}
 use lib.Dec.{eqb}
 use borrow.Author.Tests.{ne-eqb}
-use Rattle.cyclic.specs.Mapping.{pick}
 use Rattle.surface.specs.Surface.{Seam, joined, inverse, Point, at, Rule, once, twice, Shape, uRule, vRule, number, joinedBy, J, cornerBy, corner}
 use Rattle.surface.proofs.Steps.{eqb-cases, wrap, wrap-open, wrap-closed, wrap-below, wrap-wrap, carried, carried-wrap, inv-forward-0}
 use Rattle.surface.proofs.Strip.{Strip, colOf, rowOf, pointOf, row-below, col-below}
@@ -37,27 +36,27 @@ abbrev last : Axis → Shape → ℕ → Bool
 last a s x = joined (seamOf a s) && eqb x (columns a s)
 
 seam-rule : (s : Shape) (a : Axis) (x y : ℕ) →
-    seamRule a s (pt a x y) ≡ pt a (wrap (joined (seamOf a s)) (columns a s) x) (pick (last a s x) (inverse (seamOf a s) (rows a s) y) y)
+    seamRule a s (pt a x y) ≡ pt a (wrap (joined (seamOf a s)) (columns a s) x) (cond (last a s x) (inverse (seamOf a s) (rows a s) y) y)
 unfolding wrap
 seam-rule s axisU x y = go (last axisU s x)
   where
-    go : (t : Bool) → pick t (at 0 (inverse (s .su) (s .N) y)) (at x y) ≡ at (pick t 0 x) (pick t (inverse (s .su) (s .N) y) y)
+    go : (t : Bool) → cond t (at 0 (inverse (s .su) (s .N) y)) (at x y) ≡ at (cond t 0 x) (cond t (inverse (s .su) (s .N) y) y)
     go true = refl
     go false = refl
 seam-rule s axisV x y = go (last axisV s x)
   where
-    go : (t : Bool) → pick t (at (inverse (s .sv) (s .M) y) 0) (at y x) ≡ at (pick t (inverse (s .sv) (s .M) y) y) (pick t 0 x)
+    go : (t : Bool) → cond t (at (inverse (s .sv) (s .M) y) 0) (at y x) ≡ at (cond t (inverse (s .sv) (s .M) y) y) (cond t 0 x)
     go true = refl
     go false = refl
 
-plain-pick : (m : Seam) → Plain m → (t : Bool) (n b : ℕ) → pick t (inverse m n b) b ≡ b
-plain-pick m (inl e) true n b = ap (λ (z : Seam). inverse z n b) e
-plain-pick m (inr e) true n b = ap (λ (z : Seam). inverse z n b) e ∙ inv-forward-0 n b
-plain-pick m e false n b = refl
+plain-cond : (m : Seam) → Plain m → (t : Bool) (n b : ℕ) → cond t (inverse m n b) b ≡ b
+plain-cond m (inl e) true n b = ap (λ (z : Seam). inverse z n b) e
+plain-cond m (inr e) true n b = ap (λ (z : Seam). inverse z n b) e ∙ inv-forward-0 n b
+plain-cond m e false n b = refl
 
 closing-rule : (s : Shape) (a : Axis) (x y : ℕ) → Plain (closing a s) → closingRule a s (pt a x y) ≡ pt a x (wrap (joined (closing a s)) (rows a s) y)
-closing-rule s axisU x y e = seam-rule s axisV y x ∙ ap (λ (z : ℕ). at z (wrap (joined (s .sv)) (s .N) y)) (plain-pick (s .sv) e (last axisV s y) (s .M) x)
-closing-rule s axisV x y e = seam-rule s axisU y x ∙ ap (at (wrap (joined (s .su)) (s .M) y)) (plain-pick (s .su) e (last axisU s y) (s .N) x)
+closing-rule s axisU x y e = seam-rule s axisV y x ∙ ap (λ (z : ℕ). at z (wrap (joined (s .sv)) (s .N) y)) (plain-cond (s .sv) e (last axisV s y) (s .M) x)
+closing-rule s axisV x y e = seam-rule s axisU y x ∙ ap (at (wrap (joined (s .su)) (s .M) y)) (plain-cond (s .su) e (last axisU s y) (s .N) x)
 
 wrap-fix : (c : Bool) (n i : ℕ) → (c ≡ true → i < n) → wrap c n i ≡ i
 wrap-fix false n i h = wrap-open n i
@@ -72,9 +71,9 @@ settled : (c : Bool) (n i : ℕ) → 0 < n → (c && eqb (wrap c n i) n) ≡ fal
 settled false n i z = refl
 settled true n i z = ne-eqb (wrap true n i) n (λ e. ⊎-elim (λ w. omega arith) (λ w. w .1 (sym (w .0) ∙ e)) (wrap-closed n i))
 
-pick-wrap : (t c : Bool) (n i j : ℕ) → pick t (wrap c n i) (wrap c n j) ≡ wrap c n (pick t i j)
-pick-wrap true c n i j = refl
-pick-wrap false c n i j = refl
+cond-wrap : (t c : Bool) (n i j : ℕ) → cond t (wrap c n i) (wrap c n j) ≡ wrap c n (cond t i j)
+cond-wrap true c n i j = refl
+cond-wrap false c n i j = refl
 
 pt-same : (a : Axis) {x y x′ y′ : ℕ} → x ≡ x′ → y ≡ y′ → pt a x y ≡ pt a x′ y′
 pt-same a p q = cc
@@ -115,20 +114,20 @@ module _ (s : Shape) (steps : HasSteps s) (a : Axis) (w : SeenAlong a s) where
   unfolding colOf strip
   col-form x = refl
 
-  row-form : (x y : ℕ) → rowOf S x y ≡ pick (last a s x) (carried (seamOf a s) c Y y) (wrap c Y y)
+  row-form : (x y : ℕ) → rowOf S x y ≡ cond (last a s x) (carried (seamOf a s) c Y y) (wrap c Y y)
   unfolding rowOf strip
   row-form x y = refl
 
-  row-wrap : (x y : ℕ) → rowOf S x y ≡ wrap c Y (pick (last a s x) (inv y) y)
+  row-wrap : (x y : ℕ) → rowOf S x y ≡ wrap c Y (cond (last a s x) (inv y) y)
   unfolding carried
-  row-wrap x y = row-form x y ∙ pick-wrap (last a s x) c Y (inv y) y
+  row-wrap x y = row-form x y ∙ cond-wrap (last a s x) c Y (inv y) y
 
   -- the seam's rule, then the closing rule
   seam-closing : (x y : ℕ) → closingRule a s (seamRule a s (pt a x y)) ≡ place x y
   unfolding place
   seam-closing x y =
       ap (closingRule a s) (seam-rule s a x y)
-      ∙ closing-rule s a (wrap j X x) (pick (last a s x) (inv y) y) plain
+      ∙ closing-rule s a (wrap j X x) (cond (last a s x) (inv y) y) plain
       ∙ pt-same a (sym (col-form x)) (sym (row-wrap x y))
 
   -- and no further rule moves the point
@@ -136,7 +135,7 @@ module _ (s : Shape) (steps : HasSteps s) (a : Axis) (w : SeenAlong a s) where
   unfolding place
   seam-stays x y =
       seam-rule s a (colOf S x) (rowOf S x y)
-      ∙ pt-same a (ap (wrap j X) (col-form x) ∙ wrap-wrap j X x X>0 ∙ sym (col-form x)) (ap (λ (t : Bool). pick t (inv (rowOf S x y)) (rowOf S x y)) not-last)
+      ∙ pt-same a (ap (wrap j X) (col-form x) ∙ wrap-wrap j X x X>0 ∙ sym (col-form x)) (ap (λ (t : Bool). cond t (inv (rowOf S x y)) (rowOf S x y)) not-last)
     where
       not-last : last a s (colOf S x) ≡ false
       not-last = ap (last a s) (col-form x) ∙ settled j X x X>0
@@ -145,14 +144,14 @@ module _ (s : Shape) (steps : HasSteps s) (a : Axis) (w : SeenAlong a s) where
   unfolding place
   closing-stays x y =
       closing-rule s a (colOf S x) (rowOf S x y) plain
-      ∙ pt-same a refl (ap (wrap c Y) (row-wrap x y) ∙ wrap-wrap c Y (pick (last a s x) (inv y) y) Y>0 ∙ sym (row-wrap x y))
+      ∙ pt-same a refl (ap (wrap c Y) (row-wrap x y) ∙ wrap-wrap c Y (cond (last a s x) (inv y) y) Y>0 ∙ sym (row-wrap x y))
 
   -- the closing rule first
   closed-first : (x y : ℕ) → place x (wrap c Y y) ≡ place x y
   unfolding place
   closed-first x y = pt-same a refl (row-form x (wrap c Y y) ∙ go (last a s x) ∙ sym (row-form x y))
     where
-      go : (t : Bool) → pick t (carried (seamOf a s) c Y (wrap c Y y)) (wrap c Y (wrap c Y y)) ≡ pick t (carried (seamOf a s) c Y y) (wrap c Y y)
+      go : (t : Bool) → cond t (carried (seamOf a s) c Y (wrap c Y y)) (wrap c Y (wrap c Y y)) ≡ cond t (carried (seamOf a s) c Y y) (wrap c Y y)
       go true = carried-wrap (seamOf a s) c Y y Y>0 fits
       go false = wrap-wrap c Y y Y>0
 
@@ -163,7 +162,7 @@ module _ (s : Shape) (steps : HasSteps s) (a : Axis) (w : SeenAlong a s) where
       ∙ seam-rule s a x (wrap c Y y)
       ∙ pt-same a (sym (col-form x)) (go (last a s x) ∙ sym (row-form x y))
     where
-      go : (t : Bool) → pick t (inv (wrap c Y y)) (wrap c Y y) ≡ pick t (carried (seamOf a s) c Y y) (wrap c Y y)
+      go : (t : Bool) → cond t (inv (wrap c Y y)) (wrap c Y y) ≡ cond t (carried (seamOf a s) c Y y) (wrap c Y y)
       go true = sym (wrap-fix c Y (inv (wrap c Y y)) (λ e. k e (wrap c Y y) (wrap-lt c Y y Y>0 h e))) ∙ carried-wrap (seamOf a s) c Y y Y>0 fits
       go false = refl
 
@@ -174,9 +173,9 @@ module _ (s : Shape) (steps : HasSteps s) (a : Axis) (w : SeenAlong a s) where
   unfolding place
   seam-alone k x y h =
       seam-rule s a x y
-      ∙ pt-same a (sym (col-form x)) (sym (row-wrap x y ∙ wrap-fix c Y (pick (last a s x) (inv y) y) (λ e. go e (last a s x))))
+      ∙ pt-same a (sym (col-form x)) (sym (row-wrap x y ∙ wrap-fix c Y (cond (last a s x) (inv y) y) (λ e. go e (last a s x))))
     where
-      go : c ≡ true → (t : Bool) → pick t (inv y) y < Y
+      go : c ≡ true → (t : Bool) → cond t (inv y) y < Y
       go e true = k e y h
       go e false = h
 
@@ -204,8 +203,8 @@ corner-once : (s : Shape) (row : ℕ) (p q : Point) → vRule s (uRule s p) ≡ 
 unfolding cornerBy
 corner-once s row p q e f =
     ⊎-elim
-    (λ t. ap (λ (z : Bool). pick z (vRule s (uRule s p)) (uRule s p)) (t .0) ∙ e)
-    (λ t. ap (λ (z : Bool). pick z (vRule s (uRule s p)) (uRule s p)) (t .0) ∙ f (t .1))
+    (λ t. ap (λ (z : Bool). cond z (vRule s (uRule s p)) (uRule s p)) (t .0) ∙ e)
+    (λ t. ap (λ (z : Bool). cond z (vRule s (uRule s p)) (uRule s p)) (t .0) ∙ f (t .1))
     (eqb-cases (row + 1) (s .N))
 
 -- in request 8 every corner is J's point

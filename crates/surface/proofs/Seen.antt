@@ -3,9 +3,8 @@
 use Prim.Native.Nat.{ℕ, _-_, _≤_, _<_}
 use mathlib.Core.Path.{_≡_, sym, ap, _∙_, subst}
 use mathlib.Core.Logic.{_⊎_, inl, inr, ⊎-elim}
-use mathlib.Core.Bool.{Bool, true, false, not, true≢false}
+use mathlib.Core.Bool.{Bool, true, false, not, true≢false, cond}
 use mathlib.Core.List.{List, []}
-use Rattle.cyclic.specs.Mapping.{pick}
 use Rattle.surface.specs.Surface.{Seam, unjoined, joined, reversed, Split, falling, rising, Shape, J, halfOf, Follows, Rim, GridEdge, along-u, along-v, falls, rises, Pair, process, flipped, lowU, highU, lowV, highV}
 use Rattle.surface.proofs.Strip.{Strip, Kind, straight, across, diagonal, pointOf}
 use Rattle.surface.proofs.CellSides.{Cell, corners, endsOf, sideFrom, sideTo}
@@ -145,11 +144,11 @@ edge-seen s steps axisV w i j i′ j′ (rises {u} {v} h k e) = edge-rising (S s
 
 -- only the strip's seam can be reversed
 pub flipped-seen : (s : Shape) (a : Axis) → Plain (closing a s) →
-    flipped s ≡ pick (reversed (seamOf a s)) (process s (seamOf a s) (rows a s) (lows a s) (highs a s) (rows a s) []) []
+    flipped s ≡ cond (reversed (seamOf a s)) (process s (seamOf a s) (rows a s) (lows a s) (highs a s) (rows a s) []) []
 unfolding flipped
 flipped-seen s axisU w =
-    let us = pick (reversed (s .su)) (process s (s .su) (s .N) (lowU s) (highU s) (s .N) []) [] in
-    ap (λ (t : Bool). pick t (process s (s .sv) (s .M) (lowV s) (highV s) (s .M) us) us) (plain-reversed (s .sv) w)
+    let us = cond (reversed (s .su)) (process s (s .su) (s .N) (lowU s) (highU s) (s .N) []) [] in
+    ap (λ (t : Bool). cond t (process s (s .sv) (s .M) (lowV s) (highV s) (s .M) us) us) (plain-reversed (s .sv) w)
 flipped-seen s axisV w =
-    ap (λ (us : List Pair). pick (reversed (s .sv)) (process s (s .sv) (s .M) (lowV s) (highV s) (s .M) us) us)
-    (ap (λ (t : Bool). pick t (process s (s .su) (s .N) (lowU s) (highU s) (s .N) []) []) (plain-reversed (s .su) w))
+    ap (λ (us : List Pair). cond (reversed (s .sv)) (process s (s .sv) (s .M) (lowV s) (highV s) (s .M) us) us)
+    (ap (λ (t : Bool). cond t (process s (s .su) (s .N) (lowU s) (highU s) (s .N) []) []) (plain-reversed (s .su) w))

@@ -1,16 +1,15 @@
 -- Steps along a row, and what a seam does to them. The inverse image carries the two ends of step y of row b to the two ends of one step of row a,
 -- `laidOn`: in their order if the seam is forward, the other way round if it is reversed (`adj-forward`, `adj-reverse`). Every step of row a is
 -- met by exactly one of row b (`on-inj`, `on-back`). Assumes nothing.
-use Prim.Native.Nat.{ℕ, zero, suc, _+_, _-_, _%_, _≤_, _<_}
+use Prim.Native.Nat.{ℕ, zero, suc, _+_, _-_, _≤_, _<_}
 use mathlib.Core.Path.{_≡_, refl, sym, ap, _∙_}
 use mathlib.Core.Logic.{_⊎_, inl, inr, ⊎-elim}
-use mathlib.Core.Bool.{Bool, true, false, _&&_, false≢true}
-use native.Mathlib.Nat.{mod-eq-of-lt, mod-eq-sub-mod, mod-self}
+use mathlib.Core.Bool.{Bool, true, false, _&&_, cond}
 use native.Mathlib.Omega.{arith}
 use lib.Dec.{eqb, ltb}
-use borrow.Author.Tests.{eqb-true, eqb-false, ne-eqb, ltb-true, ltb-false, lt-ltb, le-ltb}
-use Rattle.cyclic.specs.Mapping.{pick}
+use borrow.Author.Tests.{eqb-true, eqb-false, ltb-true, ltb-false, lt-ltb, le-ltb}
 use Rattle.cyclic.specs.Mapping as mapping
+use Rattle.cyclic.proofs.Mappings.{three, inverse-at, reverse-at, reverse-same}
 use Rattle.surface.specs.Surface.{Seam, unjoined, forward, reverse, inverse}
 
 -- two either-ors, case by case
@@ -28,10 +27,6 @@ eqb-cases a b = go (eqb a b) refl
     go true e = inl (e, eqb-true a b e)
     go false e = inr (e, eqb-false a b e)
 
-pub both-true : (a b : Bool) → (a && b) ≡ true → (a ≡ true) × (b ≡ true)
-both-true true b e = (refl, e)
-both-true false b e = absurd (false≢true e)
-
 pub lt-or-le : (a b : ℕ) → (a < b) ⊎ (b ≤ a)
 lt-or-le a b = go (ltb a b) refl
   where
@@ -43,7 +38,7 @@ lt-or-le a b = go (ltb a b) refl
 
 -- index i of the row, with n read as 0 where the row is closed
 unfoldable pub wrap : Bool → ℕ → ℕ → ℕ
-wrap c n i = pick (c && eqb i n) 0 i
+wrap c n i = cond (c && eqb i n) 0 i
 
 pub wrap-open : (n i : ℕ) → wrap false n i ≡ i
 unfolding wrap
@@ -51,7 +46,7 @@ wrap-open n i = refl
 
 pub wrap-closed : (n i : ℕ) → ((wrap true n i ≡ 0) × (i ≡ n)) ⊎ ((wrap true n i ≡ i) × (i ≡ n → ⊥))
 unfolding wrap
-wrap-closed n i = ⊎-elim (λ h. inl (ap (λ (t : Bool). pick t 0 i) (h .0), h .1)) (λ h. inr (ap (λ (t : Bool). pick t 0 i) (h .0), h .1)) (eqb-cases i n)
+wrap-closed n i = ⊎-elim (λ h. inl (ap (λ (t : Bool). cond t 0 i) (h .0), h .1)) (λ h. inr (ap (λ (t : Bool). cond t 0 i) (h .0), h .1)) (eqb-cases i n)
 
 pub wrap-two : (c : Bool) (n i : ℕ) → ((wrap c n i ≡ 0) × (i ≡ n)) ⊎ (wrap c n i ≡ i)
 wrap-two false n i = inr (wrap-open n i)
@@ -86,11 +81,6 @@ pub step-inj : (c : Bool) (n i j : ℕ) → i < n → j < n → wrap c n (i + 1)
 step-inj c n i j k l e =
     four (wrap-two c n (i + 1)) (wrap-two c n (j + 1)) (λ w z. omega arith) (λ w z. omega arith) (λ w z. omega arith) (λ w z. omega arith)
 
--- ---- remainders of numbers below twice the divisor
-
-pub mod-once : (x n : ℕ) → n ≤ x → x < n + n → x % n ≡ x - n
-mod-once x n h k = mod-eq-sub-mod h ∙ mod-eq-of-lt (omega arith)
-
 -- ---- the inverse image by cases, so that nothing below looks into its definition
 
 pub inv-forward-0 : (n b : ℕ) → inverse (forward 0) n b ≡ b
@@ -102,36 +92,10 @@ unfolding mapping.inverse
 inv-reverse-0 n b = refl
 
 pub inv-forward : (o n b : ℕ) → 0 < o → o < n → b ≤ n → ((b < o) × (inverse (forward o) n b ≡ b + n - o)) ⊎ ((o ≤ b) × (inverse (forward o) n b ≡ b - o))
-unfolding mapping.inverse
-inv-forward o n b p q r =
-    ⊎-elim
-    (λ h. inl (h, unfolded ∙ mod-eq-of-lt (omega arith)))
-    (λ h. inr (h, unfolded ∙ mod-once (b + n - o) n (omega arith) (omega arith) ∙ omega arith))
-    (lt-or-le b o)
-  where
-    unfolded : inverse (forward o) n b ≡ (b + n - o) % n
-    unfolded = rw (ne-eqb o 0 (λ e. omega arith), mod-eq-of-lt q)
+inv-forward o n b p q r = three (inverse-at o n b q r) (λ w. absurd (omega arith)) (λ w. inr (w .1, omega arith)) (λ w. inl (w .1, omega arith))
 
-pub inv-reverse : (o n b : ℕ) → 0 < o → o < n → b ≤ n →
-    ((b ≤ o) × (inverse (reverse o) n b ≡ o - b)) ⊎ (((o < b) × (b < n) × (inverse (reverse o) n b ≡ o + n - b)) ⊎ ((b ≡ n) × (inverse (reverse o) n b ≡ o)))
-unfolding mapping.inverse
-inv-reverse o n b p q r =
-    ⊎-elim
-    (λ h. ⊎-elim
-    (λ k. inr (inl (k, h, at-below h ∙ mod-eq-of-lt (omega arith))))
-    (λ k. inl (k, at-below h ∙ mod-once (o + n - b) n (omega arith) (omega arith) ∙ omega arith))
-    (lt-or-le o b))
-    (λ h. inr (inr (omega arith, at-end (omega arith) ∙ mod-once (o + n - 0) n (omega arith) (omega arith) ∙ omega arith)))
-    (lt-or-le b n)
-  where
-    unfolded : inverse (reverse o) n b ≡ (o + n - (b % n)) % n
-    unfolded = rw (ne-eqb o 0 (λ e. omega arith))
-
-    at-below : b < n → inverse (reverse o) n b ≡ (o + n - b) % n
-    at-below h = unfolded ∙ ap (λ (x : ℕ). (o + n - x) % n) (mod-eq-of-lt h)
-
-    at-end : b ≡ n → inverse (reverse o) n b ≡ (o + n - 0) % n
-    at-end h = unfolded ∙ ap (λ (x : ℕ). (o + n - x) % n) (ap (λ (x : ℕ). x % n) h ∙ mod-self n)
+pub inv-reverse : (o n b : ℕ) → 0 < o → o < n → b ≤ n → ((b ≤ o) × (inverse (reverse o) n b ≡ o - b)) ⊎ ((o < b) × (inverse (reverse o) n b ≡ o + n - b))
+inv-reverse o n b p q r = rw reverse-same (three (reverse-at o n b q r) (λ w. absurd (omega arith)) (λ w. inl (w .1, omega arith)) (λ w. inr (w .1, omega arith)))
 
 -- ---- how a joined seam lays the steps of one row on those of the other
 
@@ -150,30 +114,30 @@ Fits (reverse o) c n = Offset o c n
 -- the step of row a on which step y of row b lies
 unfoldable pub laidOn : Seam → ℕ → ℕ → ℕ
 laidOn unjoined n y = y
-laidOn (forward o) n y = pick (ltb y o) (y + n - o) (y - o)
-laidOn (reverse o) n y = pick (ltb y o) (o - 1 - y) (o + n - 1 - y)
+laidOn (forward o) n y = cond (ltb y o) (y + n - o) (y - o)
+laidOn (reverse o) n y = cond (ltb y o) (o - 1 - y) (o + n - 1 - y)
 
 -- and back: the step of row b that lies on step y of row a
 unfoldable pub laidBack : Seam → ℕ → ℕ → ℕ
 laidBack unjoined n y = y
-laidBack (forward o) n y = pick (ltb (y + o) n) (y + o) (y + o - n)
+laidBack (forward o) n y = cond (ltb (y + o) n) (y + o) (y + o - n)
 laidBack (reverse o) n y = laidOn (reverse o) n y
 
-ltb-pick : (a b x y : ℕ) → ((a < b) × (pick (ltb a b) x y ≡ x)) ⊎ ((b ≤ a) × (pick (ltb a b) x y ≡ y))
-ltb-pick a b x y =
-    ⊎-elim (λ h. inl (h, ap (λ (t : Bool). pick t x y) (lt-ltb a b h))) (λ h. inr (h, ap (λ (t : Bool). pick t x y) (le-ltb a b h))) (lt-or-le a b)
+ltb-cond : (a b x y : ℕ) → ((a < b) × (cond (ltb a b) x y ≡ x)) ⊎ ((b ≤ a) × (cond (ltb a b) x y ≡ y))
+ltb-cond a b x y =
+    ⊎-elim (λ h. inl (h, ap (λ (t : Bool). cond t x y) (lt-ltb a b h))) (λ h. inr (h, ap (λ (t : Bool). cond t x y) (le-ltb a b h))) (lt-or-le a b)
 
 on-forward : (o n y : ℕ) → ((y < o) × (laidOn (forward o) n y ≡ y + n - o)) ⊎ ((o ≤ y) × (laidOn (forward o) n y ≡ y - o))
 unfolding laidOn
-on-forward o n y = ltb-pick y o (y + n - o) (y - o)
+on-forward o n y = ltb-cond y o (y + n - o) (y - o)
 
 on-reverse : (o n y : ℕ) → ((y < o) × (laidOn (reverse o) n y ≡ o - 1 - y)) ⊎ ((o ≤ y) × (laidOn (reverse o) n y ≡ o + n - 1 - y))
 unfolding laidOn
-on-reverse o n y = ltb-pick y o (o - 1 - y) (o + n - 1 - y)
+on-reverse o n y = ltb-cond y o (o - 1 - y) (o + n - 1 - y)
 
 back-forward : (o n y : ℕ) → ((y + o < n) × (laidBack (forward o) n y ≡ y + o)) ⊎ ((n ≤ y + o) × (laidBack (forward o) n y ≡ y + o - n))
 unfolding laidBack
-back-forward o n y = ltb-pick (y + o) n (y + o) (y + o - n)
+back-forward o n y = ltb-cond (y + o) n (y + o) (y + o - n)
 
 offset-lt : (o : ℕ) (c : Bool) (n : ℕ) → 0 < n → Offset o c n → o < n
 offset-lt zero c n h f = h
@@ -249,14 +213,8 @@ reverse-step zero c n y f h =
     let e : laidOn (reverse 0) n y ≡ n - 1 - y = ⊎-elim (λ w. omega arith) (λ w. omega arith) (on-reverse 0 n y) in
     (omega (arith, inv-reverse-0 n (y + 1)), inl (omega (arith, inv-reverse-0 n y)))
 reverse-step (suc o) true n y f h = (
-  ⊎-elim
-      (λ w. ⊎-elim (λ z. omega arith) (λ z. omega arith) (on-reverse (suc o) n y))
-      (λ v. four v (on-reverse (suc o) n y) (λ w z. omega arith) (λ w z. omega arith) (λ w z. omega arith) (λ w z. omega arith))
-      (inv-reverse (suc o) n (y + 1) (omega arith) f (omega arith)),
-  ⊎-elim
-      (λ w. ⊎-elim (λ z. inl (omega arith)) (λ z. inr (omega arith, omega arith)) (on-reverse (suc o) n y))
-      (λ v. four v (on-reverse (suc o) n y) (λ w z. inl (omega arith)) (λ w z. inl (omega arith)) (λ w z. inl (omega arith)) (λ w z. inl (omega arith)))
-      (inv-reverse (suc o) n y (omega arith) f (omega arith)),
+  four (inv-reverse (suc o) n (y + 1) (omega arith) f (omega arith)) (on-reverse (suc o) n y) (λ w z. omega arith) (λ w z. omega arith) (λ w z. omega arith) (λ w z. omega arith),
+  four (inv-reverse (suc o) n y (omega arith) f (omega arith)) (on-reverse (suc o) n y) (λ w z. inl (omega arith)) (λ w z. inr (omega arith, omega arith)) (λ w z. inl (omega arith)) (λ w z. inl (omega arith)),
 )
 reverse-step (suc o) false n y f h = absurd f
 
@@ -288,10 +246,10 @@ carried-ends (reverse zero) n h f =
 carried-ends (reverse (suc o)) n h f = ap (wrap true n) (at-n ∙ sym at-0)
   where
     at-n : inverse (reverse (suc o)) n n ≡ suc o
-    at-n = ⊎-elim (λ w. omega arith) (λ v. ⊎-elim (λ w. omega arith) (λ w. omega arith) v) (inv-reverse (suc o) n n (omega arith) f (omega arith))
+    at-n = ⊎-elim (λ w. omega arith) (λ w. omega arith) (inv-reverse (suc o) n n (omega arith) f (omega arith))
 
     at-0 : inverse (reverse (suc o)) n 0 ≡ suc o
-    at-0 = ⊎-elim (λ w. omega arith) (λ v. ⊎-elim (λ w. omega arith) (λ w. omega arith) v) (inv-reverse (suc o) n 0 (omega arith) f (omega arith))
+    at-0 = ⊎-elim (λ w. omega arith) (λ w. omega arith) (inv-reverse (suc o) n 0 (omega arith) f (omega arith))
 
 pub inverse-le : (m : Seam) (c : Bool) (n b : ℕ) → 0 < n → Fits m c n → b ≤ n → inverse m n b ≤ n
 inverse-le unjoined c n b z f h = h
@@ -299,7 +257,7 @@ inverse-le (forward zero) c n b z f h = omega (arith, inv-forward-0 n b)
 inverse-le (forward (suc o)) true n b z f h = ⊎-elim (λ w. omega arith) (λ w. omega arith) (inv-forward (suc o) n b (omega arith) f h)
 inverse-le (forward (suc o)) false n b z f h = absurd f
 inverse-le (reverse zero) c n b z f h = omega (arith, inv-reverse-0 n b)
-inverse-le (reverse (suc o)) true n b z f h = ⊎-elim (λ w. omega arith) (λ v. ⊎-elim (λ w. omega arith) (λ w. omega arith) v) (inv-reverse (suc o) n b (omega arith) f h)
+inverse-le (reverse (suc o)) true n b z f h = ⊎-elim (λ w. omega arith) (λ w. omega arith) (inv-reverse (suc o) n b (omega arith) f h)
 inverse-le (reverse (suc o)) false n b z f h = absurd f
 
 pub carried-le : (m : Seam) (c : Bool) (n b : ℕ) → 0 < n → Fits m c n → b ≤ n → carried m c n b ≤ n

@@ -4,11 +4,10 @@
 use Prim.Native.Nat.{ℕ, _+_, _-_, _≤_, _<_}
 use mathlib.Core.Path.{_≡_, refl, sym, ap, _∙_}
 use mathlib.Core.Logic.{_⊎_, inl, inr, ⊎-elim}
-use mathlib.Core.Bool.{Bool, true, false, _&&_, _||_, not}
+use mathlib.Core.Bool.{Bool, true, false, _&&_, _||_, not, cond}
 use native.Mathlib.Omega.{arith}
 use lib.Dec.{eqb}
 use borrow.Author.Tests.{ne-eqb}
-use Rattle.cyclic.specs.Mapping.{pick}
 use Rattle.surface.specs.Surface.{Seam, unjoined, forward, reverse, joined, reversed, Split, falling, rising, Same}
 use Rattle.surface.proofs.Steps.{wrap, wrap-below, wrap-le, wrap-wrap, step-ne, step-two, step-inj, Fits, laidOn, on-below, carried, adj-forward, adj-reverse, carried-le, carried-wrap}
 
@@ -49,7 +48,7 @@ unfoldable pub colOf : Strip → ℕ → ℕ
 colOf S x = wrap (joined (S .seam)) (S .X) x
 
 unfoldable pub rowOf : Strip → ℕ → ℕ → ℕ
-rowOf S x y = pick (crossing S x) (carried (S .seam) (S .closed) (S .Y) y) (wrap (S .closed) (S .Y) y)
+rowOf S x y = cond (crossing S x) (carried (S .seam) (S .closed) (S .Y) y) (wrap (S .closed) (S .Y) y)
 
 -- that point's number
 unfoldable pub pointOf : Strip → ℕ → ℕ → ℕ
@@ -57,7 +56,7 @@ pointOf S x y = S .num (colOf S x) (rowOf S x y)
 
 -- the step of its column on which step y of column x lies
 unfoldable pub stepAt : Strip → ℕ → ℕ → ℕ
-stepAt S x y = pick (crossing S x) (laidOn (S .seam) (S .Y) y) y
+stepAt S x y = cond (crossing S x) (laidOn (S .seam) (S .Y) y) y
 
 -- whether it lies there the other way round
 unfoldable pub turned : Strip → ℕ → Bool
@@ -81,7 +80,7 @@ module _ (S : Strip) where
 
   pub row-below : (x y : ℕ) → x < X → rowOf S x y ≡ wrap closed Y y
   unfolding rowOf
-  row-below x y h = ap (λ (t : Bool). pick t (carried seam closed Y y) (wrap closed Y y)) (crossing-below x h)
+  row-below x y h = ap (λ (t : Bool). cond t (carried seam closed Y y) (wrap closed Y y)) (crossing-below x h)
 
   pub col-below : (x : ℕ) → x < X → colOf S x ≡ x
   unfolding colOf
@@ -89,13 +88,13 @@ module _ (S : Strip) where
 
   pub step-below : (x y : ℕ) → x < X → stepAt S x y ≡ y
   unfolding stepAt
-  step-below x y h = ap (λ (t : Bool). pick t (laidOn seam Y y) y) (crossing-below x h)
+  step-below x y h = ap (λ (t : Bool). cond t (laidOn seam Y y) y) (crossing-below x h)
 
   pub stepAt-lt : (x y : ℕ) → y < Y → stepAt S x y < Y
   unfolding stepAt
   stepAt-lt x y h = go (crossing S x)
     where
-      go : (t : Bool) → pick t (laidOn seam Y y) y < Y
+      go : (t : Bool) → cond t (laidOn seam Y y) y < Y
       go true = on-below seam closed Y y fits h
       go false = h
 
@@ -105,7 +104,7 @@ module _ (S : Strip) where
   unfolding rowOf
   row-le x y h = go (crossing S x)
     where
-      go : (t : Bool) → pick t (carried seam closed Y y) (wrap closed Y y) ≤ Y
+      go : (t : Bool) → cond t (carried seam closed Y y) (wrap closed Y y) ≤ Y
       go true = carried-le seam closed Y y (omega arith) fits h
       go false = wrap-le closed Y y h
 
@@ -121,7 +120,7 @@ module _ (S : Strip) where
   unfolding rowOf next
   row-next x y = go (crossing S x)
     where
-      go : (t : Bool) → pick t (carried seam closed Y (wrap closed Y (y + 1))) (wrap closed Y (wrap closed Y (y + 1))) ≡ pick t (carried seam closed Y (y + 1)) (wrap closed Y (y + 1))
+      go : (t : Bool) → cond t (carried seam closed Y (wrap closed Y (y + 1))) (wrap closed Y (wrap closed Y (y + 1))) ≡ cond t (carried seam closed Y (y + 1)) (wrap closed Y (y + 1))
       go true = carried-wrap seam closed Y (y + 1) (omega arith) fits
       go false = wrap-wrap closed Y (y + 1) (omega arith)
 
@@ -176,10 +175,10 @@ module _ (S : Strip) where
   adjacent x y h = go seam (eqb x X) fits
     where
       row : Seam → Bool → ℕ → ℕ
-      row m t z = pick (joined m && t) (carried m closed Y z) (wrap closed Y z)
+      row m t z = cond (joined m && t) (carried m closed Y z) (wrap closed Y z)
 
       on : Seam → Bool → ℕ
-      on m t = pick (joined m && t) (laidOn m Y y) y
+      on m t = cond (joined m && t) (laidOn m Y y) y
 
       go : (m : Seam) (t : Bool) → Fits m closed Y →
           (((reversed m && t) ≡ false) × (row m t y ≡ on m t) × (row m t (y + 1) ≡ wrap closed Y (on m t + 1)))

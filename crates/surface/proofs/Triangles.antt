@@ -3,7 +3,7 @@
 use Prim.Native.Nat.{ℕ, zero, suc, _+_, _-_, _*_, _/_, _%_, _≤_, _<_}
 use mathlib.Core.Path.{_≡_, refl, sym, ap, _∙_}
 use mathlib.Core.Logic.{⊎-elim}
-use mathlib.Core.Bool.{Bool, true, false}
+use mathlib.Core.Bool.{Bool, true, false, cond}
 use mathlib.Core.List.{List, [], _∷_, _++_}
 use native.Mathlib.Omega.{arith}
 use native.Mathlib.Nat.{mod-lt, div-add-mod', div-lt-iff-lt-mul}
@@ -11,22 +11,21 @@ use lib.Dec.{eqb}
 use lib.Arith.{digits-div, digits-mod, digits-lt}
 use lib.ListN.{length, getD, length-append, List·getD-append}
 use borrow.Author.Tests.{eq-eqb, ne-eqb}
-use Rattle.cyclic.specs.Mapping.{pick}
 use Rattle.surface.specs.Surface.{Shape, Triangle, tri, halfOf, slot, slots, proper, kept, triangles, triangleNumber, nth}
 use Rattle.surface.proofs.Steps.{eqb-cases, lt-or-le}
 
 -- ---- of any shape
 
 -- what one slot adds
-kept-more : (s : Shape) (n : ℕ) → length (kept s (suc n)) ≡ length (kept s n) + pick (proper (slot s n)) 1 0
+kept-more : (s : Shape) (n : ℕ) → length (kept s (suc n)) ≡ length (kept s n) + cond (proper (slot s n)) 1 0
 unfolding kept
-kept-more s n = length-append (kept s n) (pick (proper (slot s n)) (slot s n ∷ []) []) ∙ ap (λ (z : ℕ). length (kept s n) + z) (go (proper (slot s n)))
+kept-more s n = length-append (kept s n) (cond (proper (slot s n)) (slot s n ∷ []) []) ∙ ap (λ (z : ℕ). length (kept s n) + z) (go (proper (slot s n)))
   where
-    go : (t : Bool) → length (pick t (slot s n ∷ []) []) ≡ pick t 1 0
+    go : (t : Bool) → length (cond t (slot s n ∷ []) []) ≡ cond t 1 0
     go true = refl
     go false = refl
 
-one-at-most : (t : Bool) → pick t 1 0 ≤ 1
+one-at-most : (t : Bool) → cond t 1 0 ≤ 1
 one-at-most true = omega arith
 one-at-most false = omega arith
 
@@ -51,7 +50,7 @@ kept-grows s i (suc n) h =
 pub number-below : (s : Shape) (i : ℕ) → i < slots s → proper (slot s i) ≡ true → triangleNumber s i < length (triangles s)
 unfolding triangleNumber triangles
 number-below s i h e =
-    let more : length (kept s (suc i)) ≡ length (kept s i) + 1 = kept-more s i ∙ ap (λ (t : Bool). length (kept s i) + pick t 1 0) e in
+    let more : length (kept s (suc i)) ≡ length (kept s i) + 1 = kept-more s i ∙ ap (λ (t : Bool). length (kept s i) + cond t 1 0) e in
     let up : suc i ≤ slots s = omega arith in
     omega (arith, kept-grows s (suc i) (slots s) up)
 
@@ -59,7 +58,7 @@ number-below s i h e =
 
 kept-step : (s : Shape) (n : ℕ) → proper (slot s n) ≡ true → kept s (suc n) ≡ kept s n ++ (slot s n ∷ [])
 unfolding kept
-kept-step s n e = ap (λ (t : Bool). kept s n ++ pick t (slot s n ∷ []) []) e
+kept-step s n e = ap (λ (t : Bool). kept s n ++ cond t (slot s n ∷ []) []) e
 
 pub kept-length : (s : Shape) (n : ℕ) → ((i : ℕ) → i < n → proper (slot s i) ≡ true) → length (kept s n) ≡ n
 unfolding kept

@@ -18,6 +18,7 @@ use Rattle.float.specs.Consts.{zero64, one64, sqrt2}
 use Rattle.float.specs.Sign.{isFinite, negative, atMost}
 use Rattle.float.specs.Order.{larger}
 use Rattle.float.specs.Cast.{natFloat}
+use Rattle.float.proofs.Tests.{cond-keeps}
 use Rattle.float.proofs.Bounds.{nat-value, nat-le, at-most-finite}
 use Rattle.float.proofs.Differences.{sub-self}
 use Rattle.refusal.specs.declared.Check.{Check}
@@ -156,14 +157,10 @@ larger-keeps : (P : Float → Type 0) (x y : Float) → P x → P y → P (large
 unfolding larger
 larger-keeps P x y p q = go x p
   where
-    one : (t : Bool) (a b : Float) → P a → P b → P (cond t a b)
-    one true a b p q = p
-    one false a b p q = q
-
     go : (z : Float) → P z → P (larger z y)
     go nan p = q
-    go (inf s) p = one (lt (inf s) y) y (inf s) q p
-    go (fin s m e) p = one (lt (fin s m e) y) y (fin s m e) q p
+    go (inf s) p = cond-keeps P (lt (inf s) y) y (inf s) q p
+    go (fin s m e) p = cond-keeps P (lt (fin s m e) y) y (fin s m e) q p
 
 -- a product grows with a factor
 grows : (lo x hi c : Float) → T (positive lo) → T (positive hi) → T (positive c) → T (le c c) → T (positive (mul binary64 lo c)) → T (positive (mul binary64 hi c)) → Inside lo x hi → Inside (mul binary64 lo c) (mul binary64 x c) (mul binary64 hi c)

@@ -1,5 +1,5 @@
 -- `turnOf`, `distanceOf`, `angle` and `samplePoint` by the cases of the code, from what the calls gave. Assumes nothing.
-use mathlib.Core.Path.{_≡_, refl, sym, ap, _∙_, subst}
+use mathlib.Core.Path.{_≡_, sym, ap, _∙_, subst}
 use mathlib.Core.Bool.{Bool, true, false, _&&_}
 use Prim.Native.Nat.{ℕ}
 use lib.Dec.{ltb, leb}
@@ -10,7 +10,7 @@ use Rattle.refusal.specs.declared.Check.{Check}
 use Rattle.refusal.specs.declared.Check.the-variants.{Passed}
 use Rattle.refusal.specs.declared.Refusal.{Refusal}
 use Rattle.refusal.specs.declared.Refusal.the-variants.{Direction, NotThere}
-use Rattle.refusal.specs.Refusals.{Answer, ok, refused, numberOf, unless, passing}
+use Rattle.refusal.specs.Refusals.{ok, refused, numberOf, unless, passing}
 use Rattle.edges.specs.Param.{param}
 use Rattle.edges.specs.declared.point.ParamPoint.{ParamPoint}
 use Rattle.texture.specs.declared.plan.ParametricSurfaceTexture.{ParametricSurfaceTexture}

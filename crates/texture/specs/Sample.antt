@@ -1,13 +1,12 @@
 -- "Samples are numbered 0 to the count, both included. The angle of a sample, and its ParamPoint from a lent cosine and sine, are two calls." References: the closures in
 -- `paths_swirl` and `paths_spiral`. Assumes nothing.
-use mathlib.Core.Bool.{Bool, true, false, _&&_}
+use mathlib.Core.Bool.{Bool, _&&_}
 use Prim.Native.Nat.{ℕ}
 use lib.Dec.{ltb, leb}
 use lib.Ieee.{Float, binary64, add, sub, mul, div}
 use Rattle.float.specs.Consts.{tau, zero64, one64}
 use Rattle.float.specs.Sign.{atMost}
 use Rattle.float.specs.Cast.{natFloat}
-use Rattle.refusal.specs.declared.Check.{Check}
 use Rattle.refusal.specs.declared.Check.the-variants.{Passed}
 use Rattle.refusal.specs.declared.Refusal.the-variants as refusals
 use Rattle.refusal.specs.Refusals.{Answer, ok, refused, numberOf, unless, passing}

@@ -2,13 +2,14 @@
 -- is passed over, and only three of them are never close. Assumes nothing.
 use Prim.Native.Nat.{_*_}
 use mathlib.Core.Path.{_≡_, refl, sym, ap, _∙_}
-use mathlib.Core.Bool.{Bool, true, false, not, _&&_, _||_, or-true, true≢false}
+use mathlib.Core.Bool.{Bool, true, false, not, _&&_, _||_, or-true, or-false, and-true, and-false, true≢false}
 use lib.Ieee.{Float, nan, inf, fin, up, down, lt, le, eq, neg, ofBits, isNan}
 use borrow.Author.Tests.{eq-eqb}
 use Rattle.float.specs.Consts.{eps, zero64, one64}
 use Rattle.float.specs.Sign.{absolute, isFinite}
 use Rattle.float.specs.Order.{larger}
 use Rattle.float.specs.Table.{computed}
+use Rattle.float.proofs.Tests.{and-both, cannot}
 use Rattle.float.proofs.Less.{le-is, le-not-nan}
 use Rattle.float.proofs.Differences.{sub-swap, sub-not-nan, sub-self-close, within-eps}
 use Rattle.float.proofs.Larger.{abs-nan, larger-nan, larger-under, nan-not-below}
@@ -45,29 +46,9 @@ pub close-by : (a b : Vector) → allClose a b ≡ (passes (minus a b .x) && pas
 unfolding allClose
 close-by a b = largest-below (minus a b)
 
-or-false : (t : Bool) → t || false ≡ t
-or-false true = refl
-or-false false = refl
-
-and-true : (t : Bool) → t && true ≡ t
-and-true true = refl
-and-true false = refl
-
-and-false : (t : Bool) → t && false ≡ false
-and-false true = refl
-and-false false = refl
-
 -- ---- as `all_close` tests it
 not-le-nan : (x y : Float) → isNan y ≡ true → (le x y ≡ false) × (le y x ≡ false)
-not-le-nan x y h = (left (le x y) refl, right (le y x) refl)
-  where
-    left : (t : Bool) → le x y ≡ t → t ≡ false
-    left true e = absurd (true≢false (sym h ∙ le-not-nan x y e .1))
-    left false e = refl
-
-    right : (t : Bool) → le y x ≡ t → t ≡ false
-    right true e = absurd (true≢false (sym h ∙ le-not-nan y x e .0))
-    right false e = refl
+not-le-nan x y h = (cannot (le x y) (λ e. true≢false (sym h ∙ le-not-nan x y e .1)), cannot (le y x) (λ e. true≢false (sym h ∙ le-not-nan y x e .0)))
 
 eps-not-nan : (isNan eps ≡ false) × (isNan (neg eps) ≡ false)
 unfolding eps ofBits neg isNan
@@ -121,26 +102,17 @@ module _ (a b d : Vector) (e : d ≡ minus a b) where
 abbrev pub within : Float → Bool
 within d = lt (neg eps) d && lt d eps
 
-both : (p q : Bool) → p && q ≡ true → (p ≡ true) × (q ≡ true)
-both true true h = (refl, refl)
-both true false h = absurd (true≢false (sym h))
-both false q h = absurd (true≢false (sym h))
-
 within-below : (d : Float) → within d ≡ true → (lt (absolute d) eps ≡ true) × (isNan d ≡ false)
-within-below d h = (below, go (isNan d) refl)
-  where
-    below : lt (absolute d) eps ≡ true
-    below = within-eps d ∙ h
-
-    go : (t : Bool) → isNan d ≡ t → t ≡ false
-    go true e = absurd (true≢false (sym below ∙ nan-not-below (absolute d) eps (abs-nan d ∙ e)))
-    go false e = refl
+within-below d h =
+    let below : lt (absolute d) eps ≡ true = within-eps d ∙ h in
+    (below, cannot (isNan d) (λ e. true≢false (sym below ∙ nan-not-below (absolute d) eps (abs-nan d ∙ e))))
 
 pub close-within : (a b d : Vector) → d ≡ minus a b → (within (d .x) && within (d .y)) && within (d .z) ≡ true → allClose a b ≡ true
 close-within a b d e h =
-    let xy = both (within (d .x) && within (d .y)) (within (d .z)) h in
-    let x = within-below (d .x) (both (within (d .x)) (within (d .y)) (xy .0) .0) in
-    let y = within-below (d .y) (both (within (d .x)) (within (d .y)) (xy .0) .1) in
+    let xy = and-both (within (d .x) && within (d .y)) (within (d .z)) h in
+    let each = and-both (within (d .x)) (within (d .y)) (xy .0) in
+    let x = within-below (d .x) (each .0) in
+    let y = within-below (d .y) (each .1) in
     let z = within-below (d .z) (xy .1) in
     close-differences a b d e ∙ simp (x .0, y .0, z .0, x .1)
 

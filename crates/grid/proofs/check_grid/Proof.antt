@@ -1,9 +1,10 @@
 -- `grid::check_grid` meets its contract: the tests are those of `gridCheck` in its order, and with M and N at most 255 the length fits.
 use native.Mathlib.Omega.{arith}
-use mathlib.Core.Path.{_≡_, sym, _∙_}
+use mathlib.Core.Path.{_≡_}
 use mathlib.Core.Bool.{true}
 use borrow.Author.Needs.{needs}
-use borrow.Author.Tests.{not-true, not-false, eq-eqb, ne-eqb}
+use borrow.Author.Tests.{eq-eqb, ne-eqb}
+use Rattle.float.proofs.Tests.{held, failed}
 use Rattle.grid.specs.Grid.{stepsFit, gridCheck}
 use Rattle.grid.proofs.Laws.{Stepped, steps-known}
 use Rattle.grid.proofs.check_grid.Statement.{statement}
@@ -11,36 +12,18 @@ use Rattle.grid.proofs.check_grid.Tie as tie
 
 -- 1 does not apply
 steps-stand : (e : tie.Else1) → stepsFit (e .before .before .before .args .m) (e .before .before .before .args .n) ≡ true
-steps-stand e = sym (e .before .steps-fit .ensures) ∙ not-false _ (e .if1 .left)
+steps-stand e = held (e .before .steps-fit .ensures) (e .if1 .left)
 
 stepped : (e : tie.Else1) → Stepped (e .before .before .before .args .m) (e .before .before .before .args .n)
 stepped e = steps-known _ _ (steps-stand e)
 
-steps-fit-requires : tie.Need-steps-fit-requires
-steps-fit-requires c κs = search needs
-
 returns : tie.Need-returns
 unfolding gridCheck
-returns c = rw (sym (c .before .steps-fit .ensures) ∙ not-true _ (c .if1 .taken))
-
-add-if2 : tie.Need-add-if2
-add-if2 c = omega (arith, stepped c)
-
-add-if2-2 : tie.Need-add-if2-2
-add-if2-2 c = omega (arith, stepped c)
-
-mul-if2 : tie.Need-mul-if2
-mul-if2 c = omega (arith, stepped c)
-
-mul-if2-2 : tie.Need-mul-if2-2
-mul-if2-2 c = omega (arith, stepped c)
+returns c = rw (failed (c .before .steps-fit .ensures) (c .if1 .taken))
 
 returns-2 : tie.Need-returns-2
 unfolding gridCheck
 returns-2 c = rw (steps-stand (c .before), ne-eqb _ _ (c .if2 .taken))
-
-enum-known-between : tie.Need-enum-known-between
-enum-known-between c = search needs
 
 returns-3 : tie.Need-returns-3
 unfolding gridCheck
@@ -48,40 +31,34 @@ returns-3 c =
     let e = c .before .before .before in
     rw (steps-stand (e .before), eq-eqb _ _ (e .if2 .left), c .before .between .given .1)
 
-enum-told : tie.Need-enum-told
-enum-told c = search needs
-
-coordinates-fit-requires : tie.Need-coordinates-fit-requires
-coordinates-fit-requires c κs = search needs
-
 returns-4 : tie.Need-returns-4
 unfolding gridCheck
 returns-4 c =
     let t = c .before .before in
     let e = t .before .before in
-    rw (steps-stand (e .before), eq-eqb _ _ (e .if2 .left), t .enum-told .given .1, sym (c .before .coordinates-fit .ensures) ∙ not-true _ (c .if3 .taken))
+    rw (steps-stand (e .before), eq-eqb _ _ (e .if2 .left), t .enum-told .given .1, failed (c .before .coordinates-fit .ensures) (c .if3 .taken))
 
 returns-5 : tie.Need-returns-5
 unfolding gridCheck
 returns-5 c =
     let t = c .before .before in
     let e = t .before .before in
-    rw (steps-stand (e .before), eq-eqb _ _ (e .if2 .left), t .enum-told .given .1, sym (c .before .coordinates-fit .ensures) ∙ not-false _ (c .if3 .left))
+    rw (steps-stand (e .before), eq-eqb _ _ (e .if2 .left), t .enum-told .given .1, held (c .before .coordinates-fit .ensures) (c .if3 .left))
 
 pub check-grid-spec : {M : Type 1} → statement M
 check-grid-spec =
     tie.close
     (tie.spec
-    steps-fit-requires
+    (λ c κs. search needs)
     returns
-    add-if2
-    add-if2-2
-    mul-if2
-    mul-if2-2
+    (λ c. omega (arith, stepped c))
+    (λ c. omega (arith, stepped c))
+    (λ c. omega (arith, stepped c))
+    (λ c. omega (arith, stepped c))
     returns-2
-    enum-known-between
+    (λ c. search needs)
     returns-3
-    enum-told
-    coordinates-fit-requires
+    (λ c. search needs)
+    (λ c κs. search needs)
     returns-4
     returns-5)

@@ -1,12 +1,12 @@
 -- `grid::coordinates_fit` meets its contract: what was found so far, and what is left to test from i on, answer for the whole list.
 use Prim.Native.Nat.{_≤_, _-_}
 use mathlib.Core.Path.{_≡_, sym}
-use mathlib.Core.Bool.{_&&_}
+use mathlib.Core.Bool.{_&&_, and-assoc, and-true}
 use lib.Ieee.{nan}
 use lib.ListN.{length, drop, drop-of-length-le}
 use borrow.Author.Needs.{needs}
 use Rattle.grid.specs.Grid.{coordinatesFit}
-use Rattle.grid.proofs.Laws.{coordinates-step, and-assoc, and-true}
+use Rattle.grid.proofs.Laws.{coordinates-step}
 use Rattle.grid.proofs.coordinates_fit.Statement.{statement}
 use Rattle.grid.proofs.coordinates_fit.Tie as tie
 
@@ -15,24 +15,6 @@ Inv-loop points fit₀ i₀ fit i = (i ≤ length points) × (coordinatesFit poi
 
 abbrev μ-loop : tie.MeasureT-loop
 μ-loop points fit₀ i₀ fit i = length points - i
-
-loop-holds : tie.Need-loop-holds Inv-loop μ-loop
-loop-holds c = search needs
-
-mul-at-most : tie.Need-mul-at-most Inv-loop μ-loop
-mul-at-most c = search needs
-
-shared-slice-read-at-most : tie.Need-shared-slice-read-at-most Inv-loop μ-loop
-shared-slice-read-at-most c = search needs
-
-at-most-requires : tie.Need-at-most-requires Inv-loop μ-loop
-at-most-requires c κs = search needs
-
-add-i : tie.Need-add-i Inv-loop μ-loop
-add-i c = search needs
-
-loop-less : tie.Need-loop-less Inv-loop μ-loop
-loop-less c = search needs
 
 loop-again : tie.Need-loop-again Inv-loop μ-loop
 loop-again c =
@@ -50,11 +32,11 @@ coordinates-fit-spec =
     (tie.spec
     Inv-loop
     μ-loop
-    loop-holds
-    mul-at-most
-    shared-slice-read-at-most
-    at-most-requires
-    add-i
-    loop-less
+    (λ c. search needs)
+    (λ c. search needs)
+    (λ c. search needs)
+    (λ c κs. search needs)
+    (λ c. search needs)
+    (λ c. search needs)
     loop-again
     returns)

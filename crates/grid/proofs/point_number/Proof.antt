@@ -6,17 +6,11 @@ use borrow.Author.Needs.{needs}
 use Rattle.grid.proofs.point_number.Statement.{statement}
 use Rattle.grid.proofs.point_number.Tie as tie
 
-add-result : tie.Need-add-result
-add-result c = search needs
-
 mul-result : tie.Need-mul-result
 mul-result c = omega (arith, mul-le-mul {m₁ = c .args .n + 1} {n₂ = 256} {m₂ = 256} (c .pre .1) (omega arith))
 
 add-result-2 : tie.Need-add-result-2
 add-result-2 c = omega (arith, mul-le-mul {m₁ = c .args .n + 1} {n₂ = 256} {m₂ = 256} (c .pre .1) (omega arith))
 
-returns : tie.Need-returns
-returns c = search needs
-
 pub point-number-spec : {M : Type 1} → statement M
-point-number-spec = tie.close (tie.spec add-result mul-result add-result-2 returns)
+point-number-spec = tie.close (tie.spec (λ c. search needs) mul-result add-result-2 (λ c. search needs))

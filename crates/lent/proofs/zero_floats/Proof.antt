@@ -17,15 +17,6 @@ abbrev μ-loop : tie.MeasureT-loop
 loop-holds : tie.Need-loop-holds Inv-loop μ-loop
 loop-holds c = (refl, refl)
 
-mul-list : tie.Need-mul-list Inv-loop μ-loop
-mul-list c = omega arith
-
-slice-write-list : tie.Need-slice-write-list Inv-loop μ-loop
-slice-write-list c = omega arith
-
-add-i : tie.Need-add-i Inv-loop μ-loop
-add-i c = omega arith
-
 loop-less : tie.Need-loop-less Inv-loop μ-loop
 loop-less c = simp length-set (omega arith)
 
@@ -43,4 +34,4 @@ returns c =
     zeroed-done zeroFloat (i .list) (i .i) (omega arith) ∙ sym (i .inv .0)
 
 pub zero-floats-spec : {M : Type 1} → statement M
-zero-floats-spec = tie.close (tie.spec Inv-loop μ-loop loop-holds mul-list slice-write-list add-i loop-less loop-again same-length returns)
+zero-floats-spec = tie.close (tie.spec Inv-loop μ-loop loop-holds (λ c. omega arith) (λ c. omega arith) (λ c. omega arith) loop-less loop-again same-length returns)

@@ -1,9 +1,10 @@
 -- `mesh::check_room` meets its contract: the tests are those of the definition, and with M and N at most 255 the numbers fit. Assumes nothing.
 use native.Mathlib.Omega.{arith}
-use mathlib.Core.Path.{_≡_, sym, _∙_}
+use mathlib.Core.Path.{_≡_}
 use mathlib.Core.Bool.{true, false}
 use borrow.Author.Needs.{needs}
 use borrow.Author.Tests.{not-true, not-false}
+use Rattle.float.proofs.Tests.{held, failed}
 use Rattle.grid.specs.Grid.{stepsFit}
 use Rattle.grid.proofs.Laws.{Stepped, steps-known}
 use Rattle.mesh.specs.Mesh.{roomFits}
@@ -11,29 +12,14 @@ use Rattle.mesh.proofs.check_room.Statement.{statement}
 use Rattle.mesh.proofs.check_room.Tie as tie
 
 -- 1 does not apply
-steps-stand : (e : tie.Else1) → stepsFit (e .before .before .before .before .args .m) (e .before .before .before .before .args .n) ≡ true
-steps-stand e = sym (e .before .steps-fit .ensures) ∙ not-false _ (e .if1 .left)
+steps-stand : (e : tie.Else1) → let a = e .before .before .before .before .args in stepsFit (a .m) (a .n) ≡ true
+steps-stand e = held (e .before .steps-fit .ensures) (e .if1 .left)
 
-stepped : (e : tie.Else1) → Stepped (e .before .before .before .before .args .m) (e .before .before .before .before .args .n)
+stepped : (e : tie.Else1) → let a = e .before .before .before .before .args in Stepped (a .m) (a .n)
 stepped e = steps-known _ _ (steps-stand e)
 
-steps-fit-requires : tie.Need-steps-fit-requires
-steps-fit-requires c κs = search needs
-
 returns : tie.Need-returns
-returns c = rw (sym (c .before .steps-fit .ensures) ∙ not-true _ (c .if1 .taken))
-
-mul-fits : tie.Need-mul-fits
-mul-fits c = omega (arith, stepped c)
-
-mul-fits-2 : tie.Need-mul-fits-2
-mul-fits-2 c = omega (arith, stepped c)
-
-add-fits : tie.Need-add-fits
-add-fits c = omega (arith, stepped c)
-
-mul-fits-3 : tie.Need-mul-fits-3
-mul-fits-3 c = omega (arith, stepped c)
+returns c = rw (failed (c .before .steps-fit .ensures) (c .if1 .taken))
 
 returns-2 : tie.Need-returns-2
 returns-2 c =
@@ -51,11 +37,11 @@ pub check-room-spec : {M : Type 1} → statement M
 check-room-spec =
     tie.close
     (tie.spec
-    steps-fit-requires
+    (λ c κs. search needs)
     returns
-    mul-fits
-    mul-fits-2
-    add-fits
-    mul-fits-3
+    (λ c. omega (arith, stepped c))
+    (λ c. omega (arith, stepped c))
+    (λ c. omega (arith, stepped c))
+    (λ c. omega (arith, stepped c))
     returns-2
     returns-3)

@@ -3,32 +3,28 @@ use Prim.Native.Nat.{_+_}
 use mathlib.Core.Path.{sym, _∙_}
 use native.Mathlib.Nat.{zero-mul}
 use native.Mathlib.Omega.{arith}
-use Rattle.grid.proofs.Laws.{accepted-known, point-inside}
+use Rattle.grid.proofs.Laws.{Shaped, accepted-known, point-inside}
 use Rattle.surface.proofs.Searches.{u-search, v-search}
 use Rattle.mesh.proofs.find_seams.Statement.{statement}
 use Rattle.mesh.proofs.find_seams.Tie as tie
 
+shaped : (t : tie.Start) → Shaped (t .args .grid .now) (t .args .m) (t .args .n)
+shaped t = accepted-known _ _ _ (t .pre)
+
 add-search-rows : tie.Need-add-search-rows
-add-search-rows c =
-    let t = c .before in
-    let a = t .args in
-    let s = accepted-known (a .grid .now) (a .m) (a .n) (t .pre) in
-    let z = s .steps in
-    omega (arith, z .n-most)
+add-search-rows c = omega (arith, shaped (c .before) .steps .n-most)
 
 mul-search-rows : tie.Need-mul-search-rows
 mul-search-rows c =
-    let t = c .before in
-    let a = t .args in
-    let s = accepted-known (a .grid .now) (a .m) (a .n) (t .pre) in
+    let a = c .before .args in
+    let s = shaped (c .before) in
     let z = s .steps in
     omega (arith, point-inside (a .grid .now) (a .m) (a .n) (a .m) 0 s (omega arith) (omega arith), z .points, s .size)
 
 search-rows-requires : tie.Need-search-rows-requires
 search-rows-requires c κs =
-    let t = c .before in
-    let a = t .args in
-    let s = accepted-known (a .grid .now) (a .m) (a .n) (t .pre) in
+    let a = c .before .args in
+    let s = shaped (c .before) in
     let z = s .steps in
     record {
       steps-least = z .n-least;
@@ -38,18 +34,12 @@ search-rows-requires c κs =
     }
 
 add-search-rows-2 : tie.Need-add-search-rows-2
-add-search-rows-2 c =
-    let t = c .before .before in
-    let a = t .args in
-    let s = accepted-known (a .grid .now) (a .m) (a .n) (t .pre) in
-    let z = s .steps in
-    omega (arith, z .n-most)
+add-search-rows-2 c = omega (arith, shaped (c .before .before) .steps .n-most)
 
 search-rows-requires-2 : tie.Need-search-rows-requires-2
 search-rows-requires-2 c κs =
-    let t = c .before .before in
-    let a = t .args in
-    let s = accepted-known (a .grid .now) (a .m) (a .n) (t .pre) in
+    let a = c .before .before .args in
+    let s = shaped (c .before .before) in
     let z = s .steps in
     record {
       steps-least = z .m-least;
@@ -60,9 +50,8 @@ search-rows-requires-2 c κs =
 
 returns : tie.Need-returns
 returns c =
-    let t = c .before .before .before in
-    let a = t .args in
-    let s = accepted-known (a .grid .now) (a .m) (a .n) (t .pre) in
+    let a = c .before .before .before .args in
+    let s = shaped (c .before .before .before) in
     let z = s .steps in
     (c .before .search-rows .ensures ∙ sym (u-search (a .grid .now) (a .m) (a .n) (z .n-least)), c .search-rows2 .ensures ∙ sym (v-search (a .grid .now) (a .m) (a .n) (z .m-least)))
 

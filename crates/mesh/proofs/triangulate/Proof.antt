@@ -12,22 +12,16 @@ use Rattle.mesh.proofs.Answers.{all-kept, triangles-most, triangles-fil
 use Rattle.mesh.proofs.triangulate.Statement.{statement}
 use Rattle.mesh.proofs.triangulate.Tie as tie
 
-triangles-fit : (e : tie.After-build-triangles) → 3 * e .build-triangles .result ≤ 6 * (e .before .before .before .before .before .args .surface .m * e .before .before .before .before .before .args .surface .n)
+triangles-fit : (e : tie.After-build-triangles) → let a = e .before .before .before .before .before .args in 3 * e .build-triangles .result ≤ 6 * (a .surface .m * a .surface .n)
 triangles-fit e = triangles-most (shapeOf (e .before .before .before .before .before .args .surface)) (e .build-triangles .result) (e .build-triangles .last .1 .0) (e .build-triangles .ensures .0)
 
-pairs-fit : (e : tie.After-find-flipped) → 2 * e .find-flipped .result ≤ 2 * (e .before .before .before .before .before .before .before .before .before .before .before .args .surface .m + e .before .before .before .before .before .before .before .before .before .before .before .args .surface .n)
+pairs-fit : (e : tie.After-find-flipped) → let a = e .before .before .before .before .before .before .before .before .before .before .before .args in 2 * e .find-flipped .result ≤ 2 * (a .surface .m + a .surface .n)
 pairs-fit e = pairs-most (shapeOf (e .before .before .before .before .before .before .before .before .before .before .before .args .surface)) (e .find-flipped .result) (e .find-flipped .last .1 .1 .0) (e .find-flipped .ensures)
-
-slice-aggregate-build-triangles : tie.Need-slice-aggregate-build-triangles
-slice-aggregate-build-triangles c = search needs
 
 build-triangles-requires : tie.Need-build-triangles-requires
 build-triangles-requires c κs =
     let t = c .before .before .before .before in
     ((t .pre .0, omega (arith, t .pre .0 .m-most)), t .pre .1 .0)
-
-slice-aggregate-find-flipped : tie.Need-slice-aggregate-find-flipped
-slice-aggregate-find-flipped c = search needs
 
 find-flipped-requires : tie.Need-find-flipped-requires
 find-flipped-requires c κs =
@@ -40,22 +34,10 @@ mul-zero-numbers c =
     let a = t .args in
     omega (arith, triangles-fit (c .before .before .before .before .before .before .before .before .before), cells-most (a .surface .m) (a .surface .n) (t .pre .0 .m-most) (t .pre .0 .n-most))
 
-zero-numbers-requires : tie.Need-zero-numbers-requires
-zero-numbers-requires c κs = search needs
-
 mul-zero-numbers-2 : tie.Need-mul-zero-numbers-2
 mul-zero-numbers-2 c =
     let t = c .before .before .before .before .before .before .before .before .before .before .before .before .before .before .before .before .before .before in
     omega (arith, pairs-fit (c .before .before .before .before .before .before .before), t .pre .0 .m-most, t .pre .0 .n-most)
-
-zero-numbers-requires-2 : tie.Need-zero-numbers-requires-2
-zero-numbers-requires-2 c κs = search needs
-
-same-length : tie.Need-same-length
-same-length c = search needs
-
-same-length-2 : tie.Need-same-length-2
-same-length-2 c = search needs
 
 returns : tie.Need-returns
 returns c =
@@ -80,14 +62,14 @@ pub triangulate-spec : {M : Type 1} → statement M
 triangulate-spec =
     tie.close
     (tie.spec
-    slice-aggregate-build-triangles
+    (λ c. search needs)
     build-triangles-requires
-    slice-aggregate-find-flipped
+    (λ c. search needs)
     find-flipped-requires
     mul-zero-numbers
-    zero-numbers-requires
+    (λ c κs. search needs)
     mul-zero-numbers-2
-    zero-numbers-requires-2
-    same-length
-    same-length-2
+    (λ c κs. search needs)
+    (λ c. search needs)
+    (λ c. search needs)
     returns)

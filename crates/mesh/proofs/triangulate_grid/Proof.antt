@@ -6,20 +6,14 @@ use Rattle.mesh.proofs.Answers.{Admitted, admitted, found-bounded, refu
 use Rattle.mesh.proofs.triangulate_grid.Statement.{statement}
 use Rattle.mesh.proofs.triangulate_grid.Tie as tie
 
+abbrev start : tie.After-enum-told → tie.Start
+start e = e .before .before .before .before .before .before .before .before
+
 -- no refusal applies
-let-in : (e : tie.After-enum-told) → Admitted (e .before .before .before .before .before .before .before .before .args .grid .now) (e .before .before .before .before .before .before .before .before .args .m) (e .before .before .before .before .before .before .before .before .args .n) (e .before .before .before .before .before .before .before .before .args .triangles .now) (e .before .before .before .before .before .before .before .before .args .flipped .now)
+let-in : (e : tie.After-enum-told) → Admitted (start e .args .grid .now) (start e .args .m) (start e .args .n) (start e .args .triangles .now) (start e .args .flipped .now)
 let-in e =
-    let a = e .before .before .before .before .before .before .before .before .args in
+    let a = start e .args in
     admitted (a .grid .now) (a .m) (a .n) (a .triangles .now) (a .flipped .now) (sym (e .before .before .check-mesh .ensures) ∙ e .enum-told .given .1)
-
-check-mesh-requires : tie.Need-check-mesh-requires
-check-mesh-requires c κs = search needs
-
-enum-known-k : tie.Need-enum-known-k
-enum-known-k c = search needs
-
-enum-told : tie.Need-enum-told
-enum-told c = search needs
 
 find-seams-requires : tie.Need-find-seams-requires
 find-seams-requires c κs = let-in c .accepted
@@ -31,24 +25,12 @@ triangulate-requires c κs =
     let i = let-in (c .before .before .before .before .before) in
     (found-bounded (t .args .grid .now) (t .args .m) (t .args .n) (i .accepted) (f .ensures .0) (f .ensures .1), (i .triangle-room, i .pair-room))
 
-same-length : tie.Need-same-length
-same-length c = search needs
-
-same-length-2 : tie.Need-same-length-2
-same-length-2 c = search needs
-
 returns : tie.Need-returns
 returns c =
     let a = c .before .before .before .before .before .before .before .before .before .args in (
       refused-hands (a .grid .now) (a .m) (a .n) (a .triangles .now) (a .flipped .now) (c .before .before .before .check-mesh .ensures) (c .before .k .given .1),
       surface-meets (a .grid .now) (a .m) (a .n),
     )
-
-same-length-3 : tie.Need-same-length-3
-same-length-3 c = search needs
-
-same-length-4 : tie.Need-same-length-4
-same-length-4 c = search needs
 
 returns-2 : tie.Need-returns-2
 returns-2 c =
@@ -64,14 +46,14 @@ pub triangulate-grid-spec : {M : Type 1} → statement M
 triangulate-grid-spec =
     tie.close
     (tie.spec
-    check-mesh-requires
-    enum-known-k
-    enum-told
+    (λ c κs. search needs)
+    (λ c. search needs)
+    (λ c. search needs)
     find-seams-requires
     triangulate-requires
-    same-length
-    same-length-2
+    (λ c. search needs)
+    (λ c. search needs)
     returns
-    same-length-3
-    same-length-4
+    (λ c. search needs)
+    (λ c. search needs)
     returns-2)

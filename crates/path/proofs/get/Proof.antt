@@ -5,12 +5,6 @@ use Rattle.path.proofs.There.{span-bounds, part-is}
 use Rattle.path.proofs.get.Statement.{statement}
 use Rattle.path.proofs.get.Tie as tie
 
-line-span-requires : tie.Need-line-span-requires
-line-span-requires c κs = search needs
-
-enum-known-start : tie.Need-enum-known-start
-enum-known-start c = search needs
-
 mul-from : tie.Need-mul-from
 mul-from c =
     let l = c .before .before .before in
@@ -47,12 +41,6 @@ part-result-end c =
     let a = l .before .before .before .args in
     omega (arith, span-bounds (a .points .now) (a .starts .now) (a .point-count) (a .line-count) (a .index) (c .before .start .given .1) (l .line-span .ensures))
 
-enum-told : tie.Need-enum-told
-enum-told c = search needs
-
-slice-aggregate-result : tie.Need-slice-aggregate-result
-slice-aggregate-result c = search needs
-
 returns : tie.Need-returns
 returns c =
     let l = c .before .before .before .before in
@@ -69,15 +57,15 @@ pub get-spec : {M : Type 1} → statement M
 get-spec =
     tie.close
     (tie.spec
-    line-span-requires
-    enum-known-start
+    (λ c κs. search needs)
+    (λ c. search needs)
     mul-from
     mul-to
     mul-result
     sub-result
     part-result-start
     part-result-end
-    enum-told
-    slice-aggregate-result
+    (λ c. search needs)
+    (λ c. search needs)
     returns
     returns-2)

@@ -8,18 +8,6 @@ use Rattle.path.proofs.Checks.{checked, refused, drawn, passed-shape, p
 use Rattle.path.proofs.grid_paths.Statement.{statement}
 use Rattle.path.proofs.grid_paths.Tie as tie
 
-check-room-requires : tie.Need-check-room-requires
-check-room-requires c κs = search needs
-
-check-grid-requires : tie.Need-check-grid-requires
-check-grid-requires c κs = search needs
-
-enum-known-k : tie.Need-enum-known-k
-enum-known-k c = search needs
-
-enum-told : tie.Need-enum-told
-enum-told c = search needs
-
 -- no refusal applies
 passed : (e : tie.After-enum-told) → let a = e .before .before .before .before .before .before .before .before .before .args in pathsCheck (a .grid .now) (a .m) (a .n) (a .points .now) (a .starts .now) ≡ Passed
 passed e =
@@ -56,23 +44,11 @@ starts-requires c κs =
 mul-t17 : tie.Need-mul-t17
 mul-t17 c = omega (arith, passed-shape _ _ _ _ _ (passed (c .before .before .before .before .before .before .before .before)) .steps)
 
-same-length : tie.Need-same-length
-same-length c = search needs
-
-same-length-2 : tie.Need-same-length-2
-same-length-2 c = search needs
-
 returns : tie.Need-returns
 returns c =
     let g = c .before .before .before in
     let a = g .before .before .before .before .before .before .before .args in
     refused _ _ _ _ _ (checked (a .grid .now) (a .m) (a .n) (a .points .now) (a .starts .now) (g .before .check-room .ensures) (g .check-grid .ensures)) (c .before .k .given .1)
-
-same-length-3 : tie.Need-same-length-3
-same-length-3 c = search needs
-
-same-length-4 : tie.Need-same-length-4
-same-length-4 c = search needs
 
 returns-2 : tie.Need-returns-2
 returns-2 c =
@@ -84,10 +60,10 @@ pub grid-paths-spec : {M : Type 1} → statement M
 grid-paths-spec =
     tie.close
     (tie.spec
-    check-room-requires
-    check-grid-requires
-    enum-known-k
-    enum-told
+    (λ c κs. search needs)
+    (λ c κs. search needs)
+    (λ c. search needs)
+    (λ c. search needs)
     add-count
     add-count-2
     mul-count
@@ -96,9 +72,9 @@ grid-paths-spec =
     points-requires
     starts-requires
     mul-t17
-    same-length
-    same-length-2
+    (λ c. search needs)
+    (λ c. search needs)
     returns
-    same-length-3
-    same-length-4
+    (λ c. search needs)
+    (λ c. search needs)
     returns-2)

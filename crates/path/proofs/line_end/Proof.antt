@@ -5,15 +5,6 @@ use borrow.Author.Needs.{needs}
 use Rattle.path.proofs.line_end.Statement.{statement}
 use Rattle.path.proofs.line_end.Tie as tie
 
-add-next : tie.Need-add-next
-add-next c = search needs
-
-mul-result : tie.Need-mul-result
-mul-result c = search needs
-
-shared-slice-read-result : tie.Need-shared-slice-read-result
-shared-slice-read-result c = search needs
-
 returns : tie.Need-returns
 unfolding lineEnd
 returns c = rw (lt-ltb _ _ (c .before .if1 .taken))
@@ -23,4 +14,4 @@ unfolding lineEnd
 returns-2 c = rw (le-ltb _ _ (c .if1 .left))
 
 pub line-end-spec : {M : Type 1} → statement M
-line-end-spec = tie.close (tie.spec add-next mul-result shared-slice-read-result returns returns-2)
+line-end-spec = tie.close (tie.spec (λ c. search needs) (λ c. search needs) (λ c. search needs) returns returns-2)

@@ -15,15 +15,6 @@ returns-2 c = let a = c .before .before .before .before .args in sym (span-not (
 returns-3 : tie.Need-returns-3
 returns-3 c = let a = c .before .before .before .before .before .args in sym (span-not (a .points .now) (a .starts .now) (a .point-count) (a .line-count) (a .index) (λ t. omega arith))
 
-mul-start : tie.Need-mul-start
-mul-start c = search needs
-
-shared-slice-read-start : tie.Need-shared-slice-read-start
-shared-slice-read-start c = search needs
-
-line-end-requires : tie.Need-line-end-requires
-line-end-requires c κs = search needs
-
 returns-4 : tie.Need-returns-4
 returns-4 c = let a = c .before .before .before .before .before .before .before .before .args in sym (span-not (a .points .now) (a .starts .now) (a .point-count) (a .line-count) (a .index) (λ t. omega arith))
 
@@ -45,9 +36,9 @@ line-span-spec =
     returns
     returns-2
     returns-3
-    mul-start
-    shared-slice-read-start
-    line-end-requires
+    (λ c. search needs)
+    (λ c. search needs)
+    (λ c κs. search needs)
     returns-4
     returns-5
     returns-6)

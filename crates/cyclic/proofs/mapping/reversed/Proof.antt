@@ -7,24 +7,12 @@ use Rattle.cyclic.specs.Mapping.{image}
 use Rattle.cyclic.proofs.mapping.reversed.Statement.{statement}
 use Rattle.cyclic.proofs.mapping.reversed.Tie as tie
 
-sub-result : tie.Need-sub-result
-sub-result c = search needs
-
 returns : tie.Need-returns
 unfolding image
 returns c = rw (eq-eqb (c .before .args .offset) 0 (c .if1 .taken))
 
-add-result : tie.Need-add-result
-add-result c = search needs
-
-rem-result : tie.Need-rem-result
-rem-result c = search needs
-
 sub-result-2 : tie.Need-sub-result-2
 sub-result-2 c = omega (arith, mod-lt (c .before .args .j) {m = c .before .args .steps} (omega arith))
-
-rem-result-2 : tie.Need-rem-result-2
-rem-result-2 c = search needs
 
 returns-2 : tie.Need-returns-2
 unfolding image
@@ -32,4 +20,4 @@ returns-2 c = rw (ne-eqb (c .before .args .offset) 0 (c .if1 .left))
 
 pub reversed-spec : {M : Type 1} → statement M
 reversed-spec =
-    tie.close (tie.spec sub-result returns add-result rem-result sub-result-2 rem-result-2 returns-2)
+    tie.close (tie.spec (λ c. search needs) returns (λ c. search needs) (λ c. search needs) sub-result-2 (λ c. search needs) returns-2)

@@ -6,16 +6,10 @@ use Rattle.cyclic.proofs.Mappings.{forward-next, forward-wraps}
 use Rattle.cyclic.proofs.seam.ahead.Statement.{statement}
 use Rattle.cyclic.proofs.seam.ahead.Tie as tie
 
-add-if2 : tie.Need-add-if2
-add-if2 c = search needs
-
 returns : tie.Need-returns
 returns c =
     let s = c .before .before in
     λ j b e. forward-wraps (s .args .offset) (s .args .steps) j (s .args .k) (s .pre .1) b e (c .before .if1 .taken) (eqb-true _ _ (c .if2 .taken))
-
-add-result : tie.Need-add-result
-add-result c = search needs
 
 returns-2 : tie.Need-returns-2
 returns-2 c =
@@ -23,4 +17,4 @@ returns-2 c =
     λ j b e. forward-next (s .args .offset) (s .args .steps) j (s .args .k) (s .pre .1) b e (⊎-elim (λ w. inr (eqb-false _ _ (w .1 .left))) (λ w. inl (w .left)) (c .if1 .came))
 
 pub ahead-spec : {M : Type 1} → statement M
-ahead-spec = tie.close (tie.spec add-if2 returns add-result returns-2)
+ahead-spec = tie.close (tie.spec (λ c. search needs) returns (λ c. search needs) returns-2)

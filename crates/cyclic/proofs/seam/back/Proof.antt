@@ -6,16 +6,10 @@ use Rattle.cyclic.proofs.Mappings.{reverse-next}
 use Rattle.cyclic.proofs.seam.back.Statement.{statement}
 use Rattle.cyclic.proofs.seam.back.Tie as tie
 
-sub-result : tie.Need-sub-result
-sub-result c = search needs
-
 returns : tie.Need-returns
 returns c =
     let s = c .before in
     λ j b e. ⊎-elim (λ w. absurd (omega arith)) (λ w. w .1) (reverse-next (s .args .offset) (s .args .steps) j (s .args .k) (s .pre .1) b e)
-
-sub-result-2 : tie.Need-sub-result-2
-sub-result-2 c = search needs
 
 returns-2 : tie.Need-returns-2
 returns-2 c =
@@ -23,4 +17,4 @@ returns-2 c =
     λ j b e. ⊎-elim (λ w. w .1) (λ w. absurd (c .if1 .left (w .0))) (reverse-next (s .args .offset) (s .args .steps) j (s .args .k) (s .pre .1) b e)
 
 pub back-spec : {M : Type 1} → statement M
-back-spec = tie.close (tie.spec sub-result returns sub-result-2 returns-2)
+back-spec = tie.close (tie.spec (λ c. search needs) returns (λ c. search needs) returns-2)

@@ -3,27 +3,15 @@ use mathlib.Core.Path.{sym, ap₂}
 use mathlib.Core.Bool.{_&&_}
 use denote.Ref.{now}
 use borrow.Author.Needs.{needs}
-use Rattle.cyclic.proofs.Remains.{held, failed}
+use Rattle.float.proofs.Tests.{held, failed}
 use Rattle.cyclic.proofs.Rows.{no-length, no-coordinate, rows-pass}
 use Rattle.cyclic.proofs.seam.check_rows.Statement.{statement}
 use Rattle.cyclic.proofs.seam.check_rows.Tie as tie
-
-row-fits-requires : tie.Need-row-fits-requires
-row-fits-requires c κs = search needs
-
-row-fits-requires-2 : tie.Need-row-fits-requires-2
-row-fits-requires-2 c κs = search needs
 
 returns : tie.Need-returns
 returns c =
     let s = c .before .before .before .before .before .args in
     sym (no-length (now (s .a)) (now (s .b)) (failed (ap₂ _&&_ (c .before .before .row-fits .ensures) (c .before .row-fits2 .ensures)) (c .if1 .taken)))
-
-coordinates-fit-requires : tie.Need-coordinates-fit-requires
-coordinates-fit-requires c κs = search needs
-
-coordinates-fit-requires-2 : tie.Need-coordinates-fit-requires-2
-coordinates-fit-requires-2 c κs = search needs
 
 returns-2 : tie.Need-returns-2
 returns-2 c =
@@ -43,10 +31,10 @@ pub check-rows-spec : {M : Type 1} → statement M
 check-rows-spec =
     tie.close
     (tie.spec
-    row-fits-requires
-    row-fits-requires-2
+    (λ c κs. search needs)
+    (λ c κs. search needs)
     returns
-    coordinates-fit-requires
-    coordinates-fit-requires-2
+    (λ c κs. search needs)
+    (λ c κs. search needs)
     returns-2
     returns-3)

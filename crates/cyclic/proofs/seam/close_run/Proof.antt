@@ -1,15 +1,16 @@
 -- `cyclic::seam::close_run` meets its contract: each turn of the loop adds two points that are close. Assumes nothing.
-use Prim.Native.Nat.{_+_, _-_, _≤_}
+use Prim.Native.Nat.{ℕ, _+_, _-_, _*_, _≤_}
 use native.Mathlib.Omega.{arith}
 use mathlib.Core.Path.{refl}
 use borrow.Author.Needs.{needs}
 use borrow.Author.Tests.{not-false}
 use denote.Ref.{now}
+use lib.ListN.{length}
 use Rattle.vector.specs.Vectors.{allClose}
 use Rattle.cyclic.specs.Search.{Row, rowOf}
-use Rattle.cyclic.proofs.Mappings.{and-both}
+use Rattle.float.proofs.Tests.{and-both}
 use Rattle.cyclic.proofs.Remains.{Run, no-run, two-longer}
-use Rattle.cyclic.proofs.Rows.{close-in-rows, inside-next, opposite-within}
+use Rattle.cyclic.proofs.Rows.{close-in-rows, inside-next}
 use Rattle.cyclic.proofs.seam.close_run.Statement.{statement}
 use Rattle.cyclic.proofs.seam.close_run.Tie as tie
 
@@ -37,76 +38,24 @@ loop-holds c =
     let s = c .before .before .before in
     (omega arith, no-run allClose (rowA s) (rowB s) (s .args .steps) (s .args .reverse))
 
-add-loop : tie.Need-add-loop Inv-loop μ-loop
-add-loop c = search needs
+-- the two points of either comparison stand in the lists of their rows
+abbrev Stand : tie.Start Inv-loop μ-loop → ℕ → ℕ → Type 0
+Stand s j k = (3 * (s .args .a-start + j) + 3 ≤ length (now (s .args .a))) × (3 * (s .args .b-start + k) + 3 ≤ length (now (s .args .b)))
 
-opposite-requires : tie.Need-opposite-requires Inv-loop μ-loop
-opposite-requires c κs = search needs
-
-add-opposite : tie.Need-add-opposite Inv-loop μ-loop
-add-opposite c = search needs
-
-opposite-requires-2 : tie.Need-opposite-requires-2 Inv-loop μ-loop
-opposite-requires-2 c κs = search needs
-
-add-points-near : tie.Need-add-points-near Inv-loop μ-loop
-add-points-near c =
-    let l = c .before .before .before in
+first : (n : tie.After-opposite2 Inv-loop μ-loop) → Stand (n .before .before .before .before .before .before .before) (n .before .before .before .loop .run) (n .before .opposite .result)
+first n =
+    let l = n .before .before .before in
     let s = l .before .before .before .before in
-    omega (arith, inside-next (s .args .a-start) (s .args .steps) (s .args .stride) (l .loop .run) (l .before .if1 .left) (s .pre .a-inside) (omega arith))
+    inside-next (s .pre) (l .loop .run) (omega arith) (s .args .reverse) (l .before .if1 .left) (n .before .opposite .ensures)
 
-add-points-near-2 : tie.Need-add-points-near-2 Inv-loop μ-loop
-add-points-near-2 c =
-    let o = c .before in
-    let l = o .before .before in
+second : (n : tie.After-opposite2 Inv-loop μ-loop) → Stand (n .before .before .before .before .before .before .before) (n .before .before .before .loop .run + 1) (n .opposite2 .result)
+second n =
+    let l = n .before .before .before in
     let s = l .before .before .before .before in
-    let k : o .opposite .result ≤ s .args .steps = rw (o .opposite .ensures) (opposite-within (s .args .steps) (l .loop .run) (s .args .reverse) (omega arith)) in
-    omega (arith, inside-next (s .args .b-start) (s .args .steps) (s .args .stride) (o .opposite .result) (l .before .if1 .left) (s .pre .b-inside) k)
-
-points-near-requires : tie.Need-points-near-requires Inv-loop μ-loop
-points-near-requires c κs =
-    let o = c .before in
-    let l = o .before .before in
-    let s = l .before .before .before .before in
-    let k : o .opposite .result ≤ s .args .steps = rw (o .opposite .ensures) (opposite-within (s .args .steps) (l .loop .run) (s .args .reverse) (omega arith)) in
-    (inside-next (s .args .a-start) (s .args .steps) (s .args .stride) (l .loop .run) (l .before .if1 .left) (s .pre .a-inside) (omega arith), inside-next (s .args .b-start) (s .args .steps) (s .args .stride) (o .opposite .result) (l .before .if1 .left) (s .pre .b-inside) k)
-
-add-points-near-3 : tie.Need-add-points-near-3 Inv-loop μ-loop
-add-points-near-3 c =
-    let l = c .before .before .before .before in
-    let s = l .before .before .before .before in
-    omega (arith, inside-next (s .args .a-start) (s .args .steps) (s .args .stride) (l .loop .run) (l .before .if1 .left) (s .pre .a-inside) (omega arith))
-
-add-points-near-4 : tie.Need-add-points-near-4 Inv-loop μ-loop
-add-points-near-4 c =
-    let l = c .before .before .before .before in
-    let s = l .before .before .before .before in
-    omega (arith, inside-next (s .args .a-start) (s .args .steps) (s .args .stride) (l .loop .run + 1) (l .before .if1 .left) (s .pre .a-inside) (omega arith))
-
-add-points-near-5 : tie.Need-add-points-near-5 Inv-loop μ-loop
-add-points-near-5 c =
-    let o = c .before in
-    let l = o .before .before .before in
-    let s = l .before .before .before .before in
-    let k : o .opposite2 .result ≤ s .args .steps = rw (o .opposite2 .ensures) (opposite-within (s .args .steps) (l .loop .run + 1) (s .args .reverse) (omega arith)) in
-    omega (arith, inside-next (s .args .b-start) (s .args .steps) (s .args .stride) (o .opposite2 .result) (l .before .if1 .left) (s .pre .b-inside) k)
-
-points-near-requires-2 : tie.Need-points-near-requires-2 Inv-loop μ-loop
-points-near-requires-2 c κs =
-    let o = c .before in
-    let l = o .before .before .before in
-    let s = l .before .before .before .before in
-    let k : o .opposite2 .result ≤ s .args .steps = rw (o .opposite2 .ensures) (opposite-within (s .args .steps) (l .loop .run + 1) (s .args .reverse) (omega arith)) in
-    (omega (arith, inside-next (s .args .a-start) (s .args .steps) (s .args .stride) (l .loop .run + 1) (l .before .if1 .left) (s .pre .a-inside) (omega arith)), inside-next (s .args .b-start) (s .args .steps) (s .args .stride) (o .opposite2 .result) (l .before .if1 .left) (s .pre .b-inside) k)
+    inside-next (s .pre) (l .loop .run + 1) (omega arith) (s .args .reverse) (l .before .if1 .left) (n .opposite2 .ensures)
 
 returns-2 : tie.Need-returns-2 Inv-loop μ-loop
 returns-2 c = c .before .before .before .before .before .before .loop .inv
-
-add-run : tie.Need-add-run Inv-loop μ-loop
-add-run c = search needs
-
-loop-less : tie.Need-loop-less Inv-loop μ-loop
-loop-less c = search needs
 
 loop-again : tie.Need-loop-again Inv-loop μ-loop
 loop-again c =
@@ -134,19 +83,19 @@ close-run-spec =
     μ-loop
     returns
     loop-holds
-    add-loop
-    opposite-requires
-    add-opposite
-    opposite-requires-2
-    add-points-near
-    add-points-near-2
-    points-near-requires
-    add-points-near-3
-    add-points-near-4
-    add-points-near-5
-    points-near-requires-2
+    (λ c. search needs)
+    (λ c κs. search needs)
+    (λ c. search needs)
+    (λ c κs. search needs)
+    (λ c. omega (arith, first c))
+    (λ c. omega (arith, first c))
+    (λ c κs. first c)
+    (λ c. omega (arith, first (c .before)))
+    (λ c. omega (arith, second (c .before)))
+    (λ c. omega (arith, second (c .before)))
+    (λ c κs. (omega (arith, second (c .before)), second (c .before) .1))
     returns-2
-    add-run
-    loop-less
+    (λ c. search needs)
+    (λ c. search needs)
     loop-again
     returns-3)

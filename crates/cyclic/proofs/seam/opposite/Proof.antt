@@ -3,9 +3,6 @@ use borrow.Author.Needs.{needs}
 use Rattle.cyclic.proofs.seam.opposite.Statement.{statement}
 use Rattle.cyclic.proofs.seam.opposite.Tie as tie
 
-sub-result : tie.Need-sub-result
-sub-result c = search needs
-
 returns : tie.Need-returns
 returns c = rw (c .if1 .taken)
 
@@ -13,4 +10,4 @@ returns-2 : tie.Need-returns-2
 returns-2 c = rw (c .if1 .left)
 
 pub opposite-spec : {M : Type 1} → statement M
-opposite-spec = tie.close (tie.spec sub-result returns returns-2)
+opposite-spec = tie.close (tie.spec (λ c. search needs) returns returns-2)

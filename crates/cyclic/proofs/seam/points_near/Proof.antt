@@ -10,15 +10,6 @@ use Rattle.grid.specs.Grid.{pointAt}
 use Rattle.cyclic.proofs.seam.points_near.Statement.{statement}
 use Rattle.cyclic.proofs.seam.points_near.Tie as tie
 
-point-at-requires : tie.Need-point-at-requires
-point-at-requires c κs = search needs
-
-point-at-requires-2 : tie.Need-point-at-requires-2
-point-at-requires-2 c κs = search needs
-
-sub-requires : tie.Need-sub-requires
-sub-requires c κs = search needs
-
 returns : tie.Need-returns
 unfolding eps ofBits
 returns c =
@@ -29,4 +20,4 @@ returns c =
     λ h. close-within (pointAt (now (s .a)) (s .i)) (pointAt (now (s .b)) (s .k)) (d .sub .result) (d .sub .ensures ∙ ap₂ minus (p .point-at .ensures) (q .point-at2 .ensures)) h
 
 pub points-near-spec : {M : Type 1} → statement M
-points-near-spec = tie.close (tie.spec point-at-requires point-at-requires-2 sub-requires returns)
+points-near-spec = tie.close (tie.spec (λ c κs. search needs) (λ c κs. search needs) (λ c κs. search needs) returns)

@@ -10,24 +10,6 @@ use Rattle.cyclic.proofs.Rows.{first-point}
 use Rattle.cyclic.proofs.seam.rows_closed.Statement.{statement}
 use Rattle.cyclic.proofs.seam.rows_closed.Tie as tie
 
-mul-points-close : tie.Need-mul-points-close
-mul-points-close c = search needs
-
-add-points-close : tie.Need-add-points-close
-add-points-close c = search needs
-
-points-close-requires : tie.Need-points-close-requires
-points-close-requires c κs = search needs
-
-mul-points-close-2 : tie.Need-mul-points-close-2
-mul-points-close-2 c = search needs
-
-add-points-close-2 : tie.Need-add-points-close-2
-add-points-close-2 c = search needs
-
-points-close-requires-2 : tie.Need-points-close-requires-2
-points-close-requires-2 c κs = search needs
-
 returns : tie.Need-returns
 returns c =
     let p = c .before .before in
@@ -51,11 +33,11 @@ pub rows-closed-spec : {M : Type 1} → statement M
 rows-closed-spec =
     tie.close
     (tie.spec
-    mul-points-close
-    add-points-close
-    points-close-requires
-    mul-points-close-2
-    add-points-close-2
-    points-close-requires-2
+    (λ c. search needs)
+    (λ c. search needs)
+    (λ c κs. search needs)
+    (λ c. search needs)
+    (λ c. search needs)
+    (λ c κs. search needs)
     returns
     returns-2)

@@ -13,17 +13,11 @@ use Rattle.cyclic.proofs.Rows.{whole-row, short-rows, long-rows}
 use Rattle.cyclic.proofs.seam.search.Statement.{statement}
 use Rattle.cyclic.proofs.seam.search.Tie as tie
 
-unjoined-requires : tie.Need-unjoined-requires
-unjoined-requires c κs = search needs
-
 returns : tie.Need-returns
 returns c =
     let s = c .before .before .before .before .args in
     c .unjoined .ensures
     ∙ sym (short-rows allClose (pointAt (now (s .a))) (pointAt (now (s .b))) (length (now (s .a)) / 3) (length (now (s .b)) / 3) (⊎-elim (λ w. inl (w .taken)) (λ w. inr (eqb-false _ _ (not-true _ (w .1 .taken)))) (c .before .if1 .came)))
-
-sub-search-rows : tie.Need-sub-search-rows
-sub-search-rows c = search needs
 
 search-rows-requires : tie.Need-search-rows-requires
 search-rows-requires c κs =
@@ -37,4 +31,4 @@ returns-2 c =
     rw (long-rows allClose (pointAt (now (s .a))) (pointAt (now (s .b))) (length (now (s .a)) / 3) (length (now (s .b)) / 3) (c .before .before .if1 .left) (eqb-true _ _ (not-false _ (c .before .if2 .left))), ← whole-row (now (s .a)), ← whole-row (now (s .b))) (c .search-rows .ensures)
 
 pub search-spec : {M : Type 1} → statement M
-search-spec = tie.close (tie.spec unjoined-requires returns sub-search-rows search-rows-requires returns-2)
+search-spec = tie.close (tie.spec (λ c κs. search needs) returns (λ c. search needs) search-rows-requires returns-2)

@@ -1,16 +1,17 @@
 -- `cyclic::seam::search_rows` meets its contract. The outer loop's invariant: the whole search is the search of the offsets that are left, after the
 -- comparisons so far. The inner loops': all points tried at an offset are the points that are left, after one comparison for each before, and k is the image of j.
 -- At most 131,072 comparisons are made at an offset, so that their sum fits. Assumes nothing.
-use Prim.Native.Nat.{_+_, _-_, _<_}
+use Prim.Native.Nat.{ℕ, _+_, _-_, _*_, _≤_, _<_}
 use native.Mathlib.Omega.{arith}
 use mathlib.Core.Path.{sym, _∙_}
 use mathlib.Core.Logic.{⊎-elim}
 use borrow.Author.Needs.{needs}
 use denote.Ref.{now}
+use lib.ListN.{length}
 use Rattle.vector.specs.Vectors.{allClose}
 use Rattle.cyclic.specs.declared.mapping.CyclicMapping.the-variants.{Forward, Reverse}
 use Rattle.cyclic.specs.Search.{Row, rowOf}
-use Rattle.cyclic.proofs.Remains.{Trying, Searching, held, failed, forward-known, reverse-known, first-point, next-point, last-point, far-point, all-offsets, one-offset, forward-fits, reverse-fits, next-offset, no-offset}
+use Rattle.cyclic.proofs.Remains.{Trying, Searching, forward-known, reverse-known, first-point, next-point, last-point, far-point, all-offsets, one-offset, forward-fits, reverse-fits, next-offset, no-offset}
 use Rattle.cyclic.proofs.Mappings.{forward-first, reverse-first}
 use Rattle.cyclic.proofs.Rows.{inside}
 use Rattle.cyclic.proofs.seam.search_rows.Statement.{statement}
@@ -44,9 +45,19 @@ rowA s = rowOf (now (s .args .a)) (s .args .a-start) (s .args .stride)
 abbrev rowB : tie.Start Inv-loop μ-loop Inv-loop2 μ-loop2 Inv-offsets μ-offsets → Row
 rowB s = rowOf (now (s .args .b)) (s .args .b-start) (s .args .stride)
 
-rows-closed-requires :
-    tie.Need-rows-closed-requires Inv-loop μ-loop Inv-loop2 μ-loop2 Inv-offsets μ-offsets
-rows-closed-requires c κs = search needs
+-- points j and k stand in the lists of their rows
+abbrev Stand : tie.Start Inv-loop μ-loop Inv-loop2 μ-loop2 Inv-offsets μ-offsets → ℕ → ℕ → Type 0
+Stand s j k = (3 * (s .args .a-start + j * s .args .stride) + 3 ≤ length (now (s .args .a))) × (3 * (s .args .b-start + k * s .args .stride) + 3 ≤ length (now (s .args .b)))
+
+near : (c : tie.At-loop Inv-loop μ-loop Inv-loop2 μ-loop2 Inv-offsets μ-offsets) → Stand (c .before .before .before .before .before .before .before .before) (c .loop .j) (c .loop .k)
+near c =
+    let r = c .before .before .before .before .before .before .before .before .pre in
+    (inside r (c .loop .j) (c .loop .inv .point) .0, inside r (c .loop .k) (c .loop .inv .other) .1)
+
+near2 : (c : tie.At-loop2 Inv-loop μ-loop Inv-loop2 μ-loop2 Inv-offsets μ-offsets) → Stand (c .before .before .before .before .before .before .before .before .before .before .before .before .before) (c .loop2 .j) (c .loop2 .k)
+near2 c =
+    let r = c .before .before .before .before .before .before .before .before .before .before .before .before .before .pre in
+    (inside r (c .loop2 .j) (c .loop2 .inv .point) .0, inside r (c .loop2 .k) (c .loop2 .inv .other) .1)
 
 offsets-holds : tie.Need-offsets-holds Inv-loop μ-loop Inv-loop2 μ-loop2 Inv-offsets μ-offsets
 offsets-holds c =
@@ -54,9 +65,6 @@ offsets-holds c =
     ⊎-elim (λ w. rw (w .1) (all-offsets allClose (rowA s) (rowB s) (s .args .steps) (c .before .rows-closed .ensures) (w .0 .taken)))
     (λ w. rw (w .1) (one-offset allClose (rowA s) (rowB s) (s .args .steps) (s .pre .steps-least) (c .before .rows-closed .ensures) (w .0 .left)))
     (c .if1 .came)
-
-unjoined-requires : tie.Need-unjoined-requires Inv-loop μ-loop Inv-loop2 μ-loop2 Inv-offsets μ-offsets
-unjoined-requires c κs = search needs
 
 close-run-requires : tie.Need-close-run-requires Inv-loop μ-loop Inv-loop2 μ-loop2 Inv-offsets μ-offsets
 close-run-requires c κs = c .before .before .before .before .before .before .before .pre
@@ -74,49 +82,6 @@ loop-holds c =
     (λ w. rw (w .1) (first-point allClose (rowA s) (rowB s) (Forward (o .offsets .offset) (s .args .steps)) (o .offsets .comparisons) (s .pre .steps-most, below, omega arith) (w .2 ∙ forward-first (o .offsets .offset) (s .args .steps) below (w .0 .left))))
     (c .if3 .came)
 
-mul-points-close : tie.Need-mul-points-close Inv-loop μ-loop Inv-loop2 μ-loop2 Inv-offsets μ-offsets
-mul-points-close c =
-    let s = c .before .before .before .before .before .before .before .before in
-    omega (arith, inside (s .args .a-start) (s .args .steps) (s .args .stride) (c .loop .j) (s .pre .a-inside) (omega arith))
-
-add-points-close : tie.Need-add-points-close Inv-loop μ-loop Inv-loop2 μ-loop2 Inv-offsets μ-offsets
-add-points-close c =
-    let s = c .before .before .before .before .before .before .before .before in
-    omega (arith, inside (s .args .a-start) (s .args .steps) (s .args .stride) (c .loop .j) (s .pre .a-inside) (omega arith))
-
-mul-points-close-2 : tie.Need-mul-points-close-2 Inv-loop μ-loop Inv-loop2 μ-loop2 Inv-offsets μ-offsets
-mul-points-close-2 c =
-    let s = c .before .before .before .before .before .before .before .before in
-    omega (arith, inside (s .args .b-start) (s .args .steps) (s .args .stride) (c .loop .k) (s .pre .b-inside) (omega arith))
-
-add-points-close-2 : tie.Need-add-points-close-2 Inv-loop μ-loop Inv-loop2 μ-loop2 Inv-offsets μ-offsets
-add-points-close-2 c =
-    let s = c .before .before .before .before .before .before .before .before in
-    omega (arith, inside (s .args .b-start) (s .args .steps) (s .args .stride) (c .loop .k) (s .pre .b-inside) (omega arith))
-
-points-close-requires : tie.Need-points-close-requires Inv-loop μ-loop Inv-loop2 μ-loop2 Inv-offsets μ-offsets
-points-close-requires c κs =
-    let s = c .before .before .before .before .before .before .before .before in
-    (inside (s .args .a-start) (s .args .steps) (s .args .stride) (c .loop .j) (s .pre .a-inside) (omega arith), inside (s .args .b-start) (s .args .steps) (s .args .stride) (c .loop .k) (s .pre .b-inside) (omega arith))
-
-add-made : tie.Need-add-made Inv-loop μ-loop Inv-loop2 μ-loop2 Inv-offsets μ-offsets
-add-made c = search needs
-
-add-made-2 : tie.Need-add-made-2 Inv-loop μ-loop Inv-loop2 μ-loop2 Inv-offsets μ-offsets
-add-made-2 c = search needs
-
-joined-requires : tie.Need-joined-requires Inv-loop μ-loop Inv-loop2 μ-loop2 Inv-offsets μ-offsets
-joined-requires c κs = search needs
-
-ahead-requires : tie.Need-ahead-requires Inv-loop μ-loop Inv-loop2 μ-loop2 Inv-offsets μ-offsets
-ahead-requires c κs = search needs
-
-add-j : tie.Need-add-j Inv-loop μ-loop Inv-loop2 μ-loop2 Inv-offsets μ-offsets
-add-j c = search needs
-
-loop-less : tie.Need-loop-less Inv-loop μ-loop Inv-loop2 μ-loop2 Inv-offsets μ-offsets
-loop-less c = search needs
-
 loop-again : tie.Need-loop-again Inv-loop μ-loop Inv-loop2 μ-loop2 Inv-offsets μ-offsets
 loop-again c =
     let h = c .before in
@@ -127,14 +92,8 @@ loop-again c =
     let o = e .before in
     let s = o .before .before .before .before .before in
     next-point allClose (rowA s) (rowB s) (Forward (o .offsets .offset) (s .args .steps)) (o .offsets .comparisons) (l .loop .j) (l .loop .k) (s .pre .steps-most, omega (arith, o .offsets .inv, e .if2 .left), l .loop .inv .point) (i .if5 .left) (l .loop .inv)
-    (held (p .points-close .ensures) (i .before .if4 .left))
+    (p .points-close .ensures) (i .before .if4 .left)
     (h .ahead .ensures (l .loop .j) (omega arith) (l .loop .inv .mapped))
-
-add-comparisons : tie.Need-add-comparisons Inv-loop μ-loop Inv-loop2 μ-loop2 Inv-offsets μ-offsets
-add-comparisons c = search needs
-
-add-comparisons-2 : tie.Need-add-comparisons-2 Inv-loop μ-loop Inv-loop2 μ-loop2 Inv-offsets μ-offsets
-add-comparisons-2 c = search needs
 
 close-run-requires-2 : tie.Need-close-run-requires-2 Inv-loop μ-loop Inv-loop2 μ-loop2 Inv-offsets μ-offsets
 close-run-requires-2 c κs = c .before .before .before .before .before .before .before .before .before .before .before .before .pre
@@ -157,49 +116,6 @@ loop2-holds c =
     (λ w. rw (w .1) (first-point allClose (rowA s) (rowB s) (Reverse (o .offsets .offset) (s .args .steps)) made (s .pre .steps-most, below, omega arith) (w .2 ∙ reverse-first (o .offsets .offset) (s .args .steps) below (w .0 .left))))
     (c .if6 .came)
 
-mul-points-close-3 : tie.Need-mul-points-close-3 Inv-loop μ-loop Inv-loop2 μ-loop2 Inv-offsets μ-offsets
-mul-points-close-3 c =
-    let s = c .before .before .before .before .before .before .before .before .before .before .before .before .before in
-    omega (arith, inside (s .args .a-start) (s .args .steps) (s .args .stride) (c .loop2 .j) (s .pre .a-inside) (omega arith))
-
-add-points-close-3 : tie.Need-add-points-close-3 Inv-loop μ-loop Inv-loop2 μ-loop2 Inv-offsets μ-offsets
-add-points-close-3 c =
-    let s = c .before .before .before .before .before .before .before .before .before .before .before .before .before in
-    omega (arith, inside (s .args .a-start) (s .args .steps) (s .args .stride) (c .loop2 .j) (s .pre .a-inside) (omega arith))
-
-mul-points-close-4 : tie.Need-mul-points-close-4 Inv-loop μ-loop Inv-loop2 μ-loop2 Inv-offsets μ-offsets
-mul-points-close-4 c =
-    let s = c .before .before .before .before .before .before .before .before .before .before .before .before .before in
-    omega (arith, inside (s .args .b-start) (s .args .steps) (s .args .stride) (c .loop2 .k) (s .pre .b-inside) (omega arith))
-
-add-points-close-4 : tie.Need-add-points-close-4 Inv-loop μ-loop Inv-loop2 μ-loop2 Inv-offsets μ-offsets
-add-points-close-4 c =
-    let s = c .before .before .before .before .before .before .before .before .before .before .before .before .before in
-    omega (arith, inside (s .args .b-start) (s .args .steps) (s .args .stride) (c .loop2 .k) (s .pre .b-inside) (omega arith))
-
-points-close-requires-2 : tie.Need-points-close-requires-2 Inv-loop μ-loop Inv-loop2 μ-loop2 Inv-offsets μ-offsets
-points-close-requires-2 c κs =
-    let s = c .before .before .before .before .before .before .before .before .before .before .before .before .before in
-    (inside (s .args .a-start) (s .args .steps) (s .args .stride) (c .loop2 .j) (s .pre .a-inside) (omega arith), inside (s .args .b-start) (s .args .steps) (s .args .stride) (c .loop2 .k) (s .pre .b-inside) (omega arith))
-
-add-made-3 : tie.Need-add-made-3 Inv-loop μ-loop Inv-loop2 μ-loop2 Inv-offsets μ-offsets
-add-made-3 c = search needs
-
-add-made-4 : tie.Need-add-made-4 Inv-loop μ-loop Inv-loop2 μ-loop2 Inv-offsets μ-offsets
-add-made-4 c = search needs
-
-joined-requires-2 : tie.Need-joined-requires-2 Inv-loop μ-loop Inv-loop2 μ-loop2 Inv-offsets μ-offsets
-joined-requires-2 c κs = search needs
-
-back-requires : tie.Need-back-requires Inv-loop μ-loop Inv-loop2 μ-loop2 Inv-offsets μ-offsets
-back-requires c κs = search needs
-
-add-j-2 : tie.Need-add-j-2 Inv-loop μ-loop Inv-loop2 μ-loop2 Inv-offsets μ-offsets
-add-j-2 c = search needs
-
-loop2-less : tie.Need-loop2-less Inv-loop μ-loop Inv-loop2 μ-loop2 Inv-offsets μ-offsets
-loop2-less c = search needs
-
 loop2-again : tie.Need-loop2-again Inv-loop μ-loop Inv-loop2 μ-loop2 Inv-offsets μ-offsets
 loop2-again c =
     let h = c .before in
@@ -213,20 +129,8 @@ loop2-again c =
     let o = e .before in
     let s = o .before .before .before .before .before in
     next-point allClose (rowA s) (rowB s) (Reverse (o .offsets .offset) (s .args .steps)) (o .offsets .comparisons + (l .loop .j + 1)) (r .loop2 .j) (r .loop2 .k) (s .pre .steps-most, omega (arith, o .offsets .inv, e .if2 .left), r .loop2 .inv .point) (i .if8 .left) (r .loop2 .inv)
-    (held (q .points-close2 .ensures) (i .before .if7 .left))
+    (q .points-close2 .ensures) (i .before .if7 .left)
     (h .back .ensures (r .loop2 .j) (omega arith) (r .loop2 .inv .mapped))
-
-add-comparisons-3 : tie.Need-add-comparisons-3 Inv-loop μ-loop Inv-loop2 μ-loop2 Inv-offsets μ-offsets
-add-comparisons-3 c = search needs
-
-add-comparisons-4 : tie.Need-add-comparisons-4 Inv-loop μ-loop Inv-loop2 μ-loop2 Inv-offsets μ-offsets
-add-comparisons-4 c = search needs
-
-add-offset : tie.Need-add-offset Inv-loop μ-loop Inv-loop2 μ-loop2 Inv-offsets μ-offsets
-add-offset c = search needs
-
-offsets-less : tie.Need-offsets-less Inv-loop μ-loop Inv-loop2 μ-loop2 Inv-offsets μ-offsets
-offsets-less c = search needs
 
 offsets-again : tie.Need-offsets-again Inv-loop μ-loop Inv-loop2 μ-loop2 Inv-offsets μ-offsets
 offsets-again c =
@@ -239,8 +143,8 @@ offsets-again c =
     let o = e .before in
     let s = o .before .before .before .before .before in
     next-offset allClose (rowA s) (rowB s) (s .args .steps) (o .before .if1 .end) (o .offsets .offset) (o .offsets .comparisons) (e .if2 .left) (o .offsets .inv) (omega (arith, s .pre .steps-most, l .loop .inv .point, r .loop2 .inv .point))
-    (far-point allClose (rowA s) (rowB s) (Forward (o .offsets .offset) (s .args .steps)) (o .offsets .comparisons) (l .loop .j) (l .loop .k) (l .loop .inv) (failed (p .points-close .ensures) (t .if4 .taken)))
-    (far-point allClose (rowA s) (rowB s) (Reverse (o .offsets .offset) (s .args .steps)) (o .offsets .comparisons + (l .loop .j + 1)) (r .loop2 .j) (r .loop2 .k) (r .loop2 .inv) (failed (q .points-close2 .ensures) (c .before .if7 .taken)))
+    (far-point allClose (rowA s) (rowB s) (Forward (o .offsets .offset) (s .args .steps)) (o .offsets .comparisons) (l .loop .j) (l .loop .k) (l .loop .inv) (p .points-close .ensures) (t .if4 .taken))
+    (far-point allClose (rowA s) (rowB s) (Reverse (o .offsets .offset) (s .args .steps)) (o .offsets .comparisons + (l .loop .j + 1)) (r .loop2 .j) (r .loop2 .k) (r .loop2 .inv) (q .points-close2 .ensures) (c .before .if7 .taken))
 
 returns : tie.Need-returns Inv-loop μ-loop Inv-loop2 μ-loop2 Inv-offsets μ-offsets
 returns c =
@@ -260,7 +164,7 @@ returns-2 c =
     let s = o .before .before .before .before .before in
     c .joined .ensures
     ∙ sym (forward-fits allClose (rowA s) (rowB s) (s .args .steps) (o .before .if1 .end) (o .offsets .offset) (o .offsets .comparisons) (e .if2 .left) (o .offsets .inv)
-    (last-point allClose (rowA s) (rowB s) (Forward (o .offsets .offset) (s .args .steps)) (o .offsets .comparisons) (l .loop .j) (l .loop .k) (i .if5 .taken) (l .loop .inv) (held (p .points-close .ensures) (i .before .if4 .left))))
+    (last-point allClose (rowA s) (rowB s) (Forward (o .offsets .offset) (s .args .steps)) (o .offsets .comparisons) (l .loop .j) (l .loop .k) (i .if5 .taken) (l .loop .inv) (p .points-close .ensures) (i .before .if4 .left)))
 
 returns-3 : tie.Need-returns-3 Inv-loop μ-loop Inv-loop2 μ-loop2 Inv-offsets μ-offsets
 returns-3 c =
@@ -275,8 +179,8 @@ returns-3 c =
     let s = o .before .before .before .before .before in
     c .joined2 .ensures
     ∙ sym (reverse-fits allClose (rowA s) (rowB s) (s .args .steps) (o .before .if1 .end) (o .offsets .offset) (o .offsets .comparisons) (e .if2 .left) (o .offsets .inv)
-    (far-point allClose (rowA s) (rowB s) (Forward (o .offsets .offset) (s .args .steps)) (o .offsets .comparisons) (l .loop .j) (l .loop .k) (l .loop .inv) (failed (p .points-close .ensures) (t .if4 .taken)))
-    (last-point allClose (rowA s) (rowB s) (Reverse (o .offsets .offset) (s .args .steps)) (o .offsets .comparisons + (l .loop .j + 1)) (r .loop2 .j) (r .loop2 .k) (i .if8 .taken) (r .loop2 .inv) (held (q .points-close2 .ensures) (i .before .if7 .left))))
+    (far-point allClose (rowA s) (rowB s) (Forward (o .offsets .offset) (s .args .steps)) (o .offsets .comparisons) (l .loop .j) (l .loop .k) (l .loop .inv) (p .points-close .ensures) (t .if4 .taken))
+    (last-point allClose (rowA s) (rowB s) (Reverse (o .offsets .offset) (s .args .steps)) (o .offsets .comparisons + (l .loop .j + 1)) (r .loop2 .j) (r .loop2 .k) (i .if8 .taken) (r .loop2 .inv) (q .points-close2 .ensures) (i .before .if7 .left)))
 
 pub search-rows-spec : {M : Type 1} → statement M
 search-rows-spec =
@@ -288,45 +192,45 @@ search-rows-spec =
     μ-loop2
     Inv-offsets
     μ-offsets
-    rows-closed-requires
+    (λ c κs. search needs)
     offsets-holds
-    unjoined-requires
+    (λ c κs. search needs)
     close-run-requires
     opposite-requires
     loop-holds
-    mul-points-close
-    add-points-close
-    mul-points-close-2
-    add-points-close-2
-    points-close-requires
-    add-made
-    add-made-2
-    joined-requires
-    ahead-requires
-    add-j
-    loop-less
+    (λ c. omega (arith, near c))
+    (λ c. omega (arith, near c))
+    (λ c. omega (arith, near c))
+    (λ c. omega (arith, near c))
+    (λ c κs. near c)
+    (λ c. search needs)
+    (λ c. search needs)
+    (λ c κs. search needs)
+    (λ c κs. search needs)
+    (λ c. search needs)
+    (λ c. search needs)
     loop-again
-    add-comparisons
-    add-comparisons-2
+    (λ c. search needs)
+    (λ c. search needs)
     close-run-requires-2
     opposite-requires-2
     loop2-holds
-    mul-points-close-3
-    add-points-close-3
-    mul-points-close-4
-    add-points-close-4
-    points-close-requires-2
-    add-made-3
-    add-made-4
-    joined-requires-2
-    back-requires
-    add-j-2
-    loop2-less
+    (λ c. omega (arith, near2 c))
+    (λ c. omega (arith, near2 c))
+    (λ c. omega (arith, near2 c))
+    (λ c. omega (arith, near2 c))
+    (λ c κs. near2 c)
+    (λ c. search needs)
+    (λ c. search needs)
+    (λ c κs. search needs)
+    (λ c κs. search needs)
+    (λ c. search needs)
+    (λ c. search needs)
     loop2-again
-    add-comparisons-3
-    add-comparisons-4
-    add-offset
-    offsets-less
+    (λ c. search needs)
+    (λ c. search needs)
+    (λ c. search needs)
+    (λ c. search needs)
     offsets-again
     returns
     returns-2

@@ -3,18 +3,6 @@ use borrow.Author.Needs.{needs}
 use Rattle.exports.proofs.meshes.seam_to_c.Statement.{statement}
 use Rattle.exports.proofs.meshes.seam_to_c.Tie as tie
 
-enum-known-seam : tie.Need-enum-known-seam
-enum-known-seam c = search needs
-
-joined-requires : tie.Need-joined-requires
-joined-requires c κs = search needs
-
-enum-told : tie.Need-enum-told
-enum-told c = search needs
-
-unjoined-requires : tie.Need-unjoined-requires
-unjoined-requires c κs = search needs
-
 returns : tie.Need-returns
 returns c = simp (c .joined .ensures, c .before .before .seam .given .1)
 
@@ -24,4 +12,4 @@ returns-2 c = simp (c .unjoined .ensures, c .before .enum-told .given .1)
 pub seam-to-c-spec : {M : Type 1} → statement M
 seam-to-c-spec =
     tie.close
-    (tie.spec enum-known-seam joined-requires enum-told unjoined-requires returns returns-2)
+    (tie.spec (λ c. search needs) (λ c κs. search needs) (λ c. search needs) (λ c κs. search needs) returns returns-2)

@@ -3,27 +3,6 @@ use borrow.Author.Needs.{needs}
 use Rattle.exports.proofs.seams.rows_to_c.Statement.{statement}
 use Rattle.exports.proofs.seams.rows_to_c.Tie as tie
 
-enum-known-answer : tie.Need-enum-known-answer
-enum-known-answer c = search needs
-
-joined-requires : tie.Need-joined-requires
-joined-requires c κs = search needs
-
-enum-known-answer-2 : tie.Need-enum-known-answer-2
-enum-known-answer-2 c = search needs
-
-unjoined-requires : tie.Need-unjoined-requires
-unjoined-requires c κs = search needs
-
-enum-known-answer-3 : tie.Need-enum-known-answer-3
-enum-known-answer-3 c = search needs
-
-number-requires : tie.Need-number-requires
-number-requires c κs = search needs
-
-unjoined-requires-2 : tie.Need-unjoined-requires-2
-unjoined-requires-2 c κs = search needs
-
 returns : tie.Need-returns
 returns c = simp (c .joined .ensures, c .before .before .answer .given .1)
 
@@ -37,13 +16,13 @@ pub rows-to-c-spec : {M : Type 1} → statement M
 rows-to-c-spec =
     tie.close
     (tie.spec
-    enum-known-answer
-    joined-requires
-    enum-known-answer-2
-    unjoined-requires
-    enum-known-answer-3
-    number-requires
-    unjoined-requires-2
+    (λ c. search needs)
+    (λ c κs. search needs)
+    (λ c. search needs)
+    (λ c κs. search needs)
+    (λ c. search needs)
+    (λ c κs. search needs)
+    (λ c κs. search needs)
     returns
     returns-2
     returns-3)

@@ -3,15 +3,6 @@ use borrow.Author.Needs.{needs}
 use Rattle.exports.proofs.textures.plan_to_c.Statement.{statement}
 use Rattle.exports.proofs.textures.plan_to_c.Tie as tie
 
-enum-known-answer : tie.Need-enum-known-answer
-enum-known-answer c = search needs
-
-enum-known-answer-2 : tie.Need-enum-known-answer-2
-enum-known-answer-2 c = search needs
-
-number-requires : tie.Need-number-requires
-number-requires c κs = search needs
-
 returns : tie.Need-returns
 returns c = simp (c .before .answer .given .1)
 
@@ -19,4 +10,4 @@ returns-2 : tie.Need-returns-2
 returns-2 c = simp (c .number .ensures, c .before .before .answer2 .given .1)
 
 pub plan-to-c-spec : {M : Type 1} → statement M
-plan-to-c-spec = tie.close (tie.spec enum-known-answer enum-known-answer-2 number-requires returns returns-2)
+plan-to-c-spec = tie.close (tie.spec (λ c. search needs) (λ c. search needs) (λ c κs. search needs) returns returns-2)

@@ -1,18 +1,10 @@
--- `to_c` is `components`, and it is given what `mul_scalar` answers.
-use mathlib.Core.Path.{_∙_, ap}
-use Rattle.exports.specs.Vectors.{components}
+-- `to_c` is given what `mul_scalar` answers of the Vector that `from_c` makes.
 use borrow.Author.Needs.{needs}
 use Rattle.exports.proofs.vectors.mt_vector_mul_scalar.Statement.{statement}
 use Rattle.exports.proofs.vectors.mt_vector_mul_scalar.Tie as tie
 
-mul-scalar-requires : tie.Need-mul-scalar-requires
-mul-scalar-requires c κs = search needs
-
-to-c-requires : tie.Need-to-c-requires
-to-c-requires c κs = search needs
-
 returns : tie.Need-returns
-returns c = c .to-c .ensures ∙ ap components (c .before .mul-scalar .ensures)
+returns c = rw (c .to-c .ensures, c .before .mul-scalar .ensures, c .before .before .from-c .ensures)
 
 pub mt-vector-mul-scalar-spec : {M : Type 1} → statement M
-mt-vector-mul-scalar-spec = tie.close (tie.spec mul-scalar-requires to-c-requires returns)
+mt-vector-mul-scalar-spec = tie.close (tie.spec (λ c κs. search needs) (λ c κs. search needs) (λ c κs. search needs) returns)

@@ -10,12 +10,6 @@ returns c = order-less (c .before .args .x) (c .before .args .y) (c .if1 .taken)
 returns-2 : tie.Need-returns-2
 returns-2 c = order-greater (c .before .before .args .x) (c .before .before .args .y) (c .before .if1 .left) (c .if2 .taken)
 
-is-negative-requires : tie.Need-is-negative-requires
-is-negative-requires c κs = search needs
-
-is-negative-requires-2 : tie.Need-is-negative-requires-2
-is-negative-requires-2 c κs = search needs
-
 returns-3 : tie.Need-returns-3
 returns-3 c =
     let n = c .before .before .before in
@@ -35,4 +29,4 @@ returns-5 c =
     zeros-equal (a .x) (a .y) (n .before .if1 .left) (n .if2 .left) (c .before .before .before .is-negative .ensures) (c .before .before .is-negative2 .ensures) (c .before .if3 .left) (c .if4 .left)
 
 pub total-cmp-spec : {M : Type 1} → statement M
-total-cmp-spec = tie.close (tie.spec returns returns-2 is-negative-requires is-negative-requires-2 returns-3 returns-4 returns-5)
+total-cmp-spec = tie.close (tie.spec returns returns-2 (λ c κs. search needs) (λ c κs. search needs) returns-3 returns-4 returns-5)

@@ -5,9 +5,6 @@ use Rattle.float.proofs.Signs.{abs-neg, abs-same}
 use Rattle.float.proofs.sign.abs.Statement.{statement}
 use Rattle.float.proofs.sign.abs.Tie as tie
 
-is-negative-requires : tie.Need-is-negative-requires
-is-negative-requires c κs = search needs
-
 returns : tie.Need-returns
 returns c = abs-neg (c .before .before .args .x) (sym (c .before .is-negative .ensures) ∙ c .if1 .taken)
 
@@ -15,4 +12,4 @@ returns-2 : tie.Need-returns-2
 returns-2 c = abs-same (c .before .before .args .x) (sym (c .before .is-negative .ensures) ∙ c .if1 .left)
 
 pub abs-spec : {M : Type 1} → statement M
-abs-spec = tie.close (tie.spec is-negative-requires returns returns-2)
+abs-spec = tie.close (tie.spec (λ c κs. search needs) returns returns-2)

@@ -7,11 +7,8 @@ use Rattle.float.proofs.Signs.{finite-is}
 use Rattle.float.proofs.sign.is_finite.Statement.{statement}
 use Rattle.float.proofs.sign.is_finite.Tie as tie
 
-abs-requires : tie.Need-abs-requires
-abs-requires c κs = search needs
-
 returns : tie.Need-returns
 returns c = ap (λ (y : Float). lt y (div binary64 one64 zero64)) (c .abs .ensures) ∙ finite-is (c .before .args .x)
 
 pub is-finite-spec : {M : Type 1} → statement M
-is-finite-spec = tie.close (tie.spec abs-requires returns)
+is-finite-spec = tie.close (tie.spec (λ c κs. search needs) returns)

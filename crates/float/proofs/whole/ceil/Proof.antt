@@ -1,37 +1,22 @@
 -- `float::whole::ceil` meets its contract: below 2^52 it is the whole part, one more where a positive value is above it; from 2^52 on the value is whole
 -- (proofs/Round.antt). Assumes nothing.
-use mathlib.Core.Path.{_≡_, sym, _∙_, subst}
+use mathlib.Core.Path.{_≡_, sym, _∙_}
 use mathlib.Core.Bool.{false}
 use native.Mathlib.Omega.{arith}
-use lib.Dec.{T}
-use lib.Ieee.{binary64, fits}
 use borrow.Author.Needs.{needs}
 use Rattle.float.specs.Sign.{negative}
 use Rattle.float.proofs.Round.{Cuts, ceil-small, ceil-large}
 use Rattle.float.proofs.whole.ceil.Statement.{statement}
 use Rattle.float.proofs.whole.ceil.Tie as tie
 
--- what owning an f64 tells: the format holds it
-held : (c : tie.Start) → T (fits binary64 (c .args .x))
-held c = subst T (sym (c .good .0 .1)) tt
-
 small : (c : tie.Then1) → Cuts (c .before .before .args .x) (c .before .abs .result)
-small c = ceil-small (c .before .before .args .x) (held (c .before .before)) (c .before .abs .ensures) (c .if1 .taken)
+small c = ceil-small (c .before .before .args .x) (c .before .before .good .0 .1) (c .before .abs .ensures) (c .if1 .taken)
 
 plus : (c : tie.Else2) → negative (c .before .before .before .before .before .before .args .x) ≡ false
 plus c = sym (c .before .is-negative .ensures) ∙ c .if2 .left
 
-abs-requires : tie.Need-abs-requires
-abs-requires c κs = search needs
-
 truncating-f64-to-u64-requires : tie.Need-truncating-f64-to-u64-requires
 truncating-f64-to-u64-requires c κs = small c .asked
-
-nearest-u64-to-f64-requires : tie.Need-nearest-u64-to-f64-requires
-nearest-u64-to-f64-requires c κs = search needs
-
-is-negative-requires : tie.Need-is-negative-requires
-is-negative-requires c κs = search needs
 
 returns : tie.Need-returns
 returns c =
@@ -42,9 +27,6 @@ add-nearest-u64-to-f64 : tie.Need-add-nearest-u64-to-f64
 add-nearest-u64-to-f64 c =
     let t = c .before .before .before .before in
     record { fits = omega (arith, small (t .before) .few (t .truncating-f64-to-u64 .ensures)) }
-
-nearest-u64-to-f64-requires-2 : tie.Need-nearest-u64-to-f64-requires-2
-nearest-u64-to-f64-requires-2 c κs = search needs
 
 returns-2 : tie.Need-returns-2
 returns-2 c =
@@ -58,18 +40,18 @@ returns-3 c =
     small (k .before .before) .same (k .before .truncating-f64-to-u64 .ensures) (k .nearest-u64-to-f64 .ensures) (plus (c .before)) (c .if3 .left)
 
 returns-4 : tie.Need-returns-4
-returns-4 c = ceil-large (c .before .before .args .x) (held (c .before .before)) (c .before .abs .ensures) (c .if1 .left)
+returns-4 c = ceil-large (c .before .before .args .x) (c .before .before .good .0 .1) (c .before .abs .ensures) (c .if1 .left)
 
 pub ceil-spec : {M : Type 1} → statement M
 ceil-spec =
     tie.close
     (tie.spec
-    abs-requires
+    (λ c κs. search needs)
     truncating-f64-to-u64-requires
-    nearest-u64-to-f64-requires
-    is-negative-requires
+    (λ c κs. search needs)
+    (λ c κs. search needs)
     add-nearest-u64-to-f64
-    nearest-u64-to-f64-requires-2
+    (λ c κs. search needs)
     returns
     returns-2
     returns-3

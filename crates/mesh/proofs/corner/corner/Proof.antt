@@ -9,9 +9,6 @@ use Rattle.mesh.proofs.corner.corner.Tie as tie
 join-requires : tie.Need-join-requires
 join-requires c κs = maps-joins (c .args .surface .u) (c .args .surface .n) (c .args .v) (c .pre .0 .u-maps) (omega arith) (omega arith)
 
-add-if1 : tie.Need-add-if1
-add-if1 c = search needs
-
 join-requires-2 : tie.Need-join-requires-2
 join-requires-2 c κs =
     let a = c .before .before .args in
@@ -54,7 +51,7 @@ corner-spec =
     tie.close
     (tie.spec
     join-requires
-    add-if1
+    (λ c. search needs)
     join-requires-2
     point-number-requires
     returns

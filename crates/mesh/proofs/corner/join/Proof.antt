@@ -6,12 +6,6 @@ use borrow.Author.Needs.{needs}
 use Rattle.mesh.proofs.corner.join.Statement.{statement}
 use Rattle.mesh.proofs.corner.join.Tie as tie
 
-enum-told : tie.Need-enum-told
-enum-told c = search needs
-
-enum-known-seam : tie.Need-enum-known-seam
-enum-known-seam c = search needs
-
 inverse-requires : tie.Need-inverse-requires
 inverse-requires c κs = joins-as (c .before .before .before .before .args .step) (c .before .before .seam .given .1) (c .before .before .before .before .pre)
 
@@ -34,4 +28,4 @@ returns-3 c =
 
 pub join-spec : {M : Type 1} → statement M
 join-spec =
-    tie.close (tie.spec enum-told enum-known-seam inverse-requires returns returns-2 returns-3)
+    tie.close (tie.spec (λ c. search needs) (λ c. search needs) inverse-requires returns returns-2 returns-3)

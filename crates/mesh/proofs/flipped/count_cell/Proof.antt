@@ -18,14 +18,8 @@ bound t =
       cells-most (a .surface .m) (a .surface .n) (omega arith) (omega arith),
     )
 
-first-differs-requires : tie.Need-first-differs-requires
-first-differs-requires c κs = search needs
-
 one-more-requires : tie.Need-one-more-requires
 one-more-requires c κs = omega (arith, bound (c .before))
-
-second-differs-requires : tie.Need-second-differs-requires
-second-differs-requires c κs = search needs
 
 one-more-requires-2 : tie.Need-one-more-requires-2
 one-more-requires-2 c κs = omega (arith, c .before .one-more .ensures, one-more-most (c .before .before .before .args .count) (c .before .before .first-differs .result), bound (c .before .before .before))
@@ -40,4 +34,4 @@ returns c =
 pub count-cell-spec : {M : Type 1} → statement M
 count-cell-spec =
     tie.close
-    (tie.spec first-differs-requires one-more-requires second-differs-requires one-more-requires-2 returns)
+    (tie.spec (λ c κs. search needs) one-more-requires (λ c κs. search needs) one-more-requires-2 returns)

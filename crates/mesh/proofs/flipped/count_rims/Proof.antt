@@ -28,12 +28,6 @@ count-row-requires-2 c κs =
     let t = c .before .before .before .before .before .before .before .before .before .before .before in
     ((t .pre .0 .0, omega (arith, t .pre .0 .0 .m-least), t .pre .0 .2), t .pre .1 .at (t .args .surface .m - 1) (omega arith))
 
-same-length : tie.Need-same-length
-same-length c = search needs
-
-same-length-2 : tie.Need-same-length-2
-same-length-2 c = search needs
-
 returns : tie.Need-returns
 returns c =
     let t = c .before .before .before .before .before .before .before .before .before .before .before .before .before .before in
@@ -51,6 +45,6 @@ count-rims-spec =
     mul-count-row
     shared-slice-read-count-row-2
     count-row-requires-2
-    same-length
-    same-length-2
+    (λ c. search needs)
+    (λ c. search needs)
     returns)

@@ -19,9 +19,6 @@ Inv-loop surface u start counts₀ n count₀ v₀ counts count v =
 abbrev μ-loop : tie.MeasureT-loop
 μ-loop surface u start counts₀ n count₀ v₀ counts count v = surface .n - v
 
-slice-write-counts : tie.Need-slice-write-counts Inv-loop μ-loop
-slice-write-counts c = omega arith
-
 loop-holds : tie.Need-loop-holds Inv-loop μ-loop
 loop-holds c =
     let t = c .before in
@@ -37,19 +34,10 @@ count-cell-requires c κs =
     let t = c .before .before .before in
     ((t .pre .0 .0, t .pre .0 .1, omega arith), w .inv .1)
 
-add-v : tie.Need-add-v Inv-loop μ-loop
-add-v c = omega arith
-
-mul-counts : tie.Need-mul-counts Inv-loop μ-loop
-mul-counts c = omega arith
-
 slice-write-counts-2 : tie.Need-slice-write-counts-2 Inv-loop μ-loop
 slice-write-counts-2 c =
     let a = c .before .before .before .before .args in
     omega (arith, c .before .before .loop .inv .2, length-set (a .counts .now) 0 (a .start))
-
-loop-less : tie.Need-loop-less Inv-loop μ-loop
-loop-less c = omega arith
 
 loop-again : tie.Need-loop-again Inv-loop μ-loop
 loop-again c =
@@ -81,13 +69,13 @@ count-row-spec =
     (tie.spec
     Inv-loop
     μ-loop
-    slice-write-counts
+    (λ c. omega arith)
     loop-holds
     count-cell-requires
-    add-v
-    mul-counts
+    (λ c. omega arith)
+    (λ c. omega arith)
     slice-write-counts-2
-    loop-less
+    (λ c. omega arith)
     loop-again
     same-length
     returns)

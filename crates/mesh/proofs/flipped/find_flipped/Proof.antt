@@ -4,30 +4,15 @@ use borrow.Author.Needs.{needs}
 use Rattle.mesh.proofs.flipped.find_flipped.Statement.{statement}
 use Rattle.mesh.proofs.flipped.find_flipped.Tie as tie
 
-slice-aggregate-count-rims : tie.Need-slice-aggregate-count-rims
-slice-aggregate-count-rims c = search needs
-
-slice-aggregate-count-rims-2 : tie.Need-slice-aggregate-count-rims-2
-slice-aggregate-count-rims-2 c = search needs
-
 count-rims-requires : tie.Need-count-rims-requires
 count-rims-requires c κs =
     let t = c .before .before .before .before in
     ((t .pre .0 .0, omega (arith, t .pre .0 .0 .n-most), omega (arith, t .pre .0 .0 .n-most)), t .pre .0 .1)
 
-slice-aggregate-flip-seams : tie.Need-slice-aggregate-flip-seams
-slice-aggregate-flip-seams c = search needs
-
-slice-aggregate-flip-seams-2 : tie.Need-slice-aggregate-flip-seams-2
-slice-aggregate-flip-seams-2 c = search needs
-
 flip-seams-requires : tie.Need-flip-seams-requires
 flip-seams-requires c κs =
     let t = c .before .before .before .before .before .before .before .before .before .before in
     ((t .pre .0 .0, c .before .before .before .before .before .count-rims .ensures, t .pre .0 .1), t .pre .1)
-
-same-length : tie.Need-same-length
-same-length c = search needs
 
 returns : tie.Need-returns
 returns c = c .before .before .flip-seams .ensures
@@ -36,11 +21,11 @@ pub find-flipped-spec : {M : Type 1} → statement M
 find-flipped-spec =
     tie.close
     (tie.spec
-    slice-aggregate-count-rims
-    slice-aggregate-count-rims-2
+    (λ c. search needs)
+    (λ c. search needs)
     count-rims-requires
-    slice-aggregate-flip-seams
-    slice-aggregate-flip-seams-2
+    (λ c. search needs)
+    (λ c. search needs)
     flip-seams-requires
-    same-length
+    (λ c. search needs)
     returns)

@@ -9,23 +9,11 @@ use borrow.Author.Needs.{needs}
 use Rattle.mesh.proofs.flipped.flip_seam.Statement.{statement}
 use Rattle.mesh.proofs.flipped.flip_seam.Tie as tie
 
-enum-told : tie.Need-enum-told
-enum-told c = search needs
-
-enum-known-seam : tie.Need-enum-known-seam
-enum-known-seam c = search needs
-
-is-reverse-requires : tie.Need-is-reverse-requires
-is-reverse-requires c κs = search needs
-
 process-flipped-requires : tie.Need-process-flipped-requires
 process-flipped-requires c κs =
     let t = c .before .before .before .before .before .before .before .before .before in
     let a = t .args in
     ((t .pre .0 .0, subst (λ (x : Seam). Maps x (stepsOf (a .axis) (shapeOf (a .surface)))) (c .before .before .before .before .seam .given .1) (t .pre .0 .1)), t .pre .1)
-
-same-length : tie.Need-same-length
-same-length c = search needs
 
 returns : tie.Need-returns
 returns c =
@@ -50,11 +38,11 @@ pub flip-seam-spec : {M : Type 1} → statement M
 flip-seam-spec =
     tie.close
     (tie.spec
-    enum-told
-    enum-known-seam
-    is-reverse-requires
+    (λ c. search needs)
+    (λ c. search needs)
+    (λ c κs. search needs)
     process-flipped-requires
-    same-length
+    (λ c. search needs)
     returns
     returns-2
     returns-3)

@@ -13,8 +13,11 @@ use Rattle.mesh.proofs.Flips.{rims-v, seam-most, held-pairs, flipped-is
 use Rattle.mesh.proofs.flipped.flip_seams.Statement.{statement}
 use Rattle.mesh.proofs.flipped.flip_seams.Tie as tie
 
+abbrev start : tie.After-flip-seam → tie.Start
+start e = e .before .before .before .before .before .before
+
 -- the u seam's pairs
-first : (e : tie.After-flip-seam) → pairsIn (e .flip-seam .result) (e .flip-seam .last .1 .1 .1 .1 .1 .0) ≡ flips U (shapeOf (e .before .before .before .before .before .before .args .surface)) (seamOf (e .before .before .before .before .before .before .args .surface .u)) []
+first : (e : tie.After-flip-seam) → pairsIn (e .flip-seam .result) (e .flip-seam .last .1 .1 .1 .1 .1 .0) ≡ flips U (shapeOf (start e .args .surface)) (seamOf (start e .args .surface .u)) []
 unfolding firsts
 first e = e .flip-seam .ensures
 
@@ -33,9 +36,6 @@ flip-seam-requires-2 c κs =
       (rims-v (a .surface) (t .pre .0 .0) (a .starts .now) (t .pre .0 .2), omega (arith, k, seam-most U (shapeOf (a .surface)) (seamOf (a .surface .u)) [], f .kept .1 .1 .1 .1 .1 .0, t .pre .1)),
     )
 
-same-length : tie.Need-same-length
-same-length c = search needs
-
 returns : tie.Need-returns
 returns c =
     let a = c .before .before .before .before .before .before .before .before .before .before .before .before .args in
@@ -45,4 +45,4 @@ returns c =
     ∙ flipped-is s
 
 pub flip-seams-spec : {M : Type 1} → statement M
-flip-seams-spec = tie.close (tie.spec flip-seam-requires flip-seam-requires-2 same-length returns)
+flip-seams-spec = tie.close (tie.spec flip-seam-requires flip-seam-requires-2 (λ c. search needs) returns)

@@ -11,23 +11,11 @@ use borrow.Author.Needs.{needs}
 use Rattle.mesh.proofs.flipped.high_differs.Statement.{statement}
 use Rattle.mesh.proofs.flipped.high_differs.Tie as tie
 
-enum-told : tie.Need-enum-told
-enum-told c = search needs
-
-sub-second-differs : tie.Need-sub-second-differs
-sub-second-differs c = search needs
-
 second-differs-requires : tie.Need-second-differs-requires
 second-differs-requires c κs =
     let t = c .before .before .before in
     let l = steps-along (shapeOf (t .args .surface)) (c .before .enum-told .given .1) (t .pre .1) in
     (t .pre .0, omega (arith, t .pre .0 .m-least), l)
-
-enum-told-2 : tie.Need-enum-told-2
-enum-told-2 c = search needs
-
-sub-second-differs-2 : tie.Need-sub-second-differs-2
-sub-second-differs-2 c = search needs
 
 second-differs-requires-2 : tie.Need-second-differs-requires-2
 second-differs-requires-2 c κs =
@@ -55,11 +43,11 @@ pub high-differs-spec : {M : Type 1} → statement M
 high-differs-spec =
     tie.close
     (tie.spec
-    enum-told
-    sub-second-differs
+    (λ c. search needs)
+    (λ c. search needs)
     second-differs-requires
-    enum-told-2
-    sub-second-differs-2
+    (λ c. search needs)
+    (λ c. search needs)
     second-differs-requires-2
     returns
     returns-2)

@@ -11,17 +11,11 @@ use borrow.Author.Needs.{needs}
 use Rattle.mesh.proofs.flipped.low_differs.Statement.{statement}
 use Rattle.mesh.proofs.flipped.low_differs.Tie as tie
 
-enum-told : tie.Need-enum-told
-enum-told c = search needs
-
 first-differs-requires : tie.Need-first-differs-requires
 first-differs-requires c κs =
     let t = c .before .before in
     let l = steps-along (shapeOf (t .args .surface)) (c .enum-told .given .1) (t .pre .1) in
     (t .pre .0, omega (arith, t .pre .0 .m-least), l)
-
-enum-told-2 : tie.Need-enum-told-2
-enum-told-2 c = search needs
 
 first-differs-requires-2 : tie.Need-first-differs-requires-2
 first-differs-requires-2 c κs =
@@ -49,9 +43,9 @@ pub low-differs-spec : {M : Type 1} → statement M
 low-differs-spec =
     tie.close
     (tie.spec
-    enum-told
+    (λ c. search needs)
     first-differs-requires
-    enum-told-2
+    (λ c. search needs)
     first-differs-requires-2
     returns
     returns-2)

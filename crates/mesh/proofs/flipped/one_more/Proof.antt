@@ -3,9 +3,6 @@ use native.Mathlib.Omega.{arith}
 use Rattle.mesh.proofs.flipped.one_more.Statement.{statement}
 use Rattle.mesh.proofs.flipped.one_more.Tie as tie
 
-add-result : tie.Need-add-result
-add-result c = omega arith
-
 returns : tie.Need-returns
 returns c = rw (c .if1 .taken)
 
@@ -13,4 +10,4 @@ returns-2 : tie.Need-returns-2
 returns-2 c = rw (c .if1 .left)
 
 pub one-more-spec : {M : Type 1} → statement M
-one-more-spec = tie.close (tie.spec add-result returns returns-2)
+one-more-spec = tie.close (tie.spec (λ c. omega arith) returns returns-2)

@@ -24,9 +24,6 @@ Inv-loop surface axis mapping low high flipped₀ start steps count₀ i₀ flip
 abbrev μ-loop : tie.MeasureT-loop
 μ-loop surface axis mapping low high flipped₀ start steps count₀ i₀ flipped count i = steps - i
 
-rim-steps-requires : tie.Need-rim-steps-requires Inv-loop μ-loop
-rim-steps-requires c κs = search needs
-
 loop-holds : tie.Need-loop-holds Inv-loop μ-loop
 loop-holds c =
     let a = c .before .before .before .before .args in
@@ -48,12 +45,6 @@ flip-step-requires c κs =
       ),
     )
 
-add-i : tie.Need-add-i Inv-loop μ-loop
-add-i c = omega arith
-
-loop-less : tie.Need-loop-less Inv-loop μ-loop
-loop-less c = omega arith
-
 loop-again : tie.Need-loop-again Inv-loop μ-loop
 loop-again c =
     let f = c .before .before .flip-step in
@@ -68,9 +59,6 @@ loop-again c =
       omega (arith, f .kept .1 .1 .1 .1 .1 .1 .0),
     )
 
-same-length : tie.Need-same-length Inv-loop μ-loop
-same-length c = omega arith
-
 returns : tie.Need-returns Inv-loop μ-loop
 returns c =
     let w = c .before .loop in
@@ -84,11 +72,11 @@ process-flipped-spec =
     (tie.spec
     Inv-loop
     μ-loop
-    rim-steps-requires
+    (λ c κs. search needs)
     loop-holds
     flip-step-requires
-    add-i
-    loop-less
+    (λ c. omega arith)
+    (λ c. omega arith)
     loop-again
-    same-length
+    (λ c. omega arith)
     returns)

@@ -7,12 +7,6 @@ use borrow.Author.Needs.{needs}
 use Rattle.mesh.proofs.flipped.second_differs.Statement.{statement}
 use Rattle.mesh.proofs.flipped.second_differs.Tie as tie
 
-cell-corners-requires : tie.Need-cell-corners-requires
-cell-corners-requires c κs = search needs
-
-differ-requires : tie.Need-differ-requires
-differ-requires c κs = search needs
-
 returns : tie.Need-returns
 returns c =
     let t = c .before .before in
@@ -22,4 +16,4 @@ returns c =
     ∙ ap (λ (x : Triangle). proper x) (sym (slot-second (a .surface .m) (a .surface .n) (a .surface .u) (a .surface .v) (a .u) (a .v) (t .pre .2)))
 
 pub second-differs-spec : {M : Type 1} → statement M
-second-differs-spec = tie.close (tie.spec cell-corners-requires differ-requires returns)
+second-differs-spec = tie.close (tie.spec (λ c κs. search needs) (λ c κs. search needs) returns)

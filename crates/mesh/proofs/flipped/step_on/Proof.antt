@@ -12,9 +12,6 @@ use Rattle.mesh.proofs.flipped.step_on.Tie as tie
 inverse-requires : tie.Need-inverse-requires
 inverse-requires c κs = maps-joins (Joined (c .args .mapping)) (c .args .steps) (c .args .i) (c .pre .0) (omega arith) (omega arith)
 
-add-inverse : tie.Need-add-inverse
-add-inverse c = search needs
-
 inverse-requires-2 : tie.Need-inverse-requires-2
 inverse-requires-2 c κs =
     let t = c .before in
@@ -35,4 +32,4 @@ returns c =
 
 pub step-on-spec : {M : Type 1} → statement M
 step-on-spec =
-    tie.close (tie.spec inverse-requires add-inverse inverse-requires-2 wrap-ends-requires returns)
+    tie.close (tie.spec inverse-requires (λ c. search needs) inverse-requires-2 wrap-ends-requires returns)

@@ -4,26 +4,14 @@ use borrow.Author.Tests.{eq-eqb, ne-eqb}
 use Rattle.mesh.proofs.flipped.wrap_ends.Statement.{statement}
 use Rattle.mesh.proofs.flipped.wrap_ends.Tie as tie
 
-add-if1 : tie.Need-add-if1
-add-if1 c = omega arith
-
 returns : tie.Need-returns
 returns c = rw (c .if1 .taken)
-
-add-if2 : tie.Need-add-if2
-add-if2 c = omega arith
 
 returns-2 : tie.Need-returns-2
 returns-2 c = rw (c .before .if1 .left, c .if2 .taken)
 
-add-if3 : tie.Need-add-if3
-add-if3 c = omega arith
-
 returns-3 : tie.Need-returns-3
 returns-3 c = rw (c .before .before .if1 .left, c .before .if2 .left, eq-eqb _ _ (c .if3 .taken))
-
-add-if4 : tie.Need-add-if4
-add-if4 c = omega arith
 
 returns-4 : tie.Need-returns-4
 returns-4 c = rw (c .before .before .before .if1 .left, c .before .before .if2 .left, ne-eqb _ _ (c .before .if3 .left), eq-eqb _ _ (c .if4 .taken))
@@ -34,4 +22,4 @@ returns-5 c = rw (c .before .before .before .if1 .left, c .before .before .if2 .
 pub wrap-ends-spec : {M : Type 1} → statement M
 wrap-ends-spec =
     tie.close
-    (tie.spec add-if1 returns add-if2 returns-2 add-if3 returns-3 add-if4 returns-4 returns-5)
+    (tie.spec (λ c. omega arith) returns (λ c. omega arith) returns-2 (λ c. omega arith) returns-3 (λ c. omega arith) returns-4 returns-5)

@@ -9,15 +9,6 @@ use borrow.Author.Needs.{needs}
 use Rattle.mesh.proofs.pairs.insert_pair.Statement.{statement}
 use Rattle.mesh.proofs.pairs.insert_pair.Tie as tie
 
-find-spot-requires : tie.Need-find-spot-requires
-find-spot-requires c κs = search needs
-
-enum-told : tie.Need-enum-told
-enum-told c = search needs
-
-enum-known-i : tie.Need-enum-known-i
-enum-known-i c = search needs
-
 put-pair-requires : tie.Need-put-pair-requires
 put-pair-requires c κs =
     let t = c .before .before in
@@ -25,20 +16,11 @@ put-pair-requires c κs =
     let w = spot-known (pair (a .low) (a .high)) (pairsIn (a .count) (a .list .now)) (t .i .given .1) (t .before .before .find-spot .ensures) in
     (omega (arith, length-firsts (pairAt (a .list .now)) (a .count)), t .before .before .before .before .before .pre)
 
-add-result : tie.Need-add-result
-add-result c = search needs
-
-same-length : tie.Need-same-length
-same-length c = search needs
-
 returns : tie.Need-returns
 returns c =
     let t = c .before .before in
     let a = t .before .before .before .args in
     sym (there-known (pair (a .low) (a .high)) (pairsIn (a .count) (a .list .now)) (c .enum-told .given .1) (t .find-spot .ensures))
-
-same-length-2 : tie.Need-same-length-2
-same-length-2 c = search needs
 
 returns-2 : tie.Need-returns-2
 returns-2 c =
@@ -51,12 +33,12 @@ pub insert-pair-spec : {M : Type 1} → statement M
 insert-pair-spec =
     tie.close
     (tie.spec
-    find-spot-requires
-    enum-told
-    enum-known-i
+    (λ c κs. search needs)
+    (λ c. search needs)
+    (λ c. search needs)
     put-pair-requires
-    add-result
-    same-length
+    (λ c. search needs)
+    (λ c. search needs)
     returns
-    same-length-2
+    (λ c. search needs)
     returns-2)

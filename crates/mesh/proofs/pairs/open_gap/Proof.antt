@@ -19,27 +19,6 @@ abbrev μ-loop : tie.MeasureT-loop
 loop-holds : tie.Need-loop-holds Inv-loop μ-loop
 loop-holds c = (omega arith, omega arith, refl, λ k h. refl, λ k h q. absurd (omega arith))
 
-sub-i : tie.Need-sub-i Inv-loop μ-loop
-sub-i c = omega arith
-
-mul-list : tie.Need-mul-list Inv-loop μ-loop
-mul-list c = omega arith
-
-slice-read-list : tie.Need-slice-read-list Inv-loop μ-loop
-slice-read-list c = omega arith
-
-add-list : tie.Need-add-list Inv-loop μ-loop
-add-list c = omega arith
-
-mul-list-2 : tie.Need-mul-list-2 Inv-loop μ-loop
-mul-list-2 c = omega arith
-
-slice-write-list : tie.Need-slice-write-list Inv-loop μ-loop
-slice-write-list c = omega arith
-
-loop-less : tie.Need-loop-less Inv-loop μ-loop
-loop-less c = omega arith
-
 loop-again : tie.Need-loop-again Inv-loop μ-loop
 loop-again c =
     let a = c .before .before .before .args in
@@ -70,13 +49,13 @@ open-gap-spec =
     Inv-loop
     μ-loop
     loop-holds
-    sub-i
-    mul-list
-    slice-read-list
-    add-list
-    mul-list-2
-    slice-write-list
-    loop-less
+    (λ c. omega arith)
+    (λ c. omega arith)
+    (λ c. omega arith)
+    (λ c. omega arith)
+    (λ c. omega arith)
+    (λ c. omega arith)
+    (λ c. omega arith)
     loop-again
     same-length
     returns)

@@ -8,22 +8,10 @@ use borrow.Author.Needs.{needs}
 use Rattle.mesh.proofs.triangles.add_triangle.Statement.{statement}
 use Rattle.mesh.proofs.triangles.add_triangle.Tie as tie
 
-differ-requires : tie.Need-differ-requires
-differ-requires c κs = search needs
-
 returns : tie.Need-returns
 returns c =
     let a = c .before .before .before .args in
     added-none (trianglesIn (a .count) (a .triangles .now)) (tri (a .a) (a .b) (a .c)) (sym (c .before .differ .ensures) ∙ not-true _ (c .if1 .taken))
-
-write-triangle-requires : tie.Need-write-triangle-requires
-write-triangle-requires c κs = search needs
-
-add-result : tie.Need-add-result
-add-result c = search needs
-
-same-length : tie.Need-same-length
-same-length c = search needs
 
 returns-2 : tie.Need-returns-2
 returns-2 c =
@@ -35,4 +23,4 @@ returns-2 c =
 pub add-triangle-spec : {M : Type 1} → statement M
 add-triangle-spec =
     tie.close
-    (tie.spec differ-requires returns write-triangle-requires add-result same-length returns-2)
+    (tie.spec (λ c κs. search needs) returns (λ c κs. search needs) (λ c. search needs) (λ c. search needs) returns-2)

@@ -8,9 +8,6 @@ use borrow.Author.Needs.{needs}
 use Rattle.mesh.proofs.triangles.build_cell.Statement.{statement}
 use Rattle.mesh.proofs.triangles.build_cell.Tie as tie
 
-cell-corners-requires : tie.Need-cell-corners-requires
-cell-corners-requires c κs = search needs
-
 add-triangle-requires : tie.Need-add-triangle-requires
 add-triangle-requires c κs =
     let t = c .before .before .before in
@@ -29,9 +26,6 @@ add-triangle-requires-2 c κs =
     let h = held-most (shapeOf (a .surface)) (2 * (a .u * a .surface .n + a .v) + 1) (d .add-triangle .result) (d .add-triangle .last .0) e in
     omega (arith, d .add-triangle .kept .0, cell-below {m = a .surface .m} {n = a .surface .n} {u = a .u} {v = a .v} (q .0 .1) (q .0 .2))
 
-same-length : tie.Need-same-length
-same-length c = search needs
-
 returns : tie.Need-returns
 returns c =
     let f = c .before .before in
@@ -46,8 +40,8 @@ pub build-cell-spec : {M : Type 1} → statement M
 build-cell-spec =
     tie.close
     (tie.spec
-    cell-corners-requires
+    (λ c κs. search needs)
     add-triangle-requires
     add-triangle-requires-2
-    same-length
+    (λ c. search needs)
     returns)

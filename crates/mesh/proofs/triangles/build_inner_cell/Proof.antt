@@ -24,9 +24,6 @@ room t =
     let h = held-most (shapeOf (a .surface)) (2 * (a .u * a .surface .n + a .v)) (a .count) (a .triangles .now) (t .pre .1 .1) in
     omega (arith, cell-below {m = a .surface .m} {n = a .surface .n} {u = a .u} {v = a .v} (omega arith) (omega arith))
 
-point-number-requires : tie.Need-point-number-requires
-point-number-requires c κs = omega arith
-
 add-i10 : tie.Need-add-i10
 add-i10 c = omega (arith, small (c .before .before) (c .point-number .ensures))
 
@@ -56,9 +53,6 @@ add-result : tie.Need-add-result
 add-result c =
     omega (arith, room (c .before .before .before .before .before .before .before .before .before .before))
 
-same-length : tie.Need-same-length
-same-length c = search needs
-
 returns : tie.Need-returns
 returns c =
     let z = c .before .before .write-triangle2 in
@@ -74,7 +68,7 @@ pub build-inner-cell-spec : {M : Type 1} → statement M
 build-inner-cell-spec =
     tie.close
     (tie.spec
-    point-number-requires
+    (λ c κs. omega arith)
     add-i10
     add-i10-2
     add-write-triangle
@@ -84,5 +78,5 @@ build-inner-cell-spec =
     add-write-triangle-4
     write-triangle-requires-2
     add-result
-    same-length
+    (λ c. search needs)
     returns)

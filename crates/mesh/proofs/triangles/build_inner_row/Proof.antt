@@ -17,9 +17,6 @@ Inv-loop surface u triangles₀ start last count₀ v₀ triangles count v =
 abbrev μ-loop : tie.MeasureT-loop
 μ-loop surface u triangles₀ start last count₀ v₀ triangles count v = surface .n - 1 - v
 
-sub-last : tie.Need-sub-last Inv-loop μ-loop
-sub-last c = omega arith
-
 loop-holds : tie.Need-loop-holds Inv-loop μ-loop
 loop-holds c =
     let t = c .before .before in
@@ -31,19 +28,10 @@ build-inner-cell-requires c κs =
     let t = c .before .before .before .before .before in
     ((t .pre .0 .0, t .pre .0 .1, omega arith), (omega arith, w .inv .1))
 
-add-v : tie.Need-add-v Inv-loop μ-loop
-add-v c = omega arith
-
-loop-less : tie.Need-loop-less Inv-loop μ-loop
-loop-less c = omega arith
-
 loop-again : tie.Need-loop-again Inv-loop μ-loop
 loop-again c =
     let b = c .before .before .build-inner-cell in
     (omega arith, b .ensures, omega (arith, b .kept .1 .1 .1 .0))
-
-same-length : tie.Need-same-length Inv-loop μ-loop
-same-length c = omega arith
 
 returns : tie.Need-returns Inv-loop μ-loop
 returns c =
@@ -58,11 +46,11 @@ build-inner-row-spec =
     (tie.spec
     Inv-loop
     μ-loop
-    sub-last
+    (λ c. omega arith)
     loop-holds
     build-inner-cell-requires
-    add-v
-    loop-less
+    (λ c. omega arith)
+    (λ c. omega arith)
     loop-again
-    same-length
+    (λ c. omega arith)
     returns)

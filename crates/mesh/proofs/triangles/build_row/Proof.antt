@@ -8,25 +8,16 @@ use borrow.Author.Needs.{needs}
 use Rattle.mesh.proofs.triangles.build_row.Statement.{statement}
 use Rattle.mesh.proofs.triangles.build_row.Tie as tie
 
-add-if1 : tie.Need-add-if1
-add-if1 c = search needs
-
 build-inner-row-requires : tie.Need-build-inner-row-requires
 build-inner-row-requires c κs =
     let t = c .before .before .before .before in
     ((t .pre .0 .0, c .before .if1 .taken), t .pre .1)
-
-sub-build-cell : tie.Need-sub-build-cell
-sub-build-cell c = search needs
 
 build-cell-requires : tie.Need-build-cell-requires
 build-cell-requires c κs =
     let r = c .before .before .before .before .build-inner-row in
     let t = c .before .before .before .before .before .before .before .before .before in
     ((t .pre .0 .0, t .pre .0 .1, omega (arith, t .pre .0 .0 .n-least)), (omega (arith, r .kept .1 .1 .0, t .pre .1 .0), r .ensures))
-
-same-length : tie.Need-same-length
-same-length c = search needs
 
 returns : tie.Need-returns
 returns c =
@@ -37,9 +28,6 @@ returns c =
 build-rule-row-requires : tie.Need-build-rule-row-requires
 build-rule-row-requires c κs = c .before .before .before .before .pre
 
-same-length-2 : tie.Need-same-length-2
-same-length-2 c = search needs
-
 returns-2 : tie.Need-returns-2
 returns-2 c = c .before .before .build-rule-row .ensures
 
@@ -47,12 +35,12 @@ pub build-row-spec : {M : Type 1} → statement M
 build-row-spec =
     tie.close
     (tie.spec
-    add-if1
+    (λ c. search needs)
     build-inner-row-requires
-    sub-build-cell
+    (λ c. search needs)
     build-cell-requires
-    same-length
+    (λ c. search needs)
     returns
     build-rule-row-requires
-    same-length-2
+    (λ c. search needs)
     returns-2)

@@ -28,19 +28,10 @@ build-cell-requires c κs =
     let t = c .before .before .before .before in
     ((t .pre .0 .0, t .pre .0 .1, omega arith), (omega arith, w .inv .1))
 
-add-v : tie.Need-add-v Inv-loop μ-loop
-add-v c = omega arith
-
-loop-less : tie.Need-loop-less Inv-loop μ-loop
-loop-less c = omega arith
-
 loop-again : tie.Need-loop-again Inv-loop μ-loop
 loop-again c =
     let b = c .before .before .build-cell in
     (omega arith, b .ensures, omega (arith, b .kept .1 .1 .1 .0))
-
-same-length : tie.Need-same-length Inv-loop μ-loop
-same-length c = omega arith
 
 returns : tie.Need-returns Inv-loop μ-loop
 returns c =
@@ -56,8 +47,8 @@ build-rule-row-spec =
     μ-loop
     loop-holds
     build-cell-requires
-    add-v
-    loop-less
+    (λ c. omega arith)
+    (λ c. omega arith)
     loop-again
-    same-length
+    (λ c. omega arith)
     returns)

@@ -21,9 +21,6 @@ Inv-loop surface triangles₀ starts₀ m count₀ u₀ triangles starts count u
 abbrev μ-loop : tie.MeasureT-loop
 μ-loop surface triangles₀ starts₀ m count₀ u₀ triangles starts count u = surface .m - u
 
-slice-write-starts : tie.Need-slice-write-starts Inv-loop μ-loop
-slice-write-starts c = omega arith
-
 loop-holds : tie.Need-loop-holds Inv-loop μ-loop
 loop-holds c =
     let t = c .before .before in
@@ -38,19 +35,10 @@ build-row-requires c κs =
     let t = c .before .before .before .before .before in
     ((t .pre .0 .0, omega arith), (omega arith, w .inv .1))
 
-add-u : tie.Need-add-u Inv-loop μ-loop
-add-u c = omega arith
-
-mul-starts : tie.Need-mul-starts Inv-loop μ-loop
-mul-starts c = omega arith
-
 slice-write-starts-2 : tie.Need-slice-write-starts-2 Inv-loop μ-loop
 slice-write-starts-2 c =
     let w = c .before .before .before .before .before .loop in
     omega (arith, w .inv .3, length-set (c .before .before .before .before .before .before .before .before .args .starts .now) 0 0)
-
-loop-less : tie.Need-loop-less Inv-loop μ-loop
-loop-less c = omega arith
 
 loop-again : tie.Need-loop-again Inv-loop μ-loop
 loop-again c =
@@ -67,9 +55,6 @@ loop-again c =
           (w .inv .4)
           (held-count s (2 * ((w .u + 1) * a .surface .n)) (b .result) (b .last .1 .1 .0) (b .ensures)),
     )
-
-same-length : tie.Need-same-length Inv-loop μ-loop
-same-length c = omega arith
 
 same-length-2 : tie.Need-same-length-2 Inv-loop μ-loop
 same-length-2 c =
@@ -88,14 +73,14 @@ build-triangles-spec =
     (tie.spec
     Inv-loop
     μ-loop
-    slice-write-starts
+    (λ c. omega arith)
     loop-holds
     build-row-requires
-    add-u
-    mul-starts
+    (λ c. omega arith)
+    (λ c. omega arith)
     slice-write-starts-2
-    loop-less
+    (λ c. omega arith)
     loop-again
-    same-length
+    (λ c. omega arith)
     same-length-2
     returns)

@@ -3,7 +3,7 @@ use Prim.Native.Nat.{_+_, _*_, _≤_}
 use mathlib.Core.Path.{_≡_, refl, sym, _∙_}
 use native.Mathlib.Omega.{arith}
 use lib.ListN.{length}
-use Rattle.path.proofs.Stores.{one-less, lanes, lanes-done, lanes-runs, four-turn}
+use Rattle.path.proofs.Stores.{Fewer, fewer, lanes, lanes-done, lanes-runs, four-turn}
 use Rattle.path.proofs.draw.draw_four.Statement.{statement}
 use Rattle.path.proofs.draw.draw_four.Tie as tie
 
@@ -15,58 +15,21 @@ Inv-loop grid first apart step count points₀ at width number₀ place₀ left�
 abbrev μ-loop : tie.MeasureT-loop
 μ-loop grid first apart step count points₀ at width number₀ place₀ left₀ points number place left = left
 
-mul-width : tie.Need-mul-width Inv-loop μ-loop
-mul-width c = omega arith
-
 loop-holds : tie.Need-loop-holds Inv-loop μ-loop
 loop-holds c = (refl, refl, refl, omega arith, refl)
 
-add-number1 : tie.Need-add-number1 Inv-loop μ-loop
-add-number1 c =
-    let t = c in
-    let l = t .before .loop in
-    let a = t .before .before .before .before .args in
-    omega (arith, one-less (l .left) (a .step) (t .loop-test .taken), t)
-
-add-number2 : tie.Need-add-number2 Inv-loop μ-loop
-add-number2 c =
-    let t = c in
-    let l = t .before .loop in
-    let a = t .before .before .before .before .args in
-    omega (arith, one-less (l .left) (a .step) (t .loop-test .taken), t)
-
-add-number3 : tie.Need-add-number3 Inv-loop μ-loop
-add-number3 c =
-    let t = c in
-    let l = t .before .loop in
-    let a = t .before .before .before .before .args in
-    omega (arith, one-less (l .left) (a .step) (t .loop-test .taken), t)
-
-add-place1 : tie.Need-add-place1 Inv-loop μ-loop
-add-place1 c = omega arith
-
-add-place2 : tie.Need-add-place2 Inv-loop μ-loop
-add-place2 c = omega arith
-
-add-place3 : tie.Need-add-place3 Inv-loop μ-loop
-add-place3 c = omega arith
+-- in a turn of the loop
+less : (t : tie.In-loop Inv-loop μ-loop) → Fewer 1 (t .before .loop .left) (t .before .before .before .before .args .step)
+less t = fewer 1 _ _ (t .loop-test .taken)
 
 point-at-requires : tie.Need-point-at-requires Inv-loop μ-loop
-point-at-requires c κs =
-    let t = c .before in
-    let l = t .before .loop in
-    let a = t .before .before .before .before .args in
-    omega (arith, one-less (l .left) (a .step) (t .loop-test .taken), t)
+point-at-requires c κs = let t = c .before in omega (arith, less t, t)
 
 put-requires : tie.Need-put-requires Inv-loop μ-loop
 put-requires c κs = omega (arith, c .before .before)
 
 point-at-requires-2 : tie.Need-point-at-requires-2 Inv-loop μ-loop
-point-at-requires-2 c κs =
-    let t = c .before .before .before .before .before .before in
-    let l = t .before .loop in
-    let a = t .before .before .before .before .args in
-    omega (arith, one-less (l .left) (a .step) (t .loop-test .taken), t)
+point-at-requires-2 c κs = let t = c .before .before .before .before .before .before in omega (arith, less t, t)
 
 put-requires-2 : tie.Need-put-requires-2 Inv-loop μ-loop
 put-requires-2 c κs = omega (arith, c .before .before .before .before .before .before .before)
@@ -74,9 +37,7 @@ put-requires-2 c κs = omega (arith, c .before .before .before .before .before .
 point-at-requires-3 : tie.Need-point-at-requires-3 Inv-loop μ-loop
 point-at-requires-3 c κs =
     let t = c .before .before .before .before .before .before .before .before .before .before .before in
-    let l = t .before .loop in
-    let a = t .before .before .before .before .args in
-    omega (arith, one-less (l .left) (a .step) (t .loop-test .taken), t)
+    omega (arith, less t, t)
 
 put-requires-3 : tie.Need-put-requires-3 Inv-loop μ-loop
 put-requires-3 c κs = omega (arith, c .before .before .before .before .before .before .before .before .before .before .before .before)
@@ -84,9 +45,7 @@ put-requires-3 c κs = omega (arith, c .before .before .before .before .before .
 point-at-requires-4 : tie.Need-point-at-requires-4 Inv-loop μ-loop
 point-at-requires-4 c κs =
     let t = c .before .before .before .before .before .before .before .before .before .before .before .before .before .before .before .before in
-    let l = t .before .loop in
-    let a = t .before .before .before .before .args in
-    omega (arith, one-less (l .left) (a .step) (t .loop-test .taken), t)
+    omega (arith, less t, t)
 
 put-requires-4 : tie.Need-put-requires-4 Inv-loop μ-loop
 put-requires-4 c κs = omega (arith, c .before .before .before .before .before .before .before .before .before .before .before .before .before .before .before .before .before)
@@ -94,9 +53,7 @@ put-requires-4 c κs = omega (arith, c .before .before .before .before .before .
 add-number : tie.Need-add-number Inv-loop μ-loop
 add-number c =
     let t = c .before .before .before .before .before .before .before .before .before .before .before .before .before .before .before .before .before .before .before .before in
-    let l = t .before .loop in
-    let a = t .before .before .before .before .args in
-    omega (arith, one-less (l .left) (a .step) (t .loop-test .taken), t)
+    omega (arith, less t, t)
 
 add-place : tie.Need-add-place Inv-loop μ-loop
 add-place c = omega (arith, c .before .before .before .before .before .before .before .before .before .before .before .before .before .before .before .before .before .before .before .before)
@@ -116,7 +73,7 @@ loop-again c =
     let t = u1 .before .before .before in
     let l = t .before .loop in
     let a = t .before .before .before .before .args in
-    let step = one-less (l .left) (a .step) (t .loop-test .taken) in (
+    let step = less t in (
       omega (arith, u1, u2, u3),
       omega (arith, t),
       omega (arith, t),
@@ -142,14 +99,14 @@ draw-four-spec =
     (tie.spec
     Inv-loop
     μ-loop
-    mul-width
+    (λ c. omega arith)
     loop-holds
-    add-number1
-    add-number2
-    add-number3
-    add-place1
-    add-place2
-    add-place3
+    (λ c. omega (arith, less c, c))
+    (λ c. omega (arith, less c, c))
+    (λ c. omega (arith, less c, c))
+    (λ c. omega arith)
+    (λ c. omega arith)
+    (λ c. omega arith)
     point-at-requires
     put-requires
     point-at-requires-2

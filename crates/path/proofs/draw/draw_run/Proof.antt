@@ -6,7 +6,7 @@ use lib.ListN.{length}
 use lib.Seq.{sets}
 use Rattle.path.specs.GridPaths.{coordinates}
 use Rattle.path.specs.Runs.{run}
-use Rattle.path.proofs.Stores.{one-less, run-turn, run-done}
+use Rattle.path.proofs.Stores.{Fewer, fewer, run-turn, run-done}
 use Rattle.path.proofs.draw.draw_run.Statement.{statement}
 use Rattle.path.proofs.draw.draw_run.Tie as tie
 
@@ -21,40 +21,23 @@ abbrev μ-loop : tie.MeasureT-loop
 loop-holds : tie.Need-loop-holds Inv-loop μ-loop
 loop-holds c = (refl, refl, refl, refl)
 
-point-at-requires : tie.Need-point-at-requires Inv-loop μ-loop
-point-at-requires c κs =
-    let t = c .before in
-    let l = t .before .loop in
-    let a = t .before .before .before .before .args in
-    omega (arith, one-less (l .left) (a .step) (t .loop-test .taken))
+-- in a turn of the loop
+less : (t : tie.In-loop Inv-loop μ-loop) → Fewer 1 (t .before .loop .left) (t .before .before .before .before .args .step)
+less t = fewer 1 _ _ (t .loop-test .taken)
 
-put-requires : tie.Need-put-requires Inv-loop μ-loop
-put-requires c κs = omega arith
+point-at-requires : tie.Need-point-at-requires Inv-loop μ-loop
+point-at-requires c κs = omega (arith, less (c .before))
 
 add-number : tie.Need-add-number Inv-loop μ-loop
-add-number c =
-    let t = c .before .before .before .before .before in
-    let l = t .before .loop in
-    let a = t .before .before .before .before .args in
-    omega (arith, one-less (l .left) (a .step) (t .loop-test .taken))
-
-add-place : tie.Need-add-place Inv-loop μ-loop
-add-place c = omega arith
-
-sub-left : tie.Need-sub-left Inv-loop μ-loop
-sub-left c = omega arith
-
-loop-less : tie.Need-loop-less Inv-loop μ-loop
-loop-less c = omega arith
+add-number c = omega (arith, less (c .before .before .before .before .before))
 
 loop-again : tie.Need-loop-again Inv-loop μ-loop
 loop-again c =
     let u = c .before .before in
     let t = u .before .before .before in
-    let l = t .before .loop in
-    let a = t .before .before .before .before .args in (
+    let l = t .before .loop in (
       omega arith,
-      omega (arith, one-less (l .left) (a .step) (t .loop-test .taken)),
+      omega (arith, less t),
       omega arith,
       l .inv .3 ∙ run-turn _ _ _ _ _ (l .left) (t .loop-test .taken) (u .before .point-at .ensures) (u .put .ensures),
     )
@@ -73,11 +56,11 @@ draw-run-spec =
     μ-loop
     loop-holds
     point-at-requires
-    put-requires
+    (λ c κs. omega arith)
     add-number
-    add-place
-    sub-left
-    loop-less
+    (λ c. omega arith)
+    (λ c. omega arith)
+    (λ c. omega arith)
     loop-again
     same-length
     returns)

@@ -7,7 +7,7 @@ use lib.ListN.{length}
 use lib.Seq.{sets}
 use Rattle.path.specs.GridPaths.{coordinates}
 use Rattle.path.specs.Runs.{runs}
-use Rattle.path.proofs.Stores.{fewer, one-less, runs-four, runs-turn, runs-done}
+use Rattle.path.proofs.Stores.{Fewer, fewer, runs-four, runs-turn, runs-done}
 use Rattle.path.proofs.draw.draw_runs.Statement.{statement}
 use Rattle.path.proofs.draw.draw_runs.Tie as tie
 
@@ -27,102 +27,61 @@ Inv-loop2 grid lines apart step count points₀ at width first₀ place₀ left�
 abbrev μ-loop2 : tie.MeasureT-loop2
 μ-loop2 grid lines apart step count points₀ at width first₀ place₀ left₀ points first place left = left
 
-mul-width : tie.Need-mul-width Inv-loop μ-loop Inv-loop2 μ-loop2
-mul-width c = omega arith
-
 loop-holds : tie.Need-loop-holds Inv-loop μ-loop Inv-loop2 μ-loop2
 loop-holds c = (refl, omega arith, refl, refl)
 
-draw-four-requires : tie.Need-draw-four-requires Inv-loop μ-loop Inv-loop2 μ-loop2
-draw-four-requires c κs =
-    let t = c .before in
-    let l = t .before .loop in
-    let a = t .before .before .before .before .args in
-    omega (arith, fewer 4 (l .left) (a .apart) (t .loop-test .taken), fewer 4 (l .left) (3 * a .count) (t .loop-test .taken))
+-- in a turn of either loop
+four-less : (t : tie.In-loop Inv-loop μ-loop Inv-loop2 μ-loop2) → Fewer 4 (t .before .loop .left) (t .before .before .before .before .args .apart) × Fewer 4 (t .before .loop .left) (3 * t .before .before .before .before .args .count)
+four-less t = (fewer 4 _ _ (t .loop-test .taken), fewer 4 _ _ (t .loop-test .taken))
 
-mul-first : tie.Need-mul-first Inv-loop μ-loop Inv-loop2 μ-loop2
-mul-first c = omega arith
+one-less : (t : tie.In-loop2 Inv-loop μ-loop Inv-loop2 μ-loop2) → Fewer 1 (t .before .loop2 .left) (t .before .before .before .before .before .before .args .apart) × Fewer 1 (t .before .loop2 .left) (3 * t .before .before .before .before .before .before .args .count)
+one-less t = (fewer 1 _ _ (t .loop2-test .taken), fewer 1 _ _ (t .loop2-test .taken))
+
+draw-four-requires : tie.Need-draw-four-requires Inv-loop μ-loop Inv-loop2 μ-loop2
+draw-four-requires c κs = omega (arith, four-less (c .before))
 
 add-first : tie.Need-add-first Inv-loop μ-loop Inv-loop2 μ-loop2
-add-first c =
-    let t = c .before .before .before .before in
-    let l = t .before .loop in
-    let a = t .before .before .before .before .args in
-    omega (arith, fewer 4 (l .left) (a .apart) (t .loop-test .taken), fewer 4 (l .left) (3 * a .count) (t .loop-test .taken))
+add-first c = omega (arith, four-less (c .before .before .before .before))
 
 mul-place : tie.Need-mul-place Inv-loop μ-loop Inv-loop2 μ-loop2
-mul-place c =
-    let t = c .before .before .before .before in
-    let l = t .before .loop in
-    let a = t .before .before .before .before .args in
-    omega (arith, fewer 4 (l .left) (a .apart) (t .loop-test .taken), fewer 4 (l .left) (3 * a .count) (t .loop-test .taken))
+mul-place c = omega (arith, four-less (c .before .before .before .before))
 
 add-place : tie.Need-add-place Inv-loop μ-loop Inv-loop2 μ-loop2
-add-place c =
-    let t = c .before .before .before .before in
-    let l = t .before .loop in
-    let a = t .before .before .before .before .args in
-    omega (arith, fewer 4 (l .left) (a .apart) (t .loop-test .taken), fewer 4 (l .left) (3 * a .count) (t .loop-test .taken))
-
-loop-less : tie.Need-loop-less Inv-loop μ-loop Inv-loop2 μ-loop2
-loop-less c = omega arith
+add-place c = omega (arith, four-less (c .before .before .before .before))
 
 loop-again : tie.Need-loop-again Inv-loop μ-loop Inv-loop2 μ-loop2
 loop-again c =
     let d = c .before .before in
     let t = d .before .before in
-    let l = t .before .loop in
-    let a = t .before .before .before .before .args in (
+    let l = t .before .loop in (
       omega arith,
-      omega (arith, fewer 4 (l .left) (a .apart) (t .loop-test .taken)),
-      omega (arith, fewer 4 (l .left) (3 * a .count) (t .loop-test .taken)),
-      l .inv .3 ∙ runs-four _ _ _ _ _ _ _ (l .left) (t .loop-test .taken) ∙ rw (sym (d .draw-four .ensures)),
+      omega (arith, four-less t),
+      omega (arith, four-less t),
+      l .inv .3 ∙ runs-four _ _ _ _ _ _ _ (l .left) (t .loop-test .taken) ∙ rw (← d .draw-four .ensures),
     )
 
 loop2-holds : tie.Need-loop2-holds Inv-loop μ-loop Inv-loop2 μ-loop2
 loop2-holds c = let l = c .before .loop in (refl, l .inv .1, l .inv .2, refl)
 
 draw-run-requires : tie.Need-draw-run-requires Inv-loop μ-loop Inv-loop2 μ-loop2
-draw-run-requires c κs =
-    let t = c .before in
-    let l = t .before .loop2 in
-    let a = t .before .before .before .before .before .before .args in
-    omega (arith, one-less (l .left) (a .apart) (t .loop2-test .taken), one-less (l .left) (3 * a .count) (t .loop2-test .taken), t)
+draw-run-requires c κs = let t = c .before in omega (arith, one-less t, t)
 
 add-first-2 : tie.Need-add-first-2 Inv-loop μ-loop Inv-loop2 μ-loop2
-add-first-2 c =
-    let t = c .before .before .before .before in
-    let l = t .before .loop2 in
-    let a = t .before .before .before .before .before .before .args in
-    omega (arith, one-less (l .left) (a .apart) (t .loop2-test .taken), one-less (l .left) (3 * a .count) (t .loop2-test .taken), t)
+add-first-2 c = let t = c .before .before .before .before in omega (arith, one-less t, t)
 
 add-place-2 : tie.Need-add-place-2 Inv-loop μ-loop Inv-loop2 μ-loop2
-add-place-2 c =
-    let t = c .before .before .before .before in
-    let l = t .before .loop2 in
-    let a = t .before .before .before .before .before .before .args in
-    omega (arith, one-less (l .left) (a .apart) (t .loop2-test .taken), one-less (l .left) (3 * a .count) (t .loop2-test .taken), t)
-
-sub-left : tie.Need-sub-left Inv-loop μ-loop Inv-loop2 μ-loop2
-sub-left c = omega arith
-
-loop2-less : tie.Need-loop2-less Inv-loop μ-loop Inv-loop2 μ-loop2
-loop2-less c = omega arith
+add-place-2 c = let t = c .before .before .before .before in omega (arith, one-less t, t)
 
 loop2-again : tie.Need-loop2-again Inv-loop μ-loop Inv-loop2 μ-loop2
 loop2-again c =
     let d = c .before .before in
     let t = d .before .before in
-    let l = t .before .loop2 in
-    let a = t .before .before .before .before .before .before .args in (
+    let l = t .before .loop2 in (
       omega arith,
-      omega (arith, one-less (l .left) (a .apart) (t .loop2-test .taken)),
-      omega (arith, one-less (l .left) (3 * a .count) (t .loop2-test .taken)),
-      l .inv .3 ∙ runs-turn _ _ _ _ _ _ _ (l .left) (t .loop2-test .taken) ∙ rw (sym (d .draw-run .ensures)),
+      omega (arith, one-less t),
+      omega (arith, one-less t),
+      l .inv .3 ∙ runs-turn _ _ _ _ _ _ _ (l .left) (t .loop2-test .taken) ∙ rw (← d .draw-run .ensures),
     )
-
-same-length : tie.Need-same-length Inv-loop μ-loop Inv-loop2 μ-loop2
-same-length c = omega arith
 
 returns : tie.Need-returns Inv-loop μ-loop Inv-loop2 μ-loop2
 returns c =
@@ -138,21 +97,21 @@ draw-runs-spec =
     μ-loop
     Inv-loop2
     μ-loop2
-    mul-width
+    (λ c. omega arith)
     loop-holds
     draw-four-requires
-    mul-first
+    (λ c. omega arith)
     add-first
     mul-place
     add-place
-    loop-less
+    (λ c. omega arith)
     loop-again
     loop2-holds
     draw-run-requires
     add-first-2
     add-place-2
-    sub-left
-    loop2-less
+    (λ c. omega arith)
+    (λ c. omega arith)
     loop2-again
-    same-length
+    (λ c. omega arith)
     returns)

@@ -8,32 +8,11 @@ use borrow.Author.Needs.{needs}
 use Rattle.path.proofs.draw.put.Statement.{statement}
 use Rattle.path.proofs.draw.put.Tie as tie
 
-mul-points : tie.Need-mul-points
-mul-points c = search needs
-
-slice-write-points : tie.Need-slice-write-points
-slice-write-points c = search needs
-
-add-points : tie.Need-add-points
-add-points c = search needs
-
-mul-points-2 : tie.Need-mul-points-2
-mul-points-2 c = search needs
-
 slice-write-points-2 : tie.Need-slice-write-points-2
 slice-write-points-2 c = simp length-set (omega arith)
 
-add-points-2 : tie.Need-add-points-2
-add-points-2 c = search needs
-
-mul-points-3 : tie.Need-mul-points-3
-mul-points-3 c = search needs
-
 slice-write-points-3 : tie.Need-slice-write-points-3
 slice-write-points-3 c = simp length-set (omega arith)
-
-same-length : tie.Need-same-length
-same-length c = search needs
 
 returns : tie.Need-returns
 unfolding coordinates
@@ -47,13 +26,13 @@ pub put-spec : {M : Type 1} → statement M
 put-spec =
     tie.close
     (tie.spec
-    mul-points
-    slice-write-points
-    add-points
-    mul-points-2
+    (λ c. search needs)
+    (λ c. search needs)
+    (λ c. search needs)
+    (λ c. search needs)
     slice-write-points-2
-    add-points-2
-    mul-points-3
+    (λ c. search needs)
+    (λ c. search needs)
     slice-write-points-3
-    same-length
+    (λ c. search needs)
     returns)

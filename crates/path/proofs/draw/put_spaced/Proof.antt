@@ -5,7 +5,7 @@ use native.Mathlib.Omega.{arith}
 use lib.ListN.{length, length-set}
 use lib.Seq.{sets}
 use Rattle.path.specs.Runs.{spaced}
-use Rattle.path.proofs.Stores.{one-less, spaced-turn, spaced-done}
+use Rattle.path.proofs.Stores.{fewer, spaced-turn, spaced-done}
 use Rattle.path.proofs.draw.put_spaced.Statement.{statement}
 use Rattle.path.proofs.draw.put_spaced.Tie as tie
 
@@ -20,31 +20,16 @@ abbrev μ-loop : tie.MeasureT-loop
 loop-holds : tie.Need-loop-holds Inv-loop μ-loop
 loop-holds c = (refl, refl, refl, refl)
 
-mul-starts : tie.Need-mul-starts Inv-loop μ-loop
-mul-starts c = omega arith
-
-slice-write-starts : tie.Need-slice-write-starts Inv-loop μ-loop
-slice-write-starts c = omega arith
-
 add-number : tie.Need-add-number Inv-loop μ-loop
 add-number c =
     let l = c .before .loop in
-    omega (arith, one-less (l .left) (c .before .before .args .step) (c .loop-test .taken))
-
-add-place : tie.Need-add-place Inv-loop μ-loop
-add-place c = omega arith
-
-sub-left : tie.Need-sub-left Inv-loop μ-loop
-sub-left c = omega arith
-
-loop-less : tie.Need-loop-less Inv-loop μ-loop
-loop-less c = omega arith
+    omega (arith, fewer 1 (l .left) (c .before .before .args .step) (c .loop-test .taken))
 
 loop-again : tie.Need-loop-again Inv-loop μ-loop
 loop-again c =
     let l = c .before .loop in (
       simp length-set (l .inv .0),
-      omega (arith, one-less (l .left) (c .before .before .args .step) (c .loop-test .taken)),
+      omega (arith, fewer 1 (l .left) (c .before .before .args .step) (c .loop-test .taken)),
       omega arith,
       l .inv .3 ∙ spaced-turn _ _ _ _ (l .left) (c .loop-test .taken),
     )
@@ -62,12 +47,12 @@ put-spaced-spec =
     Inv-loop
     μ-loop
     loop-holds
-    mul-starts
-    slice-write-starts
+    (λ c. omega arith)
+    (λ c. omega arith)
     add-number
-    add-place
-    sub-left
-    loop-less
+    (λ c. omega arith)
+    (λ c. omega arith)
+    (λ c. omega arith)
     loop-again
     same-length
     returns)

@@ -6,12 +6,6 @@ use borrow.Author.Needs.{needs}
 use Rattle.path.proofs.draw.starts.Statement.{statement}
 use Rattle.path.proofs.draw.starts.Tie as tie
 
-add-us : tie.Need-add-us
-add-us c = search needs
-
-add-vs : tie.Need-add-vs
-add-vs c = search needs
-
 put-spaced-requires : tie.Need-put-spaced-requires
 put-spaced-requires c κs = let s = c .before .before in omega (arith, points-most (s .args .m) (s .args .n) (s .pre .0) (s .pre .1))
 
@@ -20,15 +14,6 @@ mul-put-spaced c = let s = c .before .before .before .before .before .before in 
 
 put-spaced-requires-2 : tie.Need-put-spaced-requires-2
 put-spaced-requires-2 c κs = let s = c .before .before .before .before .before .before in omega (arith, points-most (s .args .m) (s .args .n) (s .pre .0) (s .pre .1))
-
-add-zero-numbers : tie.Need-add-zero-numbers
-add-zero-numbers c = search needs
-
-zero-numbers-requires : tie.Need-zero-numbers-requires
-zero-numbers-requires c κs = search needs
-
-same-length : tie.Need-same-length
-same-length c = search needs
 
 returns : tie.Need-returns
 returns c =
@@ -42,12 +27,12 @@ pub starts-spec : {M : Type 1} → statement M
 starts-spec =
     tie.close
     (tie.spec
-    add-us
-    add-vs
+    (λ c. search needs)
+    (λ c. search needs)
     put-spaced-requires
     mul-put-spaced
     put-spaced-requires-2
-    add-zero-numbers
-    zero-numbers-requires
-    same-length
+    (λ c. search needs)
+    (λ c κs. search needs)
+    (λ c. search needs)
     returns)

@@ -5,29 +5,11 @@ use borrow.Author.Needs.{needs}
 use Rattle.texture.proofs.plan.plan.Statement.{statement}
 use Rattle.texture.proofs.plan.plan.Tie as tie
 
-steps-fit-requires : tie.Need-steps-fit-requires
-steps-fit-requires c κs = search needs
-
 returns : tie.Need-returns
 returns c = plan-steps _ _ _ (c .before .steps-fit .ensures) (not-true _ (c .if1 .taken))
 
-texture-fits-requires : tie.Need-texture-fits-requires
-texture-fits-requires c κs = search needs
-
 returns-2 : tie.Need-returns-2
 returns-2 c = let e = c .before .before in plan-texture _ _ _ (e .before .steps-fit .ensures) (not-false _ (e .if1 .left)) (c .before .texture-fits .ensures) (not-true _ (c .if2 .taken))
-
-rays-requires : tie.Need-rays-requires
-rays-requires c κs = search needs
-
-samples-per-ray-requires : tie.Need-samples-per-ray-requires
-samples-per-ray-requires c κs = search needs
-
-to-usize-requires : tie.Need-to-usize-requires
-to-usize-requires c κs = search needs
-
-to-usize-requires-2 : tie.Need-to-usize-requires-2
-to-usize-requires-2 c κs = search needs
 
 returns-3 : tie.Need-returns-3
 returns-3 c =
@@ -47,13 +29,13 @@ pub plan-spec : {M : Type 1} → statement M
 plan-spec =
     tie.close
     (tie.spec
-    steps-fit-requires
+    (λ c κs. search needs)
     returns
-    texture-fits-requires
+    (λ c κs. search needs)
     returns-2
-    rays-requires
-    samples-per-ray-requires
-    to-usize-requires
-    to-usize-requires-2
+    (λ c κs. search needs)
+    (λ c κs. search needs)
+    (λ c κs. search needs)
+    (λ c κs. search needs)
     returns-3
     returns-4)

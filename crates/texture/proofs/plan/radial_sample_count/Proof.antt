@@ -5,19 +5,10 @@ use borrow.Author.Needs.{needs}
 use Rattle.texture.proofs.plan.radial_sample_count.Statement.{statement}
 use Rattle.texture.proofs.plan.radial_sample_count.Tie as tie
 
-abs-requires : tie.Need-abs-requires
-abs-requires c κs = search needs
-
-texture-radius-requires : tie.Need-texture-radius-requires
-texture-radius-requires c κs = search needs
-
-steps-along-requires : tie.Need-steps-along-requires
-steps-along-requires c κs = search needs
-
 returns : tie.Need-returns
 unfolding radialSampleCount tau
 returns c = cc
 
 pub radial-sample-count-spec : {M : Type 1} → statement M
 radial-sample-count-spec =
-    tie.close (tie.spec abs-requires texture-radius-requires steps-along-requires returns)
+    tie.close (tie.spec (λ c κs. search needs) (λ c κs. search needs) (λ c κs. search needs) returns)

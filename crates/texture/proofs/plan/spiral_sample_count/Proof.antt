@@ -5,19 +5,10 @@ use borrow.Author.Needs.{needs}
 use Rattle.texture.proofs.plan.spiral_sample_count.Statement.{statement}
 use Rattle.texture.proofs.plan.spiral_sample_count.Tie as tie
 
-texture-radius-requires : tie.Need-texture-radius-requires
-texture-radius-requires c κs = search needs
-
-spiral-turns-requires : tie.Need-spiral-turns-requires
-spiral-turns-requires c κs = search needs
-
-steps-along-requires : tie.Need-steps-along-requires
-steps-along-requires c κs = search needs
-
 returns : tie.Need-returns
 unfolding spiralSampleCount tau
 returns c = cc
 
 pub spiral-sample-count-spec : {M : Type 1} → statement M
 spiral-sample-count-spec =
-    tie.close (tie.spec texture-radius-requires spiral-turns-requires steps-along-requires returns)
+    tie.close (tie.spec (λ c κs. search needs) (λ c κs. search needs) (λ c κs. search needs) returns)

@@ -4,15 +4,9 @@ use borrow.Author.Needs.{needs}
 use Rattle.texture.proofs.plan.steps_along.Statement.{statement}
 use Rattle.texture.proofs.plan.steps_along.Tie as tie
 
-clamp-requires : tie.Need-clamp-requires
-clamp-requires c κs = search needs
-
-up-from-requires : tie.Need-up-from-requires
-up-from-requires c κs = search needs
-
 returns : tie.Need-returns
 unfolding stepsAlong
 returns c = cc
 
 pub steps-along-spec : {M : Type 1} → statement M
-steps-along-spec = tie.close (tie.spec clamp-requires up-from-requires returns)
+steps-along-spec = tie.close (tie.spec (λ c κs. search needs) (λ c κs. search needs) returns)

@@ -5,15 +5,9 @@ use borrow.Author.Needs.{needs}
 use Rattle.texture.proofs.plan.swirl_rays.Statement.{statement}
 use Rattle.texture.proofs.plan.swirl_rays.Tie as tie
 
-texture-radius-requires : tie.Need-texture-radius-requires
-texture-radius-requires c κs = search needs
-
-up-from-requires : tie.Need-up-from-requires
-up-from-requires c κs = search needs
-
 returns : tie.Need-returns
 unfolding swirlRays tau
 returns c = cc
 
 pub swirl-rays-spec : {M : Type 1} → statement M
-swirl-rays-spec = tie.close (tie.spec texture-radius-requires up-from-requires returns)
+swirl-rays-spec = tie.close (tie.spec (λ c κs. search needs) (λ c κs. search needs) returns)

@@ -5,18 +5,9 @@ use borrow.Author.Needs.{needs}
 use Rattle.texture.proofs.plan.texture_radius.Statement.{statement}
 use Rattle.texture.proofs.plan.texture_radius.Tie as tie
 
-to-f64-requires : tie.Need-to-f64-requires
-to-f64-requires c κs = search needs
-
-to-f64-requires-2 : tie.Need-to-f64-requires-2
-to-f64-requires-2 c κs = search needs
-
-max-requires : tie.Need-max-requires
-max-requires c κs = search needs
-
 returns : tie.Need-returns
 unfolding textureRadius sqrt2
 returns c = cc
 
 pub texture-radius-spec : {M : Type 1} → statement M
-texture-radius-spec = tie.close (tie.spec to-f64-requires to-f64-requires-2 max-requires returns)
+texture-radius-spec = tie.close (tie.spec (λ c κs. search needs) (λ c κs. search needs) (λ c κs. search needs) returns)

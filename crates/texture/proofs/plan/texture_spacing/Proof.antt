@@ -5,9 +5,6 @@ use borrow.Author.Needs.{needs}
 use Rattle.texture.proofs.plan.texture_spacing.Statement.{statement}
 use Rattle.texture.proofs.plan.texture_spacing.Tie as tie
 
-is-finite-requires : tie.Need-is-finite-requires
-is-finite-requires c κs = search needs
-
 returns : tie.Need-returns
 unfolding textureSpacing eps
 returns c = simp (← c .before .is-finite .ensures, c .if1 .taken)
@@ -17,4 +14,4 @@ unfolding textureSpacing eps
 returns-2 c = simp (← c .before .is-finite .ensures, c .if1 .left)
 
 pub texture-spacing-spec : {M : Type 1} → statement M
-texture-spacing-spec = tie.close (tie.spec is-finite-requires returns returns-2)
+texture-spacing-spec = tie.close (tie.spec (λ c κs. search needs) returns returns-2)

@@ -4,26 +4,11 @@ use borrow.Author.Needs.{needs}
 use Rattle.texture.proofs.sample.angle.Statement.{statement}
 use Rattle.texture.proofs.sample.angle.Tie as tie
 
-plan-requires : tie.Need-plan-requires
-plan-requires c κs = search needs
-
-enum-known-rays : tie.Need-enum-known-rays
-enum-known-rays c = search needs
-
-base-angle-requires : tie.Need-base-angle-requires
-base-angle-requires c κs = search needs
-
-turn-requires : tie.Need-turn-requires
-turn-requires c κs = search needs
-
 returns : tie.Need-returns
 returns c =
     let k = c .before .before .before in
     let r = k .before in
     angle-ok _ _ _ _ _ (r .before .before .plan .ensures) (r .rays .given .1) (c .before .before .if1 .taken) (c .before .base-angle .ensures) (c .turn .ensures)
-
-enum-known-k : tie.Need-enum-known-k
-enum-known-k c = search needs
 
 returns-2 : tie.Need-returns-2
 returns-2 c =
@@ -39,11 +24,11 @@ pub angle-spec : {M : Type 1} → statement M
 angle-spec =
     tie.close
     (tie.spec
-    plan-requires
-    enum-known-rays
-    base-angle-requires
-    turn-requires
+    (λ c κs. search needs)
+    (λ c. search needs)
+    (λ c κs. search needs)
+    (λ c κs. search needs)
     returns
-    enum-known-k
+    (λ c. search needs)
     returns-2
     returns-3)

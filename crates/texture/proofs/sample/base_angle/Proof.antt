@@ -4,12 +4,9 @@ use borrow.Author.Needs.{needs}
 use Rattle.texture.proofs.sample.base_angle.Statement.{statement}
 use Rattle.texture.proofs.sample.base_angle.Tie as tie
 
-part-requires : tie.Need-part-requires
-part-requires c κs = search needs
-
 returns : tie.Need-returns
 unfolding tau
 returns c = cc
 
 pub base-angle-spec : {M : Type 1} → statement M
-base-angle-spec = tie.close (tie.spec part-requires returns)
+base-angle-spec = tie.close (tie.spec (λ c κs. search needs) returns)

@@ -3,14 +3,8 @@ use borrow.Author.Needs.{needs}
 use Rattle.texture.proofs.sample.direction_fits.Statement.{statement}
 use Rattle.texture.proofs.sample.direction_fits.Tie as tie
 
-at-most-requires : tie.Need-at-most-requires
-at-most-requires c κs = search needs
-
-at-most-requires-2 : tie.Need-at-most-requires-2
-at-most-requires-2 c κs = search needs
-
 returns : tie.Need-returns
 returns c = cc
 
 pub direction-fits-spec : {M : Type 1} → statement M
-direction-fits-spec = tie.close (tie.spec at-most-requires at-most-requires-2 returns)
+direction-fits-spec = tie.close (tie.spec (λ c κs. search needs) (λ c κs. search needs) returns)

@@ -4,17 +4,8 @@ use borrow.Author.Needs.{needs}
 use Rattle.texture.proofs.sample.point.Statement.{statement}
 use Rattle.texture.proofs.sample.point.Tie as tie
 
-distance-requires : tie.Need-distance-requires
-distance-requires c κs = search needs
-
-centre-requires : tie.Need-centre-requires
-centre-requires c κs = search needs
-
-centre-requires-2 : tie.Need-centre-requires-2
-centre-requires-2 c κs = search needs
-
 returns : tie.Need-returns
 returns c = point-is _ _ _ _ _ _ _ (c .before .before .distance .ensures) (c .before .centre .ensures) (c .centre2 .ensures)
 
 pub point-spec : {M : Type 1} → statement M
-point-spec = tie.close (tie.spec distance-requires centre-requires centre-requires-2 returns)
+point-spec = tie.close (tie.spec (λ c κs. search needs) (λ c κs. search needs) (λ c κs. search needs) returns)

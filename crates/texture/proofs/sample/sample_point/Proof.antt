@@ -5,31 +5,16 @@ use borrow.Author.Needs.{needs}
 use Rattle.texture.proofs.sample.sample_point.Statement.{statement}
 use Rattle.texture.proofs.sample.sample_point.Tie as tie
 
-plan-requires : tie.Need-plan-requires
-plan-requires c κs = search needs
-
-enum-known-rays : tie.Need-enum-known-rays
-enum-known-rays c = search needs
-
-direction-fits-requires : tie.Need-direction-fits-requires
-direction-fits-requires c κs = search needs
-
 returns : tie.Need-returns
 returns c =
     let r = c .before .before .before in
     point-direction _ _ _ _ _ (r .before .before .plan .ensures) (r .rays .given .1) _ _ (c .before .direction-fits .ensures) (not-true _ (c .if1 .taken))
-
-point-requires : tie.Need-point-requires
-point-requires c κs = search needs
 
 returns-2 : tie.Need-returns-2
 returns-2 c =
     let e = c .before .before in
     let r = e .before .before .before in
     point-ok _ _ _ _ _ (r .before .before .plan .ensures) (r .rays .given .1) _ _ (e .before .direction-fits .ensures) (not-false _ (e .if1 .left)) (c .before .if2 .taken) (c .point .ensures)
-
-enum-known-k : tie.Need-enum-known-k
-enum-known-k c = search needs
 
 returns-3 : tie.Need-returns-3
 returns-3 c =
@@ -46,12 +31,12 @@ pub sample-point-spec : {M : Type 1} → statement M
 sample-point-spec =
     tie.close
     (tie.spec
-    plan-requires
-    enum-known-rays
-    direction-fits-requires
+    (λ c κs. search needs)
+    (λ c. search needs)
+    (λ c κs. search needs)
     returns
-    point-requires
+    (λ c κs. search needs)
     returns-2
-    enum-known-k
+    (λ c. search needs)
     returns-3
     returns-4)

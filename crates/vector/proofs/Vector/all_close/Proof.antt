@@ -6,29 +6,17 @@ use Rattle.vector.proofs.Close.{apart-first, apart-second, apart-third,
 use Rattle.vector.proofs.Vector.all_close.Statement.{statement}
 use Rattle.vector.proofs.Vector.all_close.Tie as tie
 
-sub-requires : tie.Need-sub-requires
-sub-requires c κs = search needs
-
-apart-requires : tie.Need-apart-requires
-apart-requires c κs = search needs
-
 returns : tie.Need-returns
 returns c =
     let s = c .before .before in
     let a = s .before .args in
     apart-first (a .self) (a .other) (s .sub .result) (s .sub .ensures) (not-true _ (sym (c .before .apart .ensures) ∙ c .if1 .taken))
 
-apart-requires-2 : tie.Need-apart-requires-2
-apart-requires-2 c κs = search needs
-
 returns-2 : tie.Need-returns-2
 returns-2 c =
     let s = c .before .before .before .before in
     let a = s .before .args in
     apart-second (a .self) (a .other) (s .sub .result) (s .sub .ensures) (not-true _ (sym (c .before .apart2 .ensures) ∙ c .if2 .taken))
-
-apart-requires-3 : tie.Need-apart-requires-3
-apart-requires-3 c κs = search needs
 
 returns-3 : tie.Need-returns-3
 returns-3 c =
@@ -52,11 +40,11 @@ pub all-close-spec : {M : Type 1} → statement M
 all-close-spec =
     tie.close
     (tie.spec
-    sub-requires
-    apart-requires
+    (λ c κs. search needs)
+    (λ c κs. search needs)
     returns
-    apart-requires-2
+    (λ c κs. search needs)
     returns-2
-    apart-requires-3
+    (λ c κs. search needs)
     returns-3
     returns-4)

@@ -2,35 +2,21 @@
 use native.Mathlib.Omega.{arith}
 use mathlib.Core.Path.{sym}
 use borrow.Author.Needs.{needs}
-use Rattle.cyclic.proofs.Mappings.{forward-zero, forward-other, usable-as}
+use Rattle.cyclic.specs.declared.mapping.CyclicMapping.the-variants.{Forward}
+use Rattle.cyclic.specs.Mapping.{HasIndex}
+use Rattle.cyclic.proofs.Mappings.{forward-zero, forward-other, has-index-as}
 use Rattle.cyclic.proofs.mapping.CyclicMapping.image.Statement.{statement}
 use Rattle.cyclic.proofs.mapping.CyclicMapping.image.Tie as tie
 
-enum-known-self : tie.Need-enum-known-self
-enum-known-self c = search needs
+-- forward, at an offset other than 0
+there : (c : tie.Else1) → HasIndex (Forward (c .before .before .self .given .0 .0) (c .before .before .self .given .0 .1 .0)) (c .before .before .before .before .args .a-idx)
+there c = let s = c .before .before in has-index-as _ (s .self .given .1) (s .before .before .pre)
 
 returns : tie.Need-returns
 returns c = rw (c .before .before .self .given .1) (sym (forward-zero _ _ _ (c .if1 .taken)))
 
-add-result : tie.Need-add-result
-add-result c =
-    let s = c .before .before in
-    let a = s .before .before in
-    let u = usable-as (a .args .a-idx) (s .self .given .1) (a .pre) in
-    omega arith
-
-rem-result : tie.Need-rem-result
-rem-result c =
-    let s = c .before .before in
-    let a = s .before .before in
-    let u = usable-as (a .args .a-idx) (s .self .given .1) (a .pre) in
-    omega arith
-
-enum-known-self-2 : tie.Need-enum-known-self-2
-enum-known-self-2 c = search needs
-
 reversed-requires : tie.Need-reversed-requires
-reversed-requires c κs = usable-as (c .before .before .before .args .a-idx) (c .before .self2 .given .1) (c .before .before .before .pre)
+reversed-requires c κs = has-index-as (c .before .before .before .args .a-idx) (c .before .self2 .given .1) (c .before .before .before .pre)
 
 returns-2 : tie.Need-returns-2
 returns-2 c = rw (c .before .before .self .given .1) (sym (forward-other _ _ _ (c .if1 .left)))
@@ -42,11 +28,11 @@ pub image-spec : {M : Type 1} → statement M
 image-spec =
     tie.close
     (tie.spec
-    enum-known-self
+    (λ c. search needs)
     returns
-    add-result
-    rem-result
-    enum-known-self-2
+    (λ c. omega (arith, there c))
+    (λ c. omega (arith, there c))
+    (λ c. search needs)
     reversed-requires
     returns-2
     returns-3)

@@ -7,9 +7,6 @@ use Rattle.cyclic.proofs.Mappings.{usable-known}
 use Rattle.cyclic.proofs.mapping.CyclicMapping.map_index.Statement.{statement}
 use Rattle.cyclic.proofs.mapping.CyclicMapping.map_index.Tie as tie
 
-usable-requires : tie.Need-usable-requires
-usable-requires c κs = search needs
-
 image-requires : tie.Need-image-requires
 image-requires c κs = usable-known (c .before .before .args .self) (c .before .before .args .a-idx) (sym (c .before .usable .ensures) ∙ c .if1 .taken)
 
@@ -22,4 +19,4 @@ unfolding mapIndex
 returns-2 c = rw (sym (c .before .usable .ensures) ∙ c .if1 .left)
 
 pub map-index-spec : {M : Type 1} → statement M
-map-index-spec = tie.close (tie.spec usable-requires image-requires returns returns-2)
+map-index-spec = tie.close (tie.spec (λ c κs. search needs) image-requires returns returns-2)

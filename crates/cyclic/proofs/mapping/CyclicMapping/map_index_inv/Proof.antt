@@ -7,9 +7,6 @@ use Rattle.cyclic.proofs.Mappings.{usable-known}
 use Rattle.cyclic.proofs.mapping.CyclicMapping.map_index_inv.Statement.{statement}
 use Rattle.cyclic.proofs.mapping.CyclicMapping.map_index_inv.Tie as tie
 
-usable-requires : tie.Need-usable-requires
-usable-requires c κs = search needs
-
 inverse-requires : tie.Need-inverse-requires
 inverse-requires c κs = usable-known (c .before .before .args .self) (c .before .before .args .b-idx) (sym (c .before .usable .ensures) ∙ c .if1 .taken)
 
@@ -22,4 +19,4 @@ unfolding mapIndexInv
 returns-2 c = rw (sym (c .before .usable .ensures) ∙ c .if1 .left)
 
 pub map-index-inv-spec : {M : Type 1} → statement M
-map-index-inv-spec = tie.close (tie.spec usable-requires inverse-requires returns returns-2)
+map-index-inv-spec = tie.close (tie.spec (λ c κs. search needs) inverse-requires returns returns-2)

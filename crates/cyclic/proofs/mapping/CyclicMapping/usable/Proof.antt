@@ -1,36 +1,21 @@
 -- `cyclic::mapping::CyclicMapping::usable` meets its contract: each variant hands over its offset and steps. Assumes nothing.
-use mathlib.Core.Path.{sym, ap, _∙_}
 use borrow.Author.Needs.{needs}
-use Rattle.cyclic.specs.declared.mapping.CyclicMapping.{CyclicMapping}
-use Rattle.cyclic.specs.Mapping.{usable}
 use Rattle.cyclic.proofs.mapping.CyclicMapping.usable.Statement.{statement}
 use Rattle.cyclic.proofs.mapping.CyclicMapping.usable.Tie as tie
 
-enum-known-self : tie.Need-enum-known-self
-enum-known-self c = search needs
-
-in-rows-requires : tie.Need-in-rows-requires
-in-rows-requires c κs = search needs
-
-enum-known-self-2 : tie.Need-enum-known-self-2
-enum-known-self-2 c = search needs
-
-in-rows-requires-2 : tie.Need-in-rows-requires-2
-in-rows-requires-2 c κs = search needs
-
 returns : tie.Need-returns
-returns c = c .in-rows .ensures ∙ ap (λ (m : CyclicMapping). usable m (c .before .before .before .before .args .index)) (sym (c .before .before .self .given .1))
+returns c = rw (c .before .before .self .given .1) (c .in-rows .ensures)
 
 returns-2 : tie.Need-returns-2
-returns-2 c = c .in-rows2 .ensures ∙ ap (λ (m : CyclicMapping). usable m (c .before .before .before .before .args .index)) (sym (c .before .before .self2 .given .1))
+returns-2 c = rw (c .before .before .self2 .given .1) (c .in-rows2 .ensures)
 
 pub usable-spec : {M : Type 1} → statement M
 usable-spec =
     tie.close
     (tie.spec
-    enum-known-self
-    in-rows-requires
-    enum-known-self-2
-    in-rows-requires-2
+    (λ c. search needs)
+    (λ c κs. search needs)
+    (λ c. search needs)
+    (λ c κs. search needs)
     returns
     returns-2)

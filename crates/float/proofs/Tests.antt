@@ -1,0 +1,26 @@
+-- What the tests of code say: a comparison under `!`, two joined by `&`, one whose other answer cannot be, and what is picked by one. Assumes nothing.
+use mathlib.Core.Path.{_≡_, refl, sym, _∙_}
+use mathlib.Core.Bool.{Bool, true, false, not, _&&_, cond, and-eq-true-iff}
+use borrow.Author.Tests.{not-true, not-false}
+
+-- r is the answer x of a call
+pub held : {r x : Bool} → r ≡ x → not r ≡ false → x ≡ true
+held e h = sym e ∙ not-false _ h
+
+pub failed : {r x : Bool} → r ≡ x → not r ≡ true → x ≡ false
+failed e h = sym e ∙ not-true _ h
+
+pub and-both : (a b : Bool) → a && b ≡ true → (a ≡ true) × (b ≡ true)
+and-both a b = and-eq-true-iff a b .0
+
+pub must : (t : Bool) → (t ≡ false → ⊥) → t ≡ true
+must true f = refl
+must false f = absurd (f refl)
+
+pub cannot : (t : Bool) → (t ≡ true → ⊥) → t ≡ false
+cannot true f = absurd (f refl)
+cannot false f = refl
+
+pub cond-keeps : {A : Type 0} (P : A → Type 0) (t : Bool) (a b : A) → P a → P b → P (cond t a b)
+cond-keeps P true a b p q = p
+cond-keeps P false a b p q = q
