@@ -4,11 +4,9 @@ use mathlib.Core.Path.{_≡_, ap, _∙_}
 use mathlib.Core.List.{List}
 use lib.Ieee.{Float}
 use Rattle.path.specs.declared.GridPathsAnswer.{GridPathsAnswer}
-use Rattle.path.specs.GridPaths.{GridPaths, statedPaths}
-use Rattle.path.specs.GridPaths.{Leaves as PathLeaves}
+use Rattle.path.specs.GridPaths.{GridPaths, statedPaths, Leaves as PathLeaves}
 use Rattle.mesh.specs.declared.Triangulation.{Triangulation}
-use Rattle.mesh.specs.Mesh.{Handed, statedTriangulation}
-use Rattle.mesh.specs.Mesh.{Hands as MeshHands}
+use Rattle.mesh.specs.Mesh.{Handed, statedTriangulation, Hands as MeshHands}
 use Rattle.trace.specs.declared.page.Trace.{Trace}
 use Rattle.trace.specs.Trace.{Traced, statedTrace, Traces}
 use Rattle.exports.specs.declared.lines.PathsAnswer.{PathsAnswer}
