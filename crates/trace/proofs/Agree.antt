@@ -20,7 +20,7 @@ use Rattle.refusal.specs.declared.Refusal.the-variants.{Full}
 use Rattle.lent.specs.Lent.{zeroFloat, filled, zeroedFrom}
 use Rattle.lent.proofs.Laws.{zeroed-filled}
 use Rattle.edges.specs.Param.{pick}
-use Rattle.trace.specs.declared.crossing.Crossing.{Crossing}
+use Rattle.crossing.specs.declared.Crossing.{Crossing}
 use Rattle.trace.specs.declared.page.Pen.{Pen}
 use Rattle.edges.specs.Events.{sortedEdgeEvents}
 use Rattle.edges.specs.declared.event.EdgeEvent.{EdgeEvent}

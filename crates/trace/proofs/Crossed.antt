@@ -10,13 +10,13 @@ use Rattle.refusal.specs.declared.Refusal.the-variants as refusals
 use Rattle.edges.specs.Param.{pick, lerp, paramInBounds}
 use Rattle.edges.specs.declared.point.ParamPoint.{ParamPoint}
 use Rattle.edges.specs.declared.event.EdgeEvent.{EdgeEvent}
-use Rattle.trace.specs.declared.crossing.Crossing.{Crossing}
-use Rattle.trace.specs.declared.crossing.EdgePoint.{EdgePoint}
-use Rattle.trace.specs.declared.crossing.EdgePoint.the-variants.{On, NoStep}
+use Rattle.crossing.specs.declared.Crossing.{Crossing}
+use Rattle.crossing.specs.declared.EdgePoint.{EdgePoint}
+use Rattle.crossing.specs.declared.EdgePoint.the-variants.{On, NoStep}
 use Rattle.trace.specs.declared.page.Pen.{Pen}
 use Rattle.trace.specs.declared.page.Penned.{Penned}
 use Rattle.trace.specs.declared.page.Penned.the-variants.{Down, Stop}
-use Rattle.trace.specs.Crossing.{edgePoint}
+use Rattle.crossing.specs.Crossing.{edgePoint}
 use Rattle.trace.specs.Walk.{Step, on, off, follow, middle, beforeInside, afterInside, pushed, flushUnless, crossed}
 use Rattle.trace.specs.Page.{Page, pageOf, pushPage, flushPage, Pushed}
 use Rattle.trace.proofs.Follow.{down, stops, as-well}

@@ -6,7 +6,7 @@ use lib.ListN.{length, getD}
 use lib.Ieee.{Float}
 use Rattle.edges.specs.Events.{sortedEdgeEvents}
 use Rattle.edges.specs.declared.point.ParamPoint.{ParamPoint}
-use Rattle.trace.specs.declared.crossing.Crossing.{Crossing}
+use Rattle.crossing.specs.declared.Crossing.{Crossing}
 use Rattle.trace.specs.declared.page.Previous.the-variants.{Nowhere}
 use Rattle.trace.specs.Walk.{Sample, traced}
 use Rattle.trace.specs.Drawing.{Drawing, nothingDrawn, Room, pushSegmentPoint, flushSegment}

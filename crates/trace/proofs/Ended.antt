@@ -14,7 +14,7 @@ use Rattle.trace.specs.declared.page.Penned.{Penned}
 use Rattle.trace.specs.declared.page.Penned.the-variants.{Down, Stop}
 use Rattle.trace.specs.declared.page.Previous.the-variants.{Nowhere}
 use Rattle.trace.specs.declared.page.Trace.the-variants.{Drawn, Refused}
-use Rattle.trace.specs.Crossing.{GridFits}
+use Rattle.crossing.specs.Crossing.{GridFits}
 use Rattle.trace.specs.Walk.{samplesOf, traced}
 use Rattle.trace.specs.Drawing.{roomIn}
 use Rattle.trace.specs.Trace.{Lists, traceCheck, drawingOf, finished, traceFlat, Traces}

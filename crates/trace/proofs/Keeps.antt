@@ -10,7 +10,7 @@ use lib.Ieee.{Float}
 use borrow.Author.Tests.{leb-true}
 use Rattle.edges.specs.Events.{sortedEdgeEvents}
 use Rattle.edges.specs.declared.point.ParamPoint.{ParamPoint}
-use Rattle.trace.specs.declared.crossing.Crossing.{Crossing}
+use Rattle.crossing.specs.declared.Crossing.{Crossing}
 use Rattle.trace.specs.declared.page.Previous.the-variants.{Nowhere}
 use Rattle.trace.specs.Walk.{Step, on, off, Sample, traced}
 use Rattle.trace.specs.Drawing.{Drawing, drawing, nothingDrawn, Room, closeToLast, pushSegmentPoint, flushSegment}

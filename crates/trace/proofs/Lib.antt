@@ -1,6 +1,4 @@
 -- Laws that belong to no one function.
-pub mod Steps
-pub mod Edges
 pub mod Pages
 pub mod Follow
 pub mod Fits

@@ -11,7 +11,7 @@ use Rattle.vector.specs.declared.Vector.{Vector}
 use Rattle.vector.specs.Vectors.{allClose}
 use Rattle.grid.specs.Grid.{pointAt}
 use Rattle.refusal.specs.declared.Refusal.the-variants.{Full}
-use Rattle.trace.specs.declared.crossing.Crossing.{Crossing}
+use Rattle.crossing.specs.declared.Crossing.{Crossing}
 use Rattle.trace.specs.declared.page.Pen.{Pen}
 use Rattle.trace.specs.declared.page.Penned.the-variants.{Down, Stop}
 use Rattle.trace.specs.Page.{Page, pageOf, penAt, writePoint, writeSide, closeToPending, hasRoom, written, pushPage, kept, dropped, flushPage, Pushed}

@@ -12,12 +12,12 @@ use Rattle.edges.specs.Events.{sortedEdgeEvents}
 use Rattle.edges.specs.declared.point.ParamPoint.{ParamPoint}
 use Rattle.edges.specs.declared.event.ParamEdge.{ParamEdge}
 use Rattle.edges.specs.declared.event.EdgeEvent.{EdgeEvent}
-use Rattle.trace.specs.declared.crossing.Crossing.{Crossing}
-use Rattle.trace.specs.declared.crossing.EdgePoint.{EdgePoint}
-use Rattle.trace.specs.declared.crossing.EdgePoint.the-variants.{On, NoStep}
+use Rattle.crossing.specs.declared.Crossing.{Crossing}
+use Rattle.crossing.specs.declared.EdgePoint.{EdgePoint}
+use Rattle.crossing.specs.declared.EdgePoint.the-variants.{On, NoStep}
 use Rattle.trace.specs.declared.page.Previous.{Previous}
 use Rattle.trace.specs.declared.page.Previous.the-variants.{At, Nowhere}
-use Rattle.trace.specs.Crossing.{edgePoint}
+use Rattle.crossing.specs.Crossing.{edgePoint}
 use Rattle.trace.specs.Walk.{Step, on, off, follow, Sample, afterSample, beforeInside, afterInside, nextLambda, pushed, flushUnless, crossed, crossings, appendEdgeCrossings, paired, sampled, traced}
 
 -- both walks go on in related states, or both end by one refusal, the first in a state of which Q holds

@@ -7,7 +7,7 @@ use native.Mathlib.Numerals.{add-one}
 use native.Mathlib.Omega.{arith}
 use lib.ListN.{length, take, drop, getD, length-append, length-take, List·getD-append}
 use lib.Seq.{take-at, take-take, take-append-seam, sets, sets-eq, length-sets, getD-take, getD-append-add}
-use Rattle.trace.specs.declared.crossing.Crossing.{Crossing}
+use Rattle.crossing.specs.declared.Crossing.{Crossing}
 use Rattle.trace.specs.Trace.{inTurn}
 
 -- one after another, the first points and then the others

@@ -8,7 +8,7 @@ use lib.Ieee.{Float}
 use Rattle.vector.specs.Vectors.{allClose}
 use Rattle.refusal.specs.declared.Refusal.the-variants.{Full}
 use Rattle.edges.specs.Param.{pick}
-use Rattle.trace.specs.declared.crossing.Crossing.{Crossing}
+use Rattle.crossing.specs.declared.Crossing.{Crossing}
 use Rattle.trace.specs.Walk.{Step, on, off}
 
 -- the points of the kept lines in order, where each line starts among them, and the points of the pending line

@@ -1,5 +1,4 @@
 -- The definitions that the contracts of this crate cite.
-pub mod Crossing
 pub mod Walk
 pub mod Drawing
 pub mod Trace

@@ -14,7 +14,7 @@ use Rattle.refusal.specs.declared.Refusal.the-variants.{Length, Mark, Sample}
 use Rattle.refusal.specs.Refusals.{Answer, ok, refused, numberOf, unless, andThen}
 use Rattle.lent.specs.Lent.{zeroFloat, filled}
 use Rattle.grid.specs.Grid.{gridCheck}
-use Rattle.trace.specs.declared.crossing.Crossing.{Crossing}
+use Rattle.crossing.specs.declared.Crossing.{Crossing}
 use Rattle.trace.specs.declared.page.Previous.the-variants.{Nowhere}
 use Rattle.trace.specs.declared.page.Trace.{Trace}
 use Rattle.trace.specs.declared.page.Trace.the-variants.{Drawn, Refused}

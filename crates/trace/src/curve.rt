@@ -8,7 +8,7 @@ use edges::point::ParamPoint;
 ghost use mathlib.Core.Path.{_≡_};
 ghost use Prim.Native.Nat.{_*_, _≤_};
 ghost use lib.ListN.{length};
-ghost use Rattle.trace.specs.Crossing.{GridFits};
+ghost use Rattle.crossing.specs.Crossing.{GridFits};
 ghost use Rattle.trace.specs.Walk.{sampleAt, samplesOf, afterSample, sampled, traced};
 ghost use Rattle.trace.specs.Page.{penAt, pageOf, pushPage, flushPage, Pushed, PenFits};
 

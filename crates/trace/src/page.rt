@@ -1,5 +1,5 @@
 // The lent lists as the walk fills them: points in place, pending ones after the kept ones.
-use crate::crossing::Crossing;
+use crossing::Crossing;
 use edges::point::ParamPoint;
 use refusal::Refusal;
 ghost use mathlib.Core.Path.{_≡_};

@@ -1,10 +1,10 @@
 // The walk along a step between two samples: which events become points, and where a line ends.
-use crate::crossing::EdgePoint;
-use crate::crossing::edge_point;
 use crate::page::Pen;
 use crate::page::Penned;
 use crate::page::flush_segment;
 use crate::page::push_segment_point;
+use crossing::EdgePoint;
+use crossing::edge_point;
 use edges::event::EdgeEvent;
 use edges::event::ParamEdge;
 use edges::point::ParamPoint;
@@ -23,7 +23,7 @@ ghost use Rattle.float.specs.Consts.{zero64, one64};
 ghost use Rattle.edges.specs.Param.{pick};
 ghost use Rattle.edges.specs.Events.{Inside, Each, OnGrid};
 ghost use Rattle.edges.specs.Scratch.{eventsIn};
-ghost use Rattle.trace.specs.Crossing.{edgePoint, GridFits};
+ghost use Rattle.crossing.specs.Crossing.{edgePoint, GridFits};
 ghost use Rattle.trace.specs.Walk.{on, beforeInside, afterInside, pushed, crossed, crossings, appendEdgeCrossings};
 ghost use Rattle.trace.specs.Page.{pageOf, pushPage, flushPage, Pushed, PenFits};
 

@@ -1,6 +1,6 @@
 -- `trace::walk::cross_event` meets its contract: proofs/Crossed.antt has `crossed` by these tests, and after a push the pen still fits (proofs/Fits.antt). Assumes nothing.
 use denote.Ref.{now}
-use Rattle.trace.specs.Crossing.{edgePoint}
+use Rattle.crossing.specs.Crossing.{edgePoint}
 use Rattle.trace.specs.Page.{pageOf}
 use Rattle.trace.proofs.Fits.{fits-down, pushed-fits}
 use Rattle.trace.proofs.Crossed.{passes-by, crosses, crosses-refused}

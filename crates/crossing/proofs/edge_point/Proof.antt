@@ -1,11 +1,11 @@
--- `trace::crossing::edge_point` meets its contract. The side stands in the grid by the requires, and the cell that `step_index` gives is one of the steps. Assumes nothing.
+-- `crossing::edge_point` meets its contract. The side stands in the grid by the requires, and the cell that `step_index` gives is one of the steps. Assumes nothing.
 use Prim.Native.Nat.{_≤_, _<_}
 use native.Mathlib.Omega.{arith}
 use denote.Ref.{now}
-use Rattle.trace.proofs.Edges.{sides-stand, inside-u, inside-v, inside-diagonal, cell-inside, on-u, off-u, on-v, off-v, on-diagonal}
+use Rattle.crossing.proofs.Edges.{sides-stand, inside-u, inside-v, inside-diagonal, cell-inside, on-u, off-u, on-v, off-v, on-diagonal}
 use borrow.Author.Needs.{needs}
-use Rattle.trace.proofs.crossing.edge_point.Statement.{statement}
-use Rattle.trace.proofs.crossing.edge_point.Tie as tie
+use Rattle.crossing.proofs.edge_point.Statement.{statement}
+use Rattle.crossing.proofs.edge_point.Tie as tie
 
 side-u : (c : tie.After-edge) → c .edge .given .0 .0 ≤ c .before .before .before .args .m
 side-u c = inside-u _ _ (c .before .before .before .pre .1) (c .edge .given .1)

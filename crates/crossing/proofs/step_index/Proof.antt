@@ -1,9 +1,9 @@
--- `trace::crossing::step_index` meets its contract: proofs/Steps.antt has `stepIndex` by these tests. Assumes nothing.
+-- `crossing::step_index` meets its contract: proofs/Steps.antt has `stepIndex` by these tests. Assumes nothing.
 use Rattle.float.specs.Consts.{eps}
-use Rattle.trace.proofs.Steps.{step-none-zero, step-none, index-close, index-far, floor-casts, floor-cast-is}
+use Rattle.crossing.proofs.Steps.{step-none-zero, step-none, index-close, index-far, floor-casts, floor-cast-is}
 use borrow.Author.Needs.{needs}
-use Rattle.trace.proofs.crossing.step_index.Statement.{statement}
-use Rattle.trace.proofs.crossing.step_index.Tie as tie
+use Rattle.crossing.proofs.step_index.Statement.{statement}
+use Rattle.crossing.proofs.step_index.Tie as tie
 
 returns : tie.Need-returns
 returns c = step-none-zero _ _ (c .if1 .taken)

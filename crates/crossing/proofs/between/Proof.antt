@@ -1,8 +1,8 @@
--- `trace::crossing::between` meets its contract, by what its calls say. Assumes nothing.
-use Rattle.trace.proofs.Edges.{crossing-is}
+-- `crossing::between` meets its contract, by what its calls say. Assumes nothing.
+use Rattle.crossing.proofs.Edges.{crossing-is}
 use borrow.Author.Needs.{needs}
-use Rattle.trace.proofs.crossing.between.Statement.{statement}
-use Rattle.trace.proofs.crossing.between.Tie as tie
+use Rattle.crossing.proofs.between.Statement.{statement}
+use Rattle.crossing.proofs.between.Tie as tie
 
 point-number-requires : tie.Need-point-number-requires
 point-number-requires c κs = search needs

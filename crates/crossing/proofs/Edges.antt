@@ -1,12 +1,11 @@
 -- `edgePoint` by the cases of the code, from what the calls gave. Assumes nothing.
-use mathlib.Core.Path.{_≡_, refl, sym, _∙_}
+use mathlib.Core.Path.{_≡_, sym, _∙_}
 use mathlib.Core.List.{List}
 use Prim.Native.Nat.{ℕ, _+_, _*_, _≤_, _<_}
 use native.Mathlib.Nat.{le-trans}
 use native.Mathlib.Omega.{arith}
 use lib.Dec.{lit≤}
 use lib.ListN.{length}
-use Rattle.grid.proofs.Laws.{point-below}
 use lib.Ieee.{Float, binary64, sub}
 use Rattle.float.specs.Consts.{zero64, one64}
 use Rattle.float.specs.Order.{clamped}
@@ -14,17 +13,17 @@ use Rattle.float.specs.Cast.{natFloat}
 use Rattle.vector.specs.declared.Vector.{Vector}
 use Rattle.vector.specs.Vectors.{plus, scaled}
 use Rattle.grid.specs.Grid.{pointNumber, pointAt}
+use Rattle.grid.proofs.Laws.{point-below}
 use Rattle.edges.specs.Events.{Inside}
 use Rattle.edges.specs.declared.point.ParamPoint.{ParamPoint}
 use Rattle.edges.specs.declared.event.ParamEdge.{ParamEdge}
 use Rattle.edges.specs.declared.event.ParamEdge.the-variants.{U, «V», Diagonal}
-use Rattle.trace.specs.declared.crossing.StepIndex.{StepIndex}
-use Rattle.trace.specs.declared.crossing.StepIndex.the-variants.{At, Nothing}
-use Rattle.trace.specs.declared.crossing.Crossing.{Crossing}
-use Rattle.trace.specs.declared.crossing.EdgePoint.{EdgePoint}
-use Rattle.trace.specs.declared.crossing.EdgePoint.the-variants.{On, NoStep}
-use Rattle.trace.specs.Crossing.{blend, crossing, stepIndex, edgePoint}
-use Rattle.trace.proofs.Steps.{step-index-below}
+use Rattle.crossing.specs.declared.StepIndex.{StepIndex}
+use Rattle.crossing.specs.declared.StepIndex.the-variants.{At, Nothing}
+use Rattle.crossing.specs.declared.Crossing.{Crossing}
+use Rattle.crossing.specs.declared.EdgePoint.the-variants.{On, NoStep}
+use Rattle.crossing.specs.Crossing.{blend, crossing, stepIndex, edgePoint}
+use Rattle.crossing.proofs.Steps.{step-index-below}
 
 pub blend-is : (p q : Vector) (t : Float) {a b r : Vector} → a ≡ scaled p (sub binary64 one64 t) → b ≡ scaled q t → r ≡ plus a b → r ≡ blend p q t
 unfolding blend

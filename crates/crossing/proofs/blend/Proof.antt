@@ -1,8 +1,8 @@
--- `trace::crossing::blend` meets its contract, by what its calls say. Assumes nothing.
-use Rattle.trace.proofs.Edges.{blend-is}
+-- `crossing::blend` meets its contract, by what its calls say. Assumes nothing.
+use Rattle.crossing.proofs.Edges.{blend-is}
 use borrow.Author.Needs.{needs}
-use Rattle.trace.proofs.crossing.blend.Statement.{statement}
-use Rattle.trace.proofs.crossing.blend.Tie as tie
+use Rattle.crossing.proofs.blend.Statement.{statement}
+use Rattle.crossing.proofs.blend.Tie as tie
 
 mul-scalar-requires : tie.Need-mul-scalar-requires
 mul-scalar-requires c κs = search needs

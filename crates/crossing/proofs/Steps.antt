@@ -1,16 +1,16 @@
 -- `stepIndex` by the tests of the code, and the law for its callers: the cell is one of the steps. Assumes nothing.
 use mathlib.Core.Path.{_≡_, refl, subst}
-use lib.IntN.{ℤ, pos, negsuc, natAbs}
-use lib.Signed.{nonNeg}
-use mir.Syntax.{w64}
-use mir.Val.{SFits, Fits, toZ, ofZ}
-use mir.ValLaws.{toZ-ofZ}
 use mathlib.Core.Bool.{Bool, true, false, _||_}
 use Prim.Native.Nat.{ℕ, zero, suc, _-_, _^_, _≤_, _<_}
 use native.Mathlib.Nat.{zero-lt-suc}
 use native.Mathlib.Omega.{arith}
 use lib.Dec.{T, eqb}
+use lib.IntN.{ℤ, pos, negsuc, natAbs}
+use lib.Signed.{nonNeg}
 use lib.Ieee.{Float, binary64, neg, lt, add, sub}
+use mir.Syntax.{w64}
+use mir.Val.{SFits, Fits, toZ, ofZ}
+use mir.ValLaws.{toZ-ofZ}
 use borrow.Author.Tests.{eq-eqb, ne-eqb, eqb-false}
 use Rattle.float.specs.Consts.{eps, zero64}
 use Rattle.float.specs.Sign.{absolute}
@@ -19,9 +19,9 @@ use Rattle.float.specs.Whole.{floorZ}
 use Rattle.float.specs.Cast.{natFloat, count}
 use Rattle.float.proofs.Bounds.{floor-count, floor-nonneg, clamped-nonneg, abs-count}
 use Rattle.edges.specs.Param.{pick}
-use Rattle.trace.specs.declared.crossing.StepIndex.{StepIndex}
-use Rattle.trace.specs.declared.crossing.StepIndex.the-variants.{At, Nothing}
-use Rattle.trace.specs.Crossing.{closeTo, cellOf, offAxis, inCell, stepIndex}
+use Rattle.crossing.specs.declared.StepIndex.{StepIndex}
+use Rattle.crossing.specs.declared.StepIndex.the-variants.{At, Nothing}
+use Rattle.crossing.specs.Crossing.{closeTo, cellOf, offAxis, inCell, stepIndex}
 
 -- ---- the tests
 
@@ -53,7 +53,7 @@ module _ (x : Float) (n : ℕ) (z : n ≡ 0 → ⊥) where
     index-far h ei ek = rw (ek, ei, ey, et) (step-far (rw et at inside) (rw (ea, ey, et) at h))
 
 -- the floor that the code casts is a count
-pub abs-fits : (z : ℤ) → SFits w64 z → Fits w64 (natAbs z)
+abs-fits : (z : ℤ) → SFits w64 z → Fits w64 (natAbs z)
 abs-fits (pos n) s = record { fits = wide n (s .sfits) }
   where
     wide : (k : ℕ) → k < 9223372036854775808 → k < 18446744073709551616

@@ -12,7 +12,7 @@ ghost use Prim.Native.Nat.{_+_, _*_, _≤_};
 ghost use lib.ListN.{length};
 ghost use Rattle.grid.specs.Grid.{pointNumber};
 ghost use Rattle.edges.specs.Events.{Inside};
-ghost use Rattle.trace.specs.Crossing.{stepIndex, blend, crossing, edgePoint, GridFits};
+ghost use Rattle.crossing.specs.Crossing.{stepIndex, blend, crossing, edgePoint, GridFits};
 
 // The cell that a value falls into on an axis of steps, and how far into it.
 pub enum StepIndex {
