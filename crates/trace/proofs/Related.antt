@@ -15,10 +15,12 @@ use Rattle.edges.specs.declared.event.EdgeEvent.{EdgeEvent}
 use Rattle.crossing.specs.declared.Crossing.{Crossing}
 use Rattle.crossing.specs.declared.EdgePoint.{EdgePoint}
 use Rattle.crossing.specs.declared.EdgePoint.the-variants.{On, NoStep}
-use Rattle.trace.specs.declared.page.Previous.{Previous}
-use Rattle.trace.specs.declared.page.Previous.the-variants.{At, Nowhere}
+use Rattle.trace.specs.declared.curve.Previous.{Previous}
+use Rattle.trace.specs.declared.curve.Previous.the-variants.{At, Nowhere}
 use Rattle.crossing.specs.Crossing.{edgePoint}
-use Rattle.trace.specs.Walk.{Step, on, off, follow, Sample, afterSample, beforeInside, afterInside, nextLambda, pushed, flushUnless, crossed, crossings, appendEdgeCrossings, paired, sampled, traced}
+use Rattle.page.specs.Step.{Step, on, off, follow}
+use Rattle.walk.specs.Walk.{beforeInside, afterInside, nextLambda, pushed, flushUnless, crossed, crossings, appendEdgeCrossings}
+use Rattle.trace.specs.Curve.{Sample, afterSample, paired, sampled, traced}
 
 -- both walks go on in related states, or both end by one refusal, the first in a state of which Q holds
 pub data Related {S T : Type 0} (R : S → T → Type 0) (Q : S → Type 0) : Step S → Step T → Type 0 where

@@ -10,14 +10,16 @@ use lib.Ieee.{Float, nan}
 use borrow.Author.Tests.{eq-eqb, ne-eqb}
 use Rattle.refusal.specs.declared.Refusal.{Refusal}
 use Rattle.edges.specs.declared.point.ParamPoint.{ParamPoint}
-use Rattle.trace.specs.declared.page.Pen.{Pen}
-use Rattle.trace.specs.declared.page.Penned.{Penned}
-use Rattle.trace.specs.declared.page.Penned.the-variants.{Down, Stop}
-use Rattle.trace.specs.declared.page.Previous.{Previous}
-use Rattle.trace.specs.declared.page.Previous.the-variants.{At, Nowhere}
-use Rattle.trace.specs.Walk.{Step, on, follow, Sample, sampleAt, sample, samplesOf, afterSample, appendEdgeCrossings, sampled, traced}
-use Rattle.trace.specs.Page.{Page, pageOf, pushPage, flushPage, Pushed}
-use Rattle.trace.proofs.Follow.{down, stops, still}
+use Rattle.page.specs.declared.Pen.{Pen}
+use Rattle.page.specs.declared.Penned.{Penned}
+use Rattle.page.specs.declared.Penned.the-variants.{Down, Stop}
+use Rattle.trace.specs.declared.curve.Previous.{Previous}
+use Rattle.trace.specs.declared.curve.Previous.the-variants.{At, Nowhere}
+use Rattle.page.specs.Step.{Step, follow}
+use Rattle.walk.specs.Walk.{appendEdgeCrossings}
+use Rattle.trace.specs.Curve.{Sample, sampleAt, sample, samplesOf, afterSample, sampled, traced}
+use Rattle.page.specs.Page.{Page, pageOf, pushPage, flushPage, Pushed}
+use Rattle.page.proofs.Follow.{down, stops, still}
 
 -- ---- one sample
 

@@ -10,7 +10,8 @@ use Rattle.refusal.specs.Refusals.{ok, refused}
 use Rattle.grid.specs.Grid.{coordinatesFit, gridCheck}
 use Rattle.edges.specs.Table.{quarter, three-quarters}
 use Rattle.crossing.specs.Table as crossing
-use Rattle.trace.specs.Walk.{samplesOf, beforeInside, afterInside, crossed, crossings, appendEdgeCrossings, sampled, traced}
+use Rattle.walk.specs.Walk.{beforeInside, afterInside, crossed, crossings, appendEdgeCrossings}
+use Rattle.trace.specs.Curve.{samplesOf, sampled, traced}
 use Rattle.trace.specs.Drawing.{pushSegmentPoint, flushSegment}
 use Rattle.trace.specs.Trace.{marksFit, pairsFit, traceCheck, Lists, lists, inTurn, Traced, traceFlat}
 

@@ -1,16 +1,21 @@
 // The walk over all samples, which fills the lent lists.
-use crate::page::Pen;
-use crate::page::Penned;
-use crate::page::Previous;
-use crate::page::flush_segment;
-use crate::walk::append_edge_crossings;
 use edges::point::ParamPoint;
+use page::Pen;
+use page::Penned;
+use page::flush_segment;
+use walk::append_edge_crossings;
 ghost use mathlib.Core.Path.{_≡_};
 ghost use Prim.Native.Nat.{_*_, _≤_};
 ghost use lib.ListN.{length};
 ghost use Rattle.crossing.specs.Crossing.{GridFits};
-ghost use Rattle.trace.specs.Walk.{sampleAt, samplesOf, afterSample, sampled, traced};
-ghost use Rattle.trace.specs.Page.{penAt, pageOf, pushPage, flushPage, Pushed, PenFits};
+ghost use Rattle.trace.specs.Curve.{sampleAt, samplesOf, afterSample, sampled, traced};
+ghost use Rattle.page.specs.Page.{penAt, pageOf, pushPage, flushPage, Pushed, PenFits};
+
+// What stands before a sample: a point, or nothing after a break and at the start.
+pub enum Previous {
+    At(ParamPoint),
+    Nowhere,
+}
 
 // What the next sample has before it.
 fn after_sample(mark: u8, point: ParamPoint) -> Previous
