@@ -12,9 +12,16 @@ sorted-edge-events-requires c κs = search needs
 
 cross-events-requires : tie.Need-cross-events-requires
 cross-events-requires c κs =
-    let s = c .before .before .before .before .before .before .before .before .before .before .before .before .before .before .before .before .before .before .before .before in
-    let e = c .before .before .before .before .before .before .before .before .before .before .sorted-edge-events .ensures in
-    (s .pre .1 .0, ((omega (arith, e .0, c .before .before .before .before .before .before .before .before .before .lambdas .given, s .pre .0 .0), omega (arith, c .before .before .before .before .before .before .before .before .before .lambdas .given, c .before .before .before .before .before .before .before .codes .given, s .pre .0 .0, s .pre .0 .1)), (events-stand _ _ _ _ (s .pre .1 .0 .0) (s .pre .1 .0 .1) (e .1), s .pre .1 .1)))
+    let e = c .before .before .before .before .before .before .before .before .before .before in
+    let s = e .before .before .before .before .before .before .before .before .before .before in
+    let lambdas = c .before .before .before .before .before .before .before .before .before .lambdas .given in
+    let codes = c .before .before .before .before .before .before .before .codes .given in (
+      s .pre .1 .0,
+      (
+        (omega (arith, e .sorted-edge-events .ensures .0, lambdas, s .pre .0 .0), omega (arith, lambdas, codes, s .pre .0 .0, s .pre .0 .1)),
+        (events-stand _ _ _ _ (s .pre .1 .0 .0) (s .pre .1 .0 .1) (e .sorted-edge-events .ensures .1), s .pre .1 .1),
+      ),
+    )
 
 enum-known-crossed : tie.Need-enum-known-crossed
 enum-known-crossed c = search needs
@@ -23,7 +30,9 @@ param-in-bounds-requires : tie.Need-param-in-bounds-requires
 param-in-bounds-requires c κs = search needs
 
 flush-unless-requires : tie.Need-flush-unless-requires
-flush-unless-requires c κs = fits-down (c .before .before .before .before .before .before .before .before .before .before .before .before .before .cross-events .ensures) (c .before .before .before .crossed .given .1) (crossings-fits _ _ _ _ _ _ _ _ (c .before .before .before .before .before .before .before .before .before .before .before .before .before .before .before .before .before .before .before .before .before .before .before .before .before .before .before .before .before .before .before .before .before .before .pre .1 .1)) .0
+flush-unless-requires c κs =
+    let t = c .before .before .before .before .before .before .before .before .before .before .before .before .before in
+    fits-down (t .cross-events .ensures) (c .before .before .before .crossed .given .1) (crossings-fits _ _ _ _ _ _ _ _ (t .before .before .before .before .before .before .before .before .before .before .before .before .before .before .before .before .before .before .before .before .before .pre .1 .1)) .0
 
 enum-known-refusal : tie.Need-enum-known-refusal
 enum-known-refusal c = search needs
@@ -47,7 +56,10 @@ same-length-6 : tie.Need-same-length-6
 same-length-6 c = search needs
 
 returns : tie.Need-returns
-returns c = step-goes _ _ _ _ _ _ (c .before .before .before .before .before .before .before .before .before .before .before .before .before .before .before .before .before .before .before .before .before .before .before .before .before .before .before .sorted-edge-events .ensures .1) (c .before .before .before .before .before .before .before .before .before .before .before .before .before .before .before .before .cross-events .ensures) (c .before .before .before .before .before .before .crossed .given .1) (c .before .before .before .before .param-in-bounds .ensures) (c .before .before .flush-unless .ensures _ _ _)
+returns c =
+    let t = c .before .before .before .before .before .before .before .before .before .before .before .before .before .before .before .before in
+    step-goes _ _ _ _ _ _ (t .before .before .before .before .before .before .before .before .before .before .before .sorted-edge-events .ensures .1) (t .cross-events .ensures) (c .before .before .before .before .before .before .crossed .given .1)
+    (c .before .before .before .before .param-in-bounds .ensures) (c .before .before .flush-unless .ensures _ _ _)
 
 same-length-7 : tie.Need-same-length-7
 same-length-7 c = search needs
@@ -68,7 +80,9 @@ same-length-12 : tie.Need-same-length-12
 same-length-12 c = search needs
 
 returns-2 : tie.Need-returns-2
-returns-2 c = step-stops _ _ _ _ _ _ (c .before .before .before .before .before .before .before .before .before .before .before .before .before .before .before .before .before .before .before .before .before .before .sorted-edge-events .ensures .1) (c .before .before .before .before .before .before .before .before .before .before .before .cross-events .ensures) (c .before .refusal .given .1)
+returns-2 c =
+    let t = c .before .before .before .before .before .before .before .before .before .before .before in
+    step-stops _ _ _ _ _ _ (t .before .before .before .before .before .before .before .before .before .before .before .sorted-edge-events .ensures .1) (t .cross-events .ensures) (c .before .refusal .given .1)
 
 pub append-edge-crossings-spec : {M : Type 1} → statement M
 append-edge-crossings-spec =

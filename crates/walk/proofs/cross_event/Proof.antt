@@ -26,10 +26,11 @@ enum-known-pushed c = search needs
 
 flush-unless-requires : tie.Need-flush-unless-requires
 flush-unless-requires c κs =
-    let s = c .before .before .before .before .before .before .before .before .before .before .before .before .before .before .before .before .before .before .before .before .before .before .before in
+    let t = c .before .before .before .before .before .before .before .before .before .before in
+    let s = t .before .before .before .before .before .before .before .before .before .before .before .before .before in
     let a = s .args in
-    fits-down (c .before .before .before .before .before .before .before .before .before .before .push-edge-point .ensures (now (s .args .starts))) (c .before .before .pushed .given .1)
-    (pushed-fits (now (a .grid)) (a .m) (a .n) (edgePoint (now (a .grid)) (a .m) (a .n) (a .event .edge) (c .before .before .before .before .before .before .before .before .before .before .before .lerp .result))
+    fits-down (t .push-edge-point .ensures (now (a .starts))) (c .before .before .pushed .given .1)
+    (pushed-fits (now (a .grid)) (a .m) (a .n) (edgePoint (now (a .grid)) (a .m) (a .n) (a .event .edge) (t .before .lerp .result))
     (pageOf (now (a .points)) (now (a .starts)) (now (a .sides)) (now (a .fractions)) (a .pen)) (s .pre .1 .1)) .0
 
 enum-known-refusal : tie.Need-enum-known-refusal
@@ -52,9 +53,10 @@ same-length-4 c = search needs
 
 returns : tie.Need-returns
 returns c =
-    let s = c .before .before .before .before .before .before .before .before .before .before .before .before .before .before .before .before .before .before .before .before .before .before .before .before .before .before in
-    crosses _ _ _ _ _ _ _ _ _ (c .before .before .before .before .before .before .before .before .before .before .before .before .before .before .before .before .before .before .before .before .before-inside .ensures) (c .before .before .before .before .before .before .before .before .before .before .before .before .before .before .before .before .before .before .before .after-inside .ensures) (c .before .before .before .before .before .before .before .before .before .before .before .before .before .before .before .before .before .before .if1 .taken) (c .before .before .before .before .before .before .before .before .before .before .before .before .before .before .lerp .ensures) (c .before .before .before .before .before .before .before .before .before .before .before .before .before .push-edge-point .ensures (now (s .args .starts))) (c .before .before .before .before .before .pushed .given .1)
-    (c .before .before .flush-unless .ensures _ _ _)
+    let t = c .before .before .before .before .before .before .before .before .before .before .before .before .before in
+    let i = t .before .before .before .before .before in
+    crosses _ _ _ _ _ _ _ _ _ (i .before .before .before-inside .ensures) (i .before .after-inside .ensures) (i .if1 .taken) (t .before .lerp .ensures)
+    (t .push-edge-point .ensures (now (i .before .before .before .before .before .before .before .before .args .starts))) (c .before .before .before .before .before .pushed .given .1) (c .before .before .flush-unless .ensures _ _ _)
 
 same-length-5 : tie.Need-same-length-5
 same-length-5 c = search needs
@@ -67,14 +69,18 @@ same-length-7 c = search needs
 
 returns-2 : tie.Need-returns-2
 returns-2 c =
-    let s = c .before .before .before .before .before .before .before .before .before .before .before .before .before .before .before .before .before .before .before .before .before .before in
-    crosses-refused _ _ _ _ _ _ _ _ _ (c .before .before .before .before .before .before .before .before .before .before .before .before .before .before .before .before .before-inside .ensures) (c .before .before .before .before .before .before .before .before .before .before .before .before .before .before .before .after-inside .ensures) (c .before .before .before .before .before .before .before .before .before .before .before .before .before .before .if1 .taken) (c .before .before .before .before .before .before .before .before .before .before .lerp .ensures) (c .before .before .before .before .before .before .before .before .before .push-edge-point .ensures (now (s .args .starts))) (c .before .refusal .given .1)
+    let t = c .before .before .before .before .before .before .before .before .before in
+    let i = t .before .before .before .before .before in
+    crosses-refused _ _ _ _ _ _ _ _ _ (i .before .before .before-inside .ensures) (i .before .after-inside .ensures) (i .if1 .taken) (t .before .lerp .ensures)
+    (t .push-edge-point .ensures (now (i .before .before .before .before .before .before .before .before .args .starts))) (c .before .refusal .given .1)
 
 same-length-8 : tie.Need-same-length-8
 same-length-8 c = search needs
 
 returns-3 : tie.Need-returns-3
-returns-3 c = passes-by _ _ _ _ _ _ _ _ _ (c .before .before .before .before .before .before .before-inside .ensures) (c .before .before .before .before .before .after-inside .ensures) (c .before .before .before .before .if1 .left) (c .before .before .flush-unless2 .ensures _ _ _)
+returns-3 c =
+    let i = c .before .before .before .before in
+    passes-by _ _ _ _ _ _ _ _ _ (i .before .before .before-inside .ensures) (i .before .after-inside .ensures) (i .if1 .left) (c .before .before .flush-unless2 .ensures _ _ _)
 
 pub cross-event-spec : {M : Type 1} → statement M
 cross-event-spec =

@@ -39,9 +39,11 @@ lambda-or-one-requires c κs = search needs
 
 cross-event-requires : tie.Need-cross-event-requires Inv-loop μ-loop
 cross-event-requires c κs =
-    let s = c .before .before .before .before .before .before .before .before .before .before .before .before .before .before .before in
-    let side = event-inside (now (s .args .lambdas)) (now (s .args .codes)) (s .args .count) (c .before .before .before .before .before .before .before .loop .i) (s .pre .1 .0 .0) (s .pre .1 .0 .1) (s .args .m) (s .args .n) (s .pre .1 .1 .0) (c .before .before .before .before .before .before .loop-test .taken) (c .before .before .before .before .before .event-at .ensures) in
-    (s .pre .0, (side, c .before .before .before .before .before .before .before .loop .inv .5))
+    let e = c .before .before .before .before .before in
+    let l = e .before .before in
+    let s = l .before .before .before .before .before .before .before .before in
+    let side = event-inside (now (s .args .lambdas)) (now (s .args .codes)) (s .args .count) (l .loop .i) (s .pre .1 .0 .0) (s .pre .1 .0 .1) (s .args .m) (s .args .n) (s .pre .1 .1 .0) (e .before .loop-test .taken) (e .event-at .ensures) in
+    (s .pre .0, (side, l .loop .inv .5))
 
 enum-known-crossed : tie.Need-enum-known-crossed Inv-loop μ-loop
 enum-known-crossed c = search needs
@@ -63,27 +65,33 @@ same-length-4 c = search needs
 
 returns : tie.Need-returns Inv-loop μ-loop
 returns c =
-    let s = c .before .before .before .before .before .before .before .before .before .before .before .before .before .before .before .before .before .before .before .before .before .before .before .before .before .before .before in
-    turn-stops (now (s .args .grid)) (s .args .m) (s .args .n) (s .args .a) (s .args .b) (now (s .args .lambdas)) (now (s .args .codes)) (s .args .count) (c .before .before .before .before .before .before .before .before .before .before .before .before .before .before .before .before .before .before .before .loop .i) (s .pre .1 .0 .0) (s .pre .1 .0 .1)
-    (c .before .before .before .before .before .before .before .before .before .before .before .before .before .before .before .before .before .before .loop-test .taken) _ _ (c .before .before .before .before .before .before .before .before .before .before .before .before .before .before .before .before .before .event-at .ensures) (c .before .before .before .before .before .before .before .before .before .before .before .before .before .before .before .before .lambda-or-one .ensures) (c .before .before .before .before .before .before .before .before .before .before .before .before .before .before .before .before .before .before .before .loop .inv .6) (c .before .before .before .before .before .before .before .before .before .before .before .cross-event .ensures) (c .before .refusal .given .1)
+    let t = c .before .before .before .before .before .before .before .before .before .before .before in
+    let l = t .before .before .before .before .before .before .before .before in
+    let s = l .before .before .before .before .before .before .before .before in
+    turn-stops (now (s .args .grid)) (s .args .m) (s .args .n) (s .args .a) (s .args .b) (now (s .args .lambdas)) (now (s .args .codes)) (s .args .count) (l .loop .i) (s .pre .1 .0 .0) (s .pre .1 .0 .1)
+    (t .before .before .before .before .before .before .before .loop-test .taken) _ _ (t .before .before .before .before .before .before .event-at .ensures) (t .before .before .before .before .before .lambda-or-one .ensures) (l .loop .inv .6) (t .cross-event .ensures) (c .before .refusal .given .1)
 
 add-i : tie.Need-add-i Inv-loop μ-loop
-add-i c = omega (arith, c .before .before .before .before .before .before .before .before .before .before .before .before .before .before .before .before .before .before .loop-test .taken, c .before .before .before .before .before .before .before .before .before .before .before .before .before .before .before .before .before .before .before .before .before .before .before .before .before .before .before .fits .count)
+add-i c =
+    let o = c .before .before .before .before .before .before .before .before .before .before .before .before .before .before .before .before .before .before in
+    omega (arith, o .loop-test .taken, o .before .before .before .before .before .before .before .before .before .fits .count)
 
 loop-less : tie.Need-loop-less Inv-loop μ-loop
 loop-less c = search needs
 
 loop-again : tie.Need-loop-again Inv-loop μ-loop
 loop-again c =
-    let s = c .before .before .before .before .before .before .before .before .before .before .before .before .before .before .before .before .before .before .before .before .before .before .before .before .before .before .before in (
-      omega (arith, c .before .before .before .before .before .before .before .before .before .before .before .before .before .before .before .before .before .before .loop-test .taken),
-      omega (arith, c .before .before .before .before .before .before .before .before .before .before .points .given, c .before .before .before .before .before .before .before .before .before .before .before .before .before .before .before .before .before .before .before .loop .inv .1),
-      omega (arith, c .before .before .before .before .before .before .before .before .starts .given, c .before .before .before .before .before .before .before .before .before .before .before .before .before .before .before .before .before .before .before .loop .inv .2),
-      omega (arith, c .before .before .before .before .before .before .sides .given, c .before .before .before .before .before .before .before .before .before .before .before .before .before .before .before .before .before .before .before .loop .inv .3),
-      omega (arith, c .before .before .before .before .fractions .given, c .before .before .before .before .before .before .before .before .before .before .before .before .before .before .before .before .before .before .before .loop .inv .4),
-      fits-down (c .before .before .before .before .before .before .before .before .before .before .before .cross-event .ensures) (c .before .crossed .given .1) (crossed-fits _ _ _ _ _ _ _ _ _ (c .before .before .before .before .before .before .before .before .before .before .before .before .before .before .before .before .before .before .before .loop .inv .5)),
-      turn-goes (now (s .args .grid)) (s .args .m) (s .args .n) (s .args .a) (s .args .b) (now (s .args .lambdas)) (now (s .args .codes)) (s .args .count) (c .before .before .before .before .before .before .before .before .before .before .before .before .before .before .before .before .before .before .before .loop .i) (s .pre .1 .0 .0) (s .pre .1 .0 .1)
-          (c .before .before .before .before .before .before .before .before .before .before .before .before .before .before .before .before .before .before .loop-test .taken) _ _ (c .before .before .before .before .before .before .before .before .before .before .before .before .before .before .before .before .before .event-at .ensures) (c .before .before .before .before .before .before .before .before .before .before .before .before .before .before .before .before .lambda-or-one .ensures) (c .before .before .before .before .before .before .before .before .before .before .before .before .before .before .before .before .before .before .before .loop .inv .6) (c .before .before .before .before .before .before .before .before .before .before .before .cross-event .ensures) (c .before .crossed .given .1),
+    let t = c .before .before .before .before .before .before .before .before .before .before .before in
+    let l = t .before .before .before .before .before .before .before .before in
+    let s = l .before .before .before .before .before .before .before .before in (
+      omega (arith, t .before .before .before .before .before .before .before .loop-test .taken),
+      omega (arith, c .before .before .before .before .before .before .before .before .before .before .points .given, l .loop .inv .1),
+      omega (arith, c .before .before .before .before .before .before .before .before .starts .given, l .loop .inv .2),
+      omega (arith, c .before .before .before .before .before .before .sides .given, l .loop .inv .3),
+      omega (arith, c .before .before .before .before .fractions .given, l .loop .inv .4),
+      fits-down (t .cross-event .ensures) (c .before .crossed .given .1) (crossed-fits _ _ _ _ _ _ _ _ _ (l .loop .inv .5)),
+      turn-goes (now (s .args .grid)) (s .args .m) (s .args .n) (s .args .a) (s .args .b) (now (s .args .lambdas)) (now (s .args .codes)) (s .args .count) (l .loop .i) (s .pre .1 .0 .0) (s .pre .1 .0 .1)
+          (t .before .before .before .before .before .before .before .loop-test .taken) _ _ (t .before .before .before .before .before .before .event-at .ensures) (t .before .before .before .before .before .lambda-or-one .ensures) (l .loop .inv .6) (t .cross-event .ensures) (c .before .crossed .given .1),
     )
 
 same-length-5 : tie.Need-same-length-5 Inv-loop μ-loop

@@ -28,8 +28,10 @@ same-length-3 c = search needs
 
 returns : tie.Need-returns
 returns c s =
-    let a = c .before .before .before .before .before .before .before .before .before .before .before .before .before .before .before .before .before .before .args in
-    pushes (now (a .grid)) (a .m) (a .n) _ _ (c .before .before .before .before .before .before .before .before .before .before .before .before .before .edge-point .ensures) (c .before .before .before .before .before .before .before .before .before .before .before .c .given .1) (c .before .before .before .before .before .before .push-segment-point .ensures s)
+    let p = c .before .before .before .before .before .before in
+    let e = p .before .before .before .before .before .before .before in
+    let a = e .before .before .before .before .before .args in
+    pushes (now (a .grid)) (a .m) (a .n) _ _ (e .edge-point .ensures) (p .before .before .before .before .before .c .given .1) (p .push-segment-point .ensures s)
 
 returns-2 : tie.Need-returns-2
 returns-2 c s =
