@@ -1,5 +1,5 @@
 -- How the walk fills the lent lists, for the contracts of the inner functions: points are written in place, pending ones after the kept ones, and a flush moves a
--- count. What is said of the whole trace is in Trace.antt; proofs/ show that the two agree. Assumes nothing.
+-- count. What is said of the whole trace is in Trace.antt of `trace`; its proofs/ show that the two agree. Assumes nothing.
 use mathlib.Core.Path.{_≡_}
 use mathlib.Core.Bool.{Bool, _&&_}
 use mathlib.Core.List.{List}
@@ -7,9 +7,9 @@ use Prim.Native.Nat.{ℕ, _+_, _-_, _*_, _/_, _≤_}
 use lib.Dec.{ltb, leb}
 use lib.ListN.{length, set}
 use lib.Ieee.{Float}
+use Rattle.refusal.specs.declared.Refusal.the-variants.{Full}
 use Rattle.vector.specs.Vectors.{allClose}
 use Rattle.grid.specs.Grid.{pointAt}
-use Rattle.refusal.specs.declared.Refusal.the-variants.{Full}
 use Rattle.edges.specs.Param.{pick}
 use Rattle.crossing.specs.declared.Crossing.{Crossing}
 use Rattle.page.specs.declared.Pen.{Pen}

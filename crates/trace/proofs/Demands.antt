@@ -1,4 +1,4 @@
--- Demand 3, whole. The sides and the flipped pairs are the surface's theorem. A traced point was made from the ends of a grid edge (Drawn.antt: each event's side is one), and
+-- Demand 3, whole. The sides and the flipped pairs are the surface's theorem. A traced point was made from the ends of a grid edge (each event's side is one, and Drawn.antt has that no other point is drawn), and
 -- the surface's theorem says that J takes the ends of a grid edge to the ends of a side. Assumes nothing.
 use mathlib.Core.Path.{_≡_, refl, sym, ap, _∙_}
 use mathlib.Core.List.{List, [], _∷_}
@@ -8,30 +8,30 @@ use native.Mathlib.Omega.{arith}
 use lib.Dec.{lit≤}
 use lib.ListN.{length, getD, List·getD-append}
 use lib.Ieee.{Float, nan}
-use Rattle.vector.specs.Vectors.{vector}
 use Rattle.refusal.specs.declared.Check.{Check}
 use Rattle.refusal.specs.declared.Check.the-variants.{Passed, Failed}
+use Rattle.vector.specs.Vectors.{vector}
+use Rattle.grid.proofs.Laws.{accepted-known}
+use Rattle.surface.specs.Surface.{Shape, along-u, along-v, falls, Meets}
+use Rattle.surface.specs.Found.{surfaceOf}
+use Rattle.surface.proofs.Demand as surface
+use Rattle.surface.proofs.Joinings.{surface-meets}
 use Rattle.edges.specs.Events.{sortedEdgeEvents, Inside, Each, OnGrid}
 use Rattle.edges.specs.declared.event.ParamEdge.{ParamEdge}
 use Rattle.edges.specs.declared.event.ParamEdge.the-variants.{U, «V», Diagonal}
 use Rattle.edges.specs.declared.event.EdgeEvent.{EdgeEvent}
-use Rattle.surface.specs.Surface.{Shape, along-u, along-v, falls, Meets}
-use Rattle.surface.specs.Found.{surfaceOf}
-use Rattle.grid.proofs.Laws.{accepted-known}
 use Rattle.edges.proofs.Laws.{events-inside}
-use Rattle.surface.proofs.Demand as surface
-use Rattle.surface.proofs.Joinings.{surface-meets}
 use Rattle.crossing.specs.declared.StepIndex.{StepIndex}
 use Rattle.crossing.specs.declared.StepIndex.the-variants.{At, Nothing}
 use Rattle.crossing.specs.declared.Crossing.{Crossing}
 use Rattle.crossing.specs.declared.EdgePoint.the-variants.{On, NoStep}
 use Rattle.crossing.specs.Crossing.{stepIndex, onU, onV, edgePoint}
+use Rattle.crossing.proofs.Edges.{cell-inside}
 use Rattle.page.specs.Step.{Step, on, off}
 use Rattle.trace.specs.Curve.{samplesOf}
 use Rattle.trace.specs.Drawing.{Drawing, Room, roomIn}
 use Rattle.trace.specs.Trace.{sideOf, inTurn, Lists, drawingOf, finished, afterCheck, traceCheck, traceFlat}
 use Rattle.trace.specs.Demand.{PointsOnSides, Demand3}
-use Rattle.crossing.proofs.Edges.{cell-inside}
 use Rattle.trace.proofs.Related.{GoodEdge, GoodEvents}
 use Rattle.trace.proofs.Turns.{length-turn, turn-at}
 use Rattle.trace.proofs.Keeps.{Holding}

@@ -4,12 +4,12 @@ use mathlib.Core.List.{List, [], _∷_}
 use lib.Dec.{eqb}
 use lib.Ieee.{Float}
 use Rattle.edges.specs.declared.point.ParamPoint.{ParamPoint}
-use Rattle.trace.specs.declared.curve.Previous.{Previous}
-use Rattle.trace.specs.declared.curve.Previous.the-variants.{At, Nowhere}
-use Rattle.trace.specs.Curve.{Sample, paired, afterSample, sampled, traced}
 use Rattle.page.specs.Page.{Page, pushPage, flushPage}
 use Rattle.page.proofs.Fits.{Fitting, Fits, flush-fits, follow-fits, pick-fits}
 use Rattle.walk.proofs.Fits.{append-fits}
+use Rattle.trace.specs.declared.curve.Previous.{Previous}
+use Rattle.trace.specs.declared.curve.Previous.the-variants.{At, Nowhere}
+use Rattle.trace.specs.Curve.{Sample, paired, afterSample, sampled, traced}
 
 module _ (g : List Float) (m n : ℕ) where
   paired-fits : (p : Previous) (b : ParamPoint) (s : Page) → Fitting s → Fits (paired pushPage flushPage g m n p b s)

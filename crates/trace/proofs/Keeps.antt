@@ -10,8 +10,8 @@ use borrow.Author.Tests.{leb-true}
 use Rattle.edges.specs.Events.{sortedEdgeEvents}
 use Rattle.edges.specs.declared.point.ParamPoint.{ParamPoint}
 use Rattle.crossing.specs.declared.Crossing.{Crossing}
-use Rattle.trace.specs.declared.curve.Previous.the-variants.{Nowhere}
 use Rattle.page.specs.Step.{Step, on, off}
+use Rattle.trace.specs.declared.curve.Previous.the-variants.{Nowhere}
 use Rattle.trace.specs.Curve.{Sample, traced}
 use Rattle.trace.specs.Drawing.{Drawing, drawing, nothingDrawn, Room, closeToLast, pushSegmentPoint, flushSegment}
 use Rattle.trace.proofs.Related.{Related, both-on, both-off, test-related, GoodEvents, traced-related}

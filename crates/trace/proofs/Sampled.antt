@@ -14,13 +14,13 @@ use Rattle.edges.specs.declared.point.ParamPoint.{ParamPoint}
 use Rattle.page.specs.declared.Pen.{Pen}
 use Rattle.page.specs.declared.Penned.{Penned}
 use Rattle.page.specs.declared.Penned.the-variants.{Down, Stop}
-use Rattle.trace.specs.declared.curve.Previous.{Previous}
-use Rattle.trace.specs.declared.curve.Previous.the-variants.{At, Nowhere}
 use Rattle.page.specs.Step.{Step, follow}
-use Rattle.walk.specs.Walk.{appendEdgeCrossings}
-use Rattle.trace.specs.Curve.{Sample, sampleAt, sample, samplesOf, afterSample, sampled, traced}
 use Rattle.page.specs.Page.{Page, pageOf, pushPage, flushPage, Pushed}
 use Rattle.page.proofs.Follow.{down, stops, still}
+use Rattle.walk.specs.Walk.{appendEdgeCrossings}
+use Rattle.trace.specs.declared.curve.Previous.{Previous}
+use Rattle.trace.specs.declared.curve.Previous.the-variants.{At, Nowhere}
+use Rattle.trace.specs.Curve.{Sample, sampleAt, sample, samplesOf, afterSample, sampled, traced}
 
 -- ---- one sample
 

@@ -11,12 +11,12 @@ use Rattle.crossing.specs.declared.Crossing.{Crossing}
 use Rattle.trace.specs.Trace.{inTurn}
 
 -- one after another, the first points and then the others
-pub turn-append : {A : Type 0} (f : Crossing → List A) (cs ds : List Crossing) → inTurn f (cs ++ ds) ≡ inTurn f cs ++ inTurn f ds
+turn-append : {A : Type 0} (f : Crossing → List A) (cs ds : List Crossing) → inTurn f (cs ++ ds) ≡ inTurn f cs ++ inTurn f ds
 unfolding inTurn
 turn-append f [] ds = refl
 turn-append f (c ∷ cs) ds = rw (turn-append f cs ds, append-assoc)
 
-pub turn-one : {A : Type 0} (f : Crossing → List A) (c : Crossing) → inTurn f (c ∷ []) ≡ f c
+turn-one : {A : Type 0} (f : Crossing → List A) (c : Crossing) → inTurn f (c ∷ []) ≡ f c
 unfolding inTurn
 turn-one f c = append-nil (f c)
 

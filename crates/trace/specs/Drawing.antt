@@ -5,8 +5,8 @@ use Prim.Native.Nat.{ℕ, _+_, _/_, min}
 use lib.Dec.{ltb, leb}
 use lib.ListN.{length}
 use lib.Ieee.{Float}
-use Rattle.vector.specs.Vectors.{allClose}
 use Rattle.refusal.specs.declared.Refusal.the-variants.{Full}
+use Rattle.vector.specs.Vectors.{allClose}
 use Rattle.edges.specs.Param.{pick}
 use Rattle.crossing.specs.declared.Crossing.{Crossing}
 use Rattle.page.specs.Step.{Step, on, off}

@@ -3,8 +3,8 @@
 use mathlib.Core.Path.{_≡_, ap}
 use mathlib.Core.List.{[], _∷_}
 use lib.Ieee.{binary64, ofBits, neg}
-use Rattle.float.specs.Consts.{eps, zero64, one64}
 use Rattle.refusal.specs.Refusals.{ok}
+use Rattle.float.specs.Consts.{eps, zero64, one64}
 use Rattle.cyclic.specs.declared.mapping.CyclicMapping.the-variants.{Forward, Reverse}
 use Rattle.cyclic.specs.declared.seam.Seam.the-variants.{Joined, Unjoined}
 use Rattle.cyclic.specs.Mapping.{mapIndex, mapIndexInv}

@@ -3,10 +3,10 @@ use mathlib.Core.Path.{_≡_, refl}
 use mathlib.Core.Bool.{Bool, true}
 use mathlib.Core.List.{List, [], _∷_}
 use lib.Ieee.{Float, binary64, ofBits, add}
+use Rattle.refusal.specs.Refusals.{ok, refused}
 use Rattle.float.specs.Consts.{eps, zero64, one64}
 use Rattle.float.specs.Order.{larger}
 use Rattle.vector.specs.Vectors.{allClose}
-use Rattle.refusal.specs.Refusals.{ok, refused}
 use Rattle.grid.specs.Grid.{coordinatesFit, gridCheck}
 use Rattle.edges.specs.Table.{quarter, three-quarters}
 use Rattle.crossing.specs.Table as crossing

@@ -6,18 +6,18 @@ use Prim.Native.Nat.{ℕ, _*_}
 use lib.Dec.{eqb, leb}
 use lib.ListN.{length}
 use lib.Ieee.{Float, binary64, ofBits}
-use Rattle.float.specs.Sign.{atMost}
 use Rattle.refusal.specs.declared.Check.{Check}
 use Rattle.refusal.specs.declared.Check.the-variants.{Passed, Failed}
 use Rattle.refusal.specs.declared.Refusal.the-variants.{Length, Mark, Sample}
 use Rattle.refusal.specs.Refusals.{Answer, ok, refused, numberOf, unless, andThen}
 use Rattle.lent.specs.Lent.{zeroFloat, filled}
+use Rattle.float.specs.Sign.{atMost}
 use Rattle.grid.specs.Grid.{gridCheck}
 use Rattle.crossing.specs.declared.Crossing.{Crossing}
+use Rattle.page.specs.Step.{Step, on, off}
 use Rattle.trace.specs.declared.curve.Previous.the-variants.{Nowhere}
 use Rattle.trace.specs.declared.flat.Trace.{Trace}
 use Rattle.trace.specs.declared.flat.Trace.the-variants.{Drawn, Refused}
-use Rattle.page.specs.Step.{Step, on, off}
 use Rattle.trace.specs.Curve.{samplesOf, traced}
 use Rattle.trace.specs.Drawing.{Drawing, Room, roomIn, nothingDrawn, pushSegmentPoint, flushSegment}
 

@@ -10,8 +10,8 @@ ghost use lib.ListN.{length, getD};
 ghost use lib.Ieee.{nan};
 ghost use Rattle.edges.specs.Param.{param};
 ghost use Rattle.crossing.specs.Crossing.{GridFits};
-ghost use Rattle.trace.specs.Curve.{sampleAt, samplesOf, afterSample, sampled, traced};
 ghost use Rattle.page.specs.Page.{penAt, pageOf, pushPage, flushPage, Pushed, PenFits};
+ghost use Rattle.trace.specs.Curve.{sampleAt, samplesOf, afterSample, sampled, traced};
 
 // What stands before a sample: a point, or nothing after a break and at the start.
 pub enum Previous {

@@ -4,23 +4,23 @@ use mathlib.Core.Bool.{Bool, true, false, _||_}
 use mathlib.Core.List.{List}
 use Prim.Native.Nat.{ℕ}
 use lib.Ieee.{Float, binary64, lt, add}
-use Rattle.float.specs.Consts.{eps}
 use Rattle.refusal.specs.declared.Refusal.{Refusal}
 use Rattle.refusal.specs.declared.Refusal.the-variants as refusals
+use Rattle.float.specs.Consts.{eps}
 use Rattle.edges.specs.Param.{pick, lerp, paramInBounds}
 use Rattle.edges.specs.declared.point.ParamPoint.{ParamPoint}
 use Rattle.edges.specs.declared.event.EdgeEvent.{EdgeEvent}
 use Rattle.crossing.specs.declared.Crossing.{Crossing}
 use Rattle.crossing.specs.declared.EdgePoint.{EdgePoint}
 use Rattle.crossing.specs.declared.EdgePoint.the-variants.{On, NoStep}
+use Rattle.crossing.specs.Crossing.{edgePoint}
 use Rattle.page.specs.declared.Pen.{Pen}
 use Rattle.page.specs.declared.Penned.{Penned}
 use Rattle.page.specs.declared.Penned.the-variants.{Down, Stop}
-use Rattle.crossing.specs.Crossing.{edgePoint}
 use Rattle.page.specs.Step.{Step, on, follow}
-use Rattle.walk.specs.Walk.{middle, beforeInside, afterInside, pushed, flushUnless, crossed}
 use Rattle.page.specs.Page.{Page, pageOf, pushPage, flushPage, Pushed}
 use Rattle.page.proofs.Follow.{down, stops, as-well}
+use Rattle.walk.specs.Walk.{middle, beforeInside, afterInside, pushed, flushUnless, crossed}
 
 -- ---- inside before and after
 

@@ -12,9 +12,9 @@ use Rattle.crossing.specs.declared.EdgePoint.{EdgePoint}
 use Rattle.crossing.specs.declared.EdgePoint.the-variants.{On, NoStep}
 use Rattle.crossing.specs.Crossing.{edgePoint}
 use Rattle.page.specs.Step.{on}
-use Rattle.walk.specs.Walk.{beforeInside, afterInside, nextLambda, pushed, flushUnless, crossed, crossings, appendEdgeCrossings}
 use Rattle.page.specs.Page.{Page, pushPage, flushPage}
 use Rattle.page.proofs.Fits.{Fitting, Fits, push-fits, flush-fits, follow-fits, pick-fits}
+use Rattle.walk.specs.Walk.{beforeInside, afterInside, nextLambda, pushed, flushUnless, crossed, crossings, appendEdgeCrossings}
 
 module _ (g : List Float) (m n : ℕ) where
   pub pushed-fits : (e : EdgePoint) (s : Page) → Fitting s → Fits (pushed pushPage flushPage g m n e s)

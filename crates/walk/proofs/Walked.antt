@@ -9,6 +9,7 @@ use lib.Dec.{ltb, lit≤}
 use lib.ListN.{length, drop, getD, drop-of-length-le}
 use lib.Ieee.{Float, nan}
 use borrow.Author.Tests.{ltb-true, ltb-false}
+use Rattle.refusal.specs.declared.Refusal.{Refusal}
 use Rattle.float.specs.Consts.{zero64, one64}
 use Rattle.edges.specs.Param.{pick, paramInBounds}
 use Rattle.edges.specs.Events.{Each, OnGrid, sortedEdgeEvents}
@@ -19,14 +20,13 @@ use Rattle.edges.proofs.Places.{event-in, events-length}
 use Rattle.edges.proofs.Kept.{next-event}
 use Rattle.edges.proofs.Each.{each-at}
 use Rattle.edges.proofs.Laws.{events-inside}
-use Rattle.refusal.specs.declared.Refusal.{Refusal}
 use Rattle.page.specs.declared.Pen.{Pen}
 use Rattle.page.specs.declared.Penned.{Penned}
 use Rattle.page.specs.declared.Penned.the-variants.{Down, Stop}
 use Rattle.page.specs.Step.{Step, on, follow}
-use Rattle.walk.specs.Walk.{nextLambda, crossed, crossings, flushUnless, appendEdgeCrossings}
 use Rattle.page.specs.Page.{Page, pageOf, pushPage, flushPage, Pushed}
 use Rattle.page.proofs.Follow.{down, stops, as-well}
+use Rattle.walk.specs.Walk.{nextLambda, crossed, crossings, flushUnless, appendEdgeCrossings}
 use Rattle.walk.proofs.Crossed.{unless-is}
 
 module _ (ls : List Float) (cs : List ℕ) (count i : ℕ) (h : count ≤ length ls) (s : length ls ≡ length cs) where

@@ -4,8 +4,8 @@ use mathlib.Core.Bool.{Bool, true, false, _||_}
 use mathlib.Core.List.{List, [], _∷_}
 use Prim.Native.Nat.{ℕ}
 use lib.Ieee.{Float, binary64, ofBits, lt, add, mul}
-use Rattle.float.specs.Consts.{eps, zero64, one64}
 use Rattle.refusal.specs.declared.Refusal.the-variants as refusals
+use Rattle.float.specs.Consts.{eps, zero64, one64}
 use Rattle.edges.specs.Param.{pick, lerp, paramInBounds}
 use Rattle.edges.specs.Events.{sortedEdgeEvents}
 use Rattle.edges.specs.declared.point.ParamPoint.{ParamPoint}

@@ -25,8 +25,8 @@ ghost use Rattle.edges.specs.Events.{Inside, Each, OnGrid};
 ghost use Rattle.edges.specs.Scratch.{eventsIn};
 ghost use Rattle.crossing.specs.Crossing.{edgePoint, GridFits};
 ghost use Rattle.page.specs.Step.{on};
-ghost use Rattle.walk.specs.Walk.{beforeInside, afterInside, pushed, crossed, crossings, appendEdgeCrossings};
 ghost use Rattle.page.specs.Page.{pageOf, pushPage, flushPage, Pushed, PenFits};
+ghost use Rattle.walk.specs.Walk.{beforeInside, afterInside, pushed, crossed, crossings, appendEdgeCrossings};
 
 // Whether the step is inside the grid before the event at `lambda`, the event before it at `previous`.
 fn before_inside(

@@ -6,10 +6,10 @@ use denote.Ref.{now}
 use lib.ListN.{length, drop}
 use Rattle.float.specs.Consts.{zero64}
 use Rattle.edges.specs.Scratch.{eventsIn}
-use Rattle.walk.specs.Walk.{crossings}
 use Rattle.page.specs.Page.{pageOf, pushPage, flushPage, PenFits}
 use Rattle.page.proofs.Follow.{still}
 use Rattle.page.proofs.Fits.{fits-down}
+use Rattle.walk.specs.Walk.{crossings}
 use Rattle.walk.proofs.Fits.{crossed-fits}
 use Rattle.walk.proofs.Walked.{event-inside, turn-goes, turn-stops, walk-ends}
 use borrow.Author.Needs.{needs}

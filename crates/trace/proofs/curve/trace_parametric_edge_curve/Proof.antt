@@ -4,11 +4,11 @@ use mathlib.Core.Path.{_≡_, _∙_}
 use native.Mathlib.Omega.{arith}
 use denote.Ref.{now}
 use lib.ListN.{length, drop}
-use Rattle.trace.specs.declared.curve.Previous.the-variants.{Nowhere}
-use Rattle.trace.specs.Curve.{samplesOf, traced}
 use Rattle.page.specs.Page.{penAt, pageOf, pushPage, flushPage, PenFits}
 use Rattle.page.proofs.Follow.{as-well}
 use Rattle.page.proofs.Fits.{fits-down}
+use Rattle.trace.specs.declared.curve.Previous.the-variants.{Nowhere}
+use Rattle.trace.specs.Curve.{samplesOf, traced}
 use Rattle.trace.proofs.Fits.{sampled-fits}
 use Rattle.trace.proofs.Sampled.{trace-goes, trace-stops, trace-flushes}
 use borrow.Author.Needs.{needs}
