@@ -1,6 +1,6 @@
 // The trace of flat samples.
 use crate::lines::PathsAnswer;
-use trace::page::Trace;
+use trace::flat::Trace;
 ghost use mathlib.Core.Path.{_≡_};
 ghost use Rattle.trace.specs.Demand.{Demand3};
 ghost use Rattle.trace.specs.Trace.{lists, statedTrace, traceFlat};

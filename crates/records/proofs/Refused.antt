@@ -12,7 +12,7 @@ use Rattle.refusal.specs.declared.Check.the-variants.{Passed, Failed}
 use Rattle.refusal.specs.declared.Refusal.the-variants.{Steps, Length}
 use Rattle.refusal.specs.Refusals.{unless, andThen}
 use Rattle.grid.specs.Grid.{stepsFit, lengthFits, gridCheck}
-use Rattle.trace.specs.declared.page.Trace.the-variants.{Refused}
+use Rattle.trace.specs.declared.flat.Trace.the-variants.{Refused}
 use Rattle.trace.specs.Trace.{Lists, traceCheck, traceFlat, Traces}
 use Rattle.trace.proofs.Ended.{refused-before}
 

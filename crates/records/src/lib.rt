@@ -2,8 +2,8 @@
 // flat trace takes.
 use edges::point::ParamPoint;
 use refusal::Refusal;
+use trace::flat::Trace;
 use trace::flat::trace_flat;
-use trace::page::Trace;
 use trace::samples::MAX_MARKS;
 ghost use mathlib.Core.Path.{_≡_};
 ghost use mathlib.Core.List.{List};

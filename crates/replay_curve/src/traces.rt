@@ -8,7 +8,7 @@ use cases::words::field;
 use cases::words::is_refused;
 use cases::words::is_told;
 use cases::words::number;
-use trace::page::Trace;
+use trace::flat::Trace;
 
 // The call, and what it answers and leaves.
 fn compare_trace(

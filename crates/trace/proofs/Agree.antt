@@ -1,38 +1,36 @@
 -- The walk that fills lent lists in place and the walk that draws lines agree: the front of each list shows the drawing's points, and a flush moves the count where the
 -- drawing moves its pending points. So the lists, zeroed past the counts, are those of `finished`. Assumes nothing.
-use mathlib.Core.Path.{_≡_, refl, sym, ap, _∙_, subst}
+use mathlib.Core.Path.{_≡_, refl, sym, ap, _∙_}
 use mathlib.Core.Logic.{_⊎_, inl, inr}
 use mathlib.Core.Bool.{Bool, true, false, _&&_, true≢false}
 use mathlib.Core.List.{List, [], _∷_, _++_, append-assoc, append-nil}
-use Prim.Native.Nat.{ℕ, zero, suc, _+_, _-_, _*_, _/_, _≤_, _<_, min}
-use native.Mathlib.Nat.{div-mul-le-self, lt-of-lt-of-le, le-trans, mul-le-mul-left, mul-comm}
+use Prim.Native.Nat.{ℕ, suc, _+_, _-_, _*_, _/_, _≤_, _<_, min}
 use native.Mathlib.Numerals.{add-one}
 use native.Mathlib.Omega.{arith}
 use lib.Dec.{ltb, leb}
-use lib.ListN.{length, take, drop, getD, set, length-append, length-take, length-set}
-use lib.Seq.{take-take, take-suc-set, sets, length-sets}
+use lib.ListN.{length, take, getD, set, length-append, length-set}
+use lib.Seq.{take-suc-set, sets, length-sets}
 use lib.Ieee.{Float, nan}
 use borrow.Author.Tests.{ltb-true, ltb-false, lt-ltb, le-ltb, leb-true, leb-false, le-leb, lt-leb}
-use Rattle.vector.specs.Vectors.{allClose}
-use Rattle.vector.specs.declared.Vector.{Vector}
-use Rattle.grid.specs.Grid.{pointAt}
 use Rattle.refusal.specs.declared.Refusal.the-variants.{Full}
+use Rattle.refusal.specs.Refusals.{ok, refused, numberOf}
 use Rattle.lent.specs.Lent.{zeroFloat, filled, zeroedFrom}
 use Rattle.lent.proofs.Laws.{zeroed-filled}
+use Rattle.vector.specs.Vectors.{allClose}
+use Rattle.grid.specs.Grid.{pointAt}
 use Rattle.edges.specs.Param.{pick}
-use Rattle.trace.specs.declared.crossing.Crossing.{Crossing}
-use Rattle.trace.specs.declared.page.Pen.{Pen}
 use Rattle.edges.specs.Events.{sortedEdgeEvents}
 use Rattle.edges.specs.declared.event.EdgeEvent.{EdgeEvent}
-use Rattle.refusal.specs.Refusals.{ok, refused, numberOf}
-use Rattle.trace.specs.declared.page.Penned.{Penned}
-use Rattle.trace.specs.declared.page.Penned.the-variants.{Down, Stop}
-use Rattle.trace.specs.declared.page.Previous.{Previous}
-use Rattle.trace.specs.declared.page.Previous.the-variants.{Nowhere}
-use Rattle.trace.specs.Walk.{Step, on, off, follow, Sample, samplesOf, afterSample, sampled, traced}
+use Rattle.crossing.specs.declared.Crossing.{Crossing}
+use Rattle.page.specs.declared.Penned.{Penned}
+use Rattle.page.specs.declared.Penned.the-variants.{Down, Stop}
+use Rattle.page.specs.Step.{Step, on, off, follow}
+use Rattle.page.specs.Page.{Page, penAt, pageOf, writePoint, writeSide, hasRoom, closeToPending, written, pushPage, kept, dropped, flushPage, pageIn, pennedIn, Pushed}
+use Rattle.trace.specs.declared.curve.Previous.{Previous}
+use Rattle.trace.specs.declared.curve.Previous.the-variants.{Nowhere}
+use Rattle.trace.specs.Curve.{Sample, samplesOf, afterSample, sampled, traced}
 use Rattle.trace.specs.Drawing.{Drawing, drawing, nothingDrawn, Room, roomIn, closeToLast, pushSegmentPoint, flushSegment}
 use Rattle.trace.specs.Trace.{pointOf, sideOf, fractionOf, inTurn, Lists, Traced, drawingOf, finished}
-use Rattle.trace.specs.Page.{Page, penAt, pageOf, writePoint, writeSide, hasRoom, closeToPending, written, pushPage, kept, dropped, flushPage, pageIn, pennedIn, Pushed}
 use Rattle.trace.proofs.Related.{Related, both-on, both-off, test-related, GoodEvents, traced-related}
 use Rattle.trace.proofs.Turns.{Holds, length-turn, holds-front, holds-more, last-at}
 
@@ -273,7 +271,7 @@ unfolding AnyCrossing
 any-events g m n [] = tt
 any-events g m n (e ∷ es) = ((λ x c q. tt), any-events g m n es)
 
-pub traces-related : (l : Lists) (g : List Float) (m n : ℕ) (xs : List Sample)
+traces-related : (l : Lists) (g : List Float) (m n : ℕ) (xs : List Sample)
     → Related (Shows l) (Sized l) (traced pushPage flushPage g m n xs Nowhere (firstPage l)) (traced (pushSegmentPoint (roomOf l)) (flushSegment (roomOf l)) g m n xs Nowhere nothingDrawn)
 traces-related l g m n xs =
     traced-related (Shows l) (Sized l) AnyCrossing pushPage flushPage (pushSegmentPoint (roomOf l)) (flushSegment (roomOf l))

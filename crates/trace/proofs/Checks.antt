@@ -1,7 +1,7 @@
 -- `traceCheck` by the tests of the code, and what a trace that passes it is known by. Assumes nothing.
 use mathlib.Core.Path.{_≡_, refl, sym, ap, _∙_}
 use mathlib.Core.Bool.{Bool, true, false, _&&_, _||_}
-use mathlib.Core.List.{List, [], _∷_}
+use mathlib.Core.List.{List}
 use Prim.Native.Nat.{ℕ, zero, suc, _+_, _*_, _≤_, _<_}
 use native.Mathlib.Numerals.{add-one}
 use native.Mathlib.Omega.{arith}
@@ -10,12 +10,12 @@ use lib.ListN.{length, getD, drop, drop-of-length-le}
 use lib.Seq.{drop-cons}
 use lib.Ieee.{Float, nan}
 use borrow.Author.Tests.{eq-eqb, ne-eqb, eqb-true, le-leb, lt-leb, leb-true}
-use Rattle.float.specs.Sign.{atMost}
 use Rattle.refusal.specs.declared.Check.{Check}
 use Rattle.refusal.specs.declared.Check.the-variants.{Passed, Failed}
 use Rattle.refusal.specs.declared.Refusal.{Refusal}
 use Rattle.refusal.specs.declared.Refusal.the-variants.{Length, Mark, Sample}
 use Rattle.refusal.specs.Refusals.{unless, andThen}
+use Rattle.float.specs.Sign.{atMost}
 use Rattle.grid.specs.Grid.{gridCheck}
 use Rattle.grid.proofs.Laws.{Shaped, and-both, unless-passed, then-passed, grid-passed}
 use Rattle.trace.specs.Trace.{samplesLengthFits, marksFit, maxSample, pairsFit, traceCheck}
@@ -88,7 +88,7 @@ module _ (pairs : List Float) (marks : List ℕ) where
   lengths-fit short twice = rw (eq-eqb (length pairs) (2 * length marks) twice, le-leb (length marks) 65537 short)
 
   -- lengths that fit, by the grid's tests with theirs between
-  pub passed-lengths : (g : List Float) (m n : ℕ) → gridCheck g m n (unless (samplesLengthFits pairs marks) Length Passed) ≡ Passed → (length pairs ≡ 2 * length marks) × (length marks ≤ 65537)
+  passed-lengths : (g : List Float) (m n : ℕ) → gridCheck g m n (unless (samplesLengthFits pairs marks) Length Passed) ≡ Passed → (length pairs ≡ 2 * length marks) × (length marks ≤ 65537)
   passed-lengths g m n h =
       let own = grid-passed g m n (unless (samplesLengthFits pairs marks) Length Passed) h .own in
       let l = and-both (eqb (length pairs) (2 * length marks)) (leb (length marks) 65537) (unless-passed (samplesLengthFits pairs marks) Length Passed own .0) in

@@ -1,40 +1,37 @@
--- Demand 3, whole. The sides and the flipped pairs are the surface's theorem. A traced point was made from the ends of a grid edge (Drawn.antt: each event's side is one), and
+-- Demand 3, whole. The sides and the flipped pairs are the surface's theorem. A traced point was made from the ends of a grid edge (each event's side is one, and Drawn.antt has that no other point is drawn), and
 -- the surface's theorem says that J takes the ends of a grid edge to the ends of a side. Assumes nothing.
-use mathlib.Core.Path.{_≡_, refl, sym, ap, _∙_, subst}
-use mathlib.Core.Bool.{Bool, true, false}
-use mathlib.Core.List.{List, [], _∷_, _++_}
-use Prim.Native.Nat.{ℕ, zero, suc, _+_, _*_, _≤_, _<_}
+use mathlib.Core.Path.{_≡_, refl, sym, ap, _∙_}
+use mathlib.Core.List.{List, [], _∷_}
+use Prim.Native.Nat.{ℕ, _+_, _*_, _≤_, _<_}
 use native.Mathlib.Nat.{le-trans}
 use native.Mathlib.Omega.{arith}
 use lib.Dec.{lit≤}
 use lib.ListN.{length, getD, List·getD-append}
 use lib.Ieee.{Float, nan}
-use Rattle.vector.specs.Vectors.{vector}
 use Rattle.refusal.specs.declared.Check.{Check}
 use Rattle.refusal.specs.declared.Check.the-variants.{Passed, Failed}
-use Rattle.grid.specs.Grid.{pointNumber, Accepted}
+use Rattle.vector.specs.Vectors.{vector}
+use Rattle.grid.proofs.Laws.{accepted-known}
+use Rattle.surface.specs.Surface.{Shape, along-u, along-v, falls, Meets}
+use Rattle.surface.specs.Found.{surfaceOf}
+use Rattle.surface.proofs.Demand as surface
+use Rattle.surface.proofs.Joinings.{surface-meets}
 use Rattle.edges.specs.Events.{sortedEdgeEvents, Inside, Each, OnGrid}
-use Rattle.edges.specs.declared.point.ParamPoint.{ParamPoint}
 use Rattle.edges.specs.declared.event.ParamEdge.{ParamEdge}
 use Rattle.edges.specs.declared.event.ParamEdge.the-variants.{U, «V», Diagonal}
 use Rattle.edges.specs.declared.event.EdgeEvent.{EdgeEvent}
-use Rattle.surface.specs.Surface.{Shape, falling, along-u, along-v, falls, triangles, Owns, Meets, Jₙ}
-use Rattle.surface.specs.Found.{surfaceOf, CoveredGrid}
-use Rattle.grid.proofs.Laws.{accepted-known}
 use Rattle.edges.proofs.Laws.{events-inside}
-use Rattle.surface.proofs.Demand as surface
-use Rattle.surface.proofs.Joinings.{surface-meets}
-use Rattle.trace.specs.declared.crossing.StepIndex.{StepIndex}
-use Rattle.trace.specs.declared.crossing.StepIndex.the-variants.{At, Nothing}
-use Rattle.trace.specs.declared.crossing.Crossing.{Crossing}
-use Rattle.trace.specs.declared.crossing.EdgePoint.{EdgePoint}
-use Rattle.trace.specs.declared.crossing.EdgePoint.the-variants.{On, NoStep}
-use Rattle.trace.specs.Crossing.{stepIndex, crossing, onU, onV, onDiagonal, edgePoint}
-use Rattle.trace.specs.Walk.{Step, on, off, samplesOf}
+use Rattle.crossing.specs.declared.StepIndex.{StepIndex}
+use Rattle.crossing.specs.declared.StepIndex.the-variants.{At, Nothing}
+use Rattle.crossing.specs.declared.Crossing.{Crossing}
+use Rattle.crossing.specs.declared.EdgePoint.the-variants.{On, NoStep}
+use Rattle.crossing.specs.Crossing.{stepIndex, onU, onV, edgePoint}
+use Rattle.crossing.proofs.Edges.{cell-inside}
+use Rattle.page.specs.Step.{Step, on, off}
+use Rattle.trace.specs.Curve.{samplesOf}
 use Rattle.trace.specs.Drawing.{Drawing, Room, roomIn}
-use Rattle.trace.specs.Trace.{sideOf, inTurn, Lists, Traced, Counts, drawingOf, finished, afterCheck, traceCheck, traceFlat}
-use Rattle.trace.specs.Demand.{pointsIn, EndsOfSide, PointsOnSides, DemandMet, Demand3}
-use Rattle.trace.proofs.Steps.{step-index-below}
+use Rattle.trace.specs.Trace.{sideOf, inTurn, Lists, drawingOf, finished, afterCheck, traceCheck, traceFlat}
+use Rattle.trace.specs.Demand.{PointsOnSides, Demand3}
 use Rattle.trace.proofs.Related.{GoodEdge, GoodEvents}
 use Rattle.trace.proofs.Turns.{length-turn, turn-at}
 use Rattle.trace.proofs.Keeps.{Holding}
@@ -59,16 +56,13 @@ module _ (g : List Float) (m n : ℕ) (hm : m ≤ 255) (hn : n ≤ 255) where
   abbrev pub FromEdge : Crossing → Type 0
   FromEdge c = surface.EdgeNumbers s (c .p) (c .q)
 
-  below : (x : Float) (k : ℕ) {i : ℕ} {t : Float} → k ≤ 255 → stepIndex x k ≡ At i t → i < k
-  below x k h e = step-index-below x k (le-trans h (lit≤ tt)) e
-
   on-u : (u : ℕ) (x : Float) (c : Crossing) → u ≤ m → onU g n u (stepIndex x n) ≡ On c → FromEdge c
   on-u u x c h e = go (stepIndex x n) refl e
     where
       go : (i : StepIndex) → stepIndex x n ≡ i → onU g n u i ≡ On c → FromEdge c
       go (At v t) q r =
           let same = same-point r in
-          record { u = u; v = v; u′ = u; v′ = v + 1; edge = along-v h (below x n hn q); p-is = sym (ap (λ (k : Crossing). k .p) same); q-is = sym (ap (λ (k : Crossing). k .q) same) }
+          record { u = u; v = v; u′ = u; v′ = v + 1; edge = along-v h (cell-inside x n hn refl q); p-is = sym (ap (λ (k : Crossing). k .p) same); q-is = sym (ap (λ (k : Crossing). k .q) same) }
       go Nothing q r = absurd (no-point r)
 
   on-v : (v : ℕ) (x : Float) (c : Crossing) → v ≤ n → onV g n v (stepIndex x m) ≡ On c → FromEdge c
@@ -77,7 +71,7 @@ module _ (g : List Float) (m n : ℕ) (hm : m ≤ 255) (hn : n ≤ 255) where
       go : (i : StepIndex) → stepIndex x m ≡ i → onV g n v i ≡ On c → FromEdge c
       go (At u t) q r =
           let same = same-point r in
-          record { u = u; v = v; u′ = u + 1; v′ = v; edge = along-u (below x m hm q) h; p-is = sym (ap (λ (k : Crossing). k .p) same); q-is = sym (ap (λ (k : Crossing). k .q) same) }
+          record { u = u; v = v; u′ = u + 1; v′ = v; edge = along-u (cell-inside x m hm refl q) h; p-is = sym (ap (λ (k : Crossing). k .p) same); q-is = sym (ap (λ (k : Crossing). k .q) same) }
       go Nothing q r = absurd (no-point r)
 
   -- the sides that `edge_point` takes are grid edges

@@ -6,9 +6,9 @@ use lib.ListN.{length, getD}
 use lib.Ieee.{Float}
 use Rattle.edges.specs.Events.{sortedEdgeEvents}
 use Rattle.edges.specs.declared.point.ParamPoint.{ParamPoint}
-use Rattle.trace.specs.declared.crossing.Crossing.{Crossing}
-use Rattle.trace.specs.declared.page.Previous.the-variants.{Nowhere}
-use Rattle.trace.specs.Walk.{Sample, traced}
+use Rattle.crossing.specs.declared.Crossing.{Crossing}
+use Rattle.trace.specs.declared.curve.Previous.the-variants.{Nowhere}
+use Rattle.trace.specs.Curve.{Sample, traced}
 use Rattle.trace.specs.Drawing.{Drawing, nothingDrawn, Room, pushSegmentPoint, flushSegment}
 use Rattle.trace.proofs.Related.{GoodEvents}
 use Rattle.trace.proofs.Keeps.{Holding, traced-keeps}

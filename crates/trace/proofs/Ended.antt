@@ -9,18 +9,19 @@ use Rattle.refusal.specs.declared.Check.{Check}
 use Rattle.refusal.specs.declared.Check.the-variants.{Passed, Failed}
 use Rattle.refusal.specs.declared.Refusal.{Refusal}
 use Rattle.lent.specs.Lent.{zeroFloat, zeroedFrom}
-use Rattle.trace.specs.declared.page.Pen.{Pen}
-use Rattle.trace.specs.declared.page.Penned.{Penned}
-use Rattle.trace.specs.declared.page.Penned.the-variants.{Down, Stop}
-use Rattle.trace.specs.declared.page.Previous.the-variants.{Nowhere}
-use Rattle.trace.specs.declared.page.Trace.the-variants.{Drawn, Refused}
-use Rattle.trace.specs.Crossing.{GridFits}
-use Rattle.trace.specs.Walk.{samplesOf, traced}
+use Rattle.crossing.specs.Crossing.{GridFits}
+use Rattle.page.specs.declared.Pen.{Pen}
+use Rattle.page.specs.declared.Penned.{Penned}
+use Rattle.page.specs.declared.Penned.the-variants.{Down, Stop}
+use Rattle.page.specs.Page.{pushPage, flushPage, Pushed}
+use Rattle.page.proofs.Fits.{fits-down}
+use Rattle.trace.specs.declared.curve.Previous.the-variants.{Nowhere}
+use Rattle.trace.specs.declared.flat.Trace.the-variants.{Drawn, Refused}
+use Rattle.trace.specs.Curve.{samplesOf, traced}
 use Rattle.trace.specs.Drawing.{roomIn}
 use Rattle.trace.specs.Trace.{Lists, traceCheck, drawingOf, finished, traceFlat, Traces}
-use Rattle.trace.specs.Page.{pushPage, flushPage, Pushed, PenFits}
 use Rattle.trace.proofs.Checks.{checked}
-use Rattle.trace.proofs.Fits.{fits-down, traced-fits}
+use Rattle.trace.proofs.Fits.{traced-fits}
 use Rattle.trace.proofs.Agree.{firstPage, Ends, trace-ends}
 
 module _ (g : List Float) (m n : ℕ) (pairs : List Float) (marks : List ℕ) where

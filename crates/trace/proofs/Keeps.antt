@@ -1,7 +1,6 @@
 -- What a walk keeps true of its drawing: a property that holds of nothing drawn, and that a pushed point, a kept line and a dropped line each leave true, holds of whatever
 -- a trace draws. Assumes nothing.
 use mathlib.Core.Path.{_≡_, refl, subst}
-use mathlib.Core.Bool.{Bool, true, false}
 use mathlib.Core.List.{List, [], _∷_, _++_}
 use Prim.Native.Nat.{ℕ, _+_, _≤_}
 use lib.Dec.{ltb, leb}
@@ -10,9 +9,10 @@ use lib.Ieee.{Float}
 use borrow.Author.Tests.{leb-true}
 use Rattle.edges.specs.Events.{sortedEdgeEvents}
 use Rattle.edges.specs.declared.point.ParamPoint.{ParamPoint}
-use Rattle.trace.specs.declared.crossing.Crossing.{Crossing}
-use Rattle.trace.specs.declared.page.Previous.the-variants.{Nowhere}
-use Rattle.trace.specs.Walk.{Step, on, off, Sample, traced}
+use Rattle.crossing.specs.declared.Crossing.{Crossing}
+use Rattle.page.specs.Step.{Step, on, off}
+use Rattle.trace.specs.declared.curve.Previous.the-variants.{Nowhere}
+use Rattle.trace.specs.Curve.{Sample, traced}
 use Rattle.trace.specs.Drawing.{Drawing, drawing, nothingDrawn, Room, closeToLast, pushSegmentPoint, flushSegment}
 use Rattle.trace.proofs.Related.{Related, both-on, both-off, test-related, GoodEvents, traced-related}
 

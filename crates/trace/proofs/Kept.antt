@@ -5,8 +5,8 @@ use native.Mathlib.Omega.{arith}
 use lib.ListN.{length, length-append}
 use lib.Ieee.{Float}
 use Rattle.edges.specs.Events.{sortedEdgeEvents}
-use Rattle.trace.specs.declared.page.Previous.the-variants.{Nowhere}
-use Rattle.trace.specs.Walk.{Sample, traced}
+use Rattle.trace.specs.declared.curve.Previous.the-variants.{Nowhere}
+use Rattle.trace.specs.Curve.{Sample, traced}
 use Rattle.trace.specs.Drawing.{Drawing, nothingDrawn, Room, pushSegmentPoint, flushSegment}
 use Rattle.trace.proofs.Agree.{AnyCrossing, any-events}
 use Rattle.trace.proofs.Keeps.{Holding, traced-keeps}

@@ -1,11 +1,5 @@
 -- Laws that belong to no one function.
-pub mod Steps
-pub mod Edges
-pub mod Pages
-pub mod Follow
 pub mod Fits
-pub mod Crossed
-pub mod Walked
 pub mod Sampled
 pub mod Checks
 pub mod Related

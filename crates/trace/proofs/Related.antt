@@ -5,20 +5,22 @@ use mathlib.Core.List.{List, [], _∷_}
 use Prim.Native.Nat.{ℕ}
 use lib.Dec.{eqb}
 use lib.Ieee.{Float}
-use Rattle.float.specs.Consts.{zero64}
 use Rattle.refusal.specs.declared.Refusal.{Refusal}
+use Rattle.float.specs.Consts.{zero64}
 use Rattle.edges.specs.Param.{pick, lerp, paramInBounds}
 use Rattle.edges.specs.Events.{sortedEdgeEvents}
 use Rattle.edges.specs.declared.point.ParamPoint.{ParamPoint}
 use Rattle.edges.specs.declared.event.ParamEdge.{ParamEdge}
 use Rattle.edges.specs.declared.event.EdgeEvent.{EdgeEvent}
-use Rattle.trace.specs.declared.crossing.Crossing.{Crossing}
-use Rattle.trace.specs.declared.crossing.EdgePoint.{EdgePoint}
-use Rattle.trace.specs.declared.crossing.EdgePoint.the-variants.{On, NoStep}
-use Rattle.trace.specs.declared.page.Previous.{Previous}
-use Rattle.trace.specs.declared.page.Previous.the-variants.{At, Nowhere}
-use Rattle.trace.specs.Crossing.{edgePoint}
-use Rattle.trace.specs.Walk.{Step, on, off, follow, Sample, afterSample, beforeInside, afterInside, nextLambda, pushed, flushUnless, crossed, crossings, appendEdgeCrossings, paired, sampled, traced}
+use Rattle.crossing.specs.declared.Crossing.{Crossing}
+use Rattle.crossing.specs.declared.EdgePoint.{EdgePoint}
+use Rattle.crossing.specs.declared.EdgePoint.the-variants.{On, NoStep}
+use Rattle.crossing.specs.Crossing.{edgePoint}
+use Rattle.page.specs.Step.{Step, on, off, follow}
+use Rattle.walk.specs.Walk.{beforeInside, afterInside, nextLambda, pushed, flushUnless, crossed, crossings, appendEdgeCrossings}
+use Rattle.trace.specs.declared.curve.Previous.{Previous}
+use Rattle.trace.specs.declared.curve.Previous.the-variants.{At, Nowhere}
+use Rattle.trace.specs.Curve.{Sample, afterSample, paired, sampled, traced}
 
 -- both walks go on in related states, or both end by one refusal, the first in a state of which Q holds
 pub data Related {S T : Type 0} (R : S → T → Type 0) (Q : S → Type 0) : Step S → Step T → Type 0 where
@@ -26,12 +28,12 @@ pub data Related {S T : Type 0} (R : S → T → Type 0) (Q : S → Type 0) : St
   both-off : {k : Refusal} {s : S} {t : T} → Q s → Related R Q (off k s) (off k t)
 
 module _ {S T : Type 0} {R : S → T → Type 0} {Q : S → Type 0} where
-  pub follow-related : {x : Step S} {y : Step T} (f : S → Step S) (h : T → Step T) → Related R Q x y
+  follow-related : {x : Step S} {y : Step T} (f : S → Step S) (h : T → Step T) → Related R Q x y
       → ((s : S) (t : T) → R s t → Related R Q (f s) (h t)) → Related R Q (follow x f) (follow y h)
   follow-related f h (both-on {s} {t} r) k = k s t r
   follow-related f h (both-off q) k = both-off q
 
-  pub pick-related : (b : Bool) {x x′ : Step S} {y y′ : Step T} → Related R Q x y → Related R Q x′ y′ → Related R Q (pick b x x′) (pick b y y′)
+  pick-related : (b : Bool) {x x′ : Step S} {y y′ : Step T} → Related R Q x y → Related R Q x′ y′ → Related R Q (pick b x x′) (pick b y y′)
   pick-related true p q = p
   pick-related false p q = q
 

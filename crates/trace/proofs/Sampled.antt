@@ -9,15 +9,18 @@ use lib.Seq.{drop-cons}
 use lib.Ieee.{Float, nan}
 use borrow.Author.Tests.{eq-eqb, ne-eqb}
 use Rattle.refusal.specs.declared.Refusal.{Refusal}
+use Rattle.edges.specs.Param.{param}
 use Rattle.edges.specs.declared.point.ParamPoint.{ParamPoint}
-use Rattle.trace.specs.declared.page.Pen.{Pen}
-use Rattle.trace.specs.declared.page.Penned.{Penned}
-use Rattle.trace.specs.declared.page.Penned.the-variants.{Down, Stop}
-use Rattle.trace.specs.declared.page.Previous.{Previous}
-use Rattle.trace.specs.declared.page.Previous.the-variants.{At, Nowhere}
-use Rattle.trace.specs.Walk.{Step, on, follow, Sample, sampleAt, sample, samplesOf, afterSample, appendEdgeCrossings, sampled, traced}
-use Rattle.trace.specs.Page.{Page, pageOf, pushPage, flushPage, Pushed}
-use Rattle.trace.proofs.Follow.{down, stops, still}
+use Rattle.page.specs.declared.Pen.{Pen}
+use Rattle.page.specs.declared.Penned.{Penned}
+use Rattle.page.specs.declared.Penned.the-variants.{Down, Stop}
+use Rattle.page.specs.Step.{Step, follow}
+use Rattle.page.specs.Page.{Page, pageOf, pushPage, flushPage, Pushed}
+use Rattle.page.proofs.Follow.{down, stops, still}
+use Rattle.walk.specs.Walk.{appendEdgeCrossings}
+use Rattle.trace.specs.declared.curve.Previous.{Previous}
+use Rattle.trace.specs.declared.curve.Previous.the-variants.{At, Nowhere}
+use Rattle.trace.specs.Curve.{Sample, sampleAt, sample, samplesOf, afterSample, sampled, traced}
 
 -- ---- one sample
 
@@ -67,23 +70,23 @@ samples-at (k ∷ ks) (u ∷ (v ∷ ps)) (suc i) z h t =
     ∙ ap (λ (n : ℕ). sample (getD ks i 0) (getD (u ∷ (v ∷ ps)) (2 * suc i) nan) (getD (u ∷ (v ∷ ps)) n nan)) (sym q)
 
 module _ (g : List Float) (m n : ℕ) (ks : List ℕ) (ps : List Float) (i : ℕ) (h : length ps ≡ 2 * length ks) where
-  abbrev pub here : Sample
-  here = sample (getD ks i 0) (getD ps (2 * i) nan) (getD ps (2 * i + 1) nan)
-
   pub trace-flushes : (p : Previous) (w : Page) → length ks ≤ i → traced pushPage flushPage g m n (drop i (samplesOf ks ps)) p w ≡ flushPage w
   unfolding traced
   trace-flushes p w t =
       let past : length (samplesOf ks ps) ≤ i = omega (arith, samples-length ks ps h) in
       ap (λ (xs : List Sample). traced pushPage flushPage g m n xs p w) (drop-of-length-le (samplesOf ks ps) past)
 
-  module _ (p : Previous) (w : Page) (t : i < length ks) where
+  module _ (p : Previous) (w : Page) (t : i < length ks) {b : ParamPoint} (eb : b ≡ param (getD ps (2 * i) nan) (getD ps (2 * i + 1) nan)) where
+    abbrev pub here : Sample
+    here = sampleAt (getD ks i 0) b
+
     trace-turn : traced pushPage flushPage g m n (drop i (samplesOf ks ps)) p w
         ≡ follow (sampled pushPage flushPage g m n p here w) (traced pushPage flushPage g m n (drop (i + 1) (samplesOf ks ps)) (afterSample here))
     unfolding traced
     trace-turn =
         let z = sample 0 nan nan in
         let there : i < length (samplesOf ks ps) = omega (arith, samples-length ks ps h) in
-        let first : drop i (samplesOf ks ps) ≡ here ∷ drop (i + 1) (samplesOf ks ps) = rw (add-one i, drop-cons (samplesOf ks ps) i z there, samples-at ks ps i z h t) in
+        let first : drop i (samplesOf ks ps) ≡ here ∷ drop (i + 1) (samplesOf ks ps) = rw (add-one i, drop-cons (samplesOf ks ps) i z there, samples-at ks ps i z h t, eb) in
         ap (λ (xs : List Sample). traced pushPage flushPage g m n xs p w) first
 
     module _ {z : Step Page} (ez : z ≡ traced pushPage flushPage g m n (drop i (samplesOf ks ps)) p w)

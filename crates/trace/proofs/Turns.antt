@@ -1,22 +1,22 @@
 -- Points one after another in a list, w places each: the front of the list is unmoved by a drop, and grows by one point with a write. Over the width w. Assumes nothing.
-use mathlib.Core.Path.{_≡_, refl, sym, ap, _∙_, subst}
+use mathlib.Core.Path.{_≡_, refl, sym, ap, _∙_}
 use mathlib.Core.List.{List, [], _∷_, _++_, append-assoc, append-nil}
 use Prim.Native.Nat.{ℕ, zero, suc, _+_, _-_, _*_, _≤_, _<_}
 use native.Mathlib.Nat.{mul-suc, mul-zero, mul-le-mul-left}
 use native.Mathlib.Numerals.{add-one}
 use native.Mathlib.Omega.{arith}
 use lib.ListN.{length, take, drop, getD, length-append, length-take, List·getD-append}
-use lib.Seq.{take-at, take-take, take-append-seam, sets, sets-eq, length-sets, getD-take, getD-append-add}
-use Rattle.trace.specs.declared.crossing.Crossing.{Crossing}
+use lib.Seq.{take-at, take-take, sets, sets-eq, getD-take, getD-append-add}
+use Rattle.crossing.specs.declared.Crossing.{Crossing}
 use Rattle.trace.specs.Trace.{inTurn}
 
 -- one after another, the first points and then the others
-pub turn-append : {A : Type 0} (f : Crossing → List A) (cs ds : List Crossing) → inTurn f (cs ++ ds) ≡ inTurn f cs ++ inTurn f ds
+turn-append : {A : Type 0} (f : Crossing → List A) (cs ds : List Crossing) → inTurn f (cs ++ ds) ≡ inTurn f cs ++ inTurn f ds
 unfolding inTurn
 turn-append f [] ds = refl
 turn-append f (c ∷ cs) ds = rw (turn-append f cs ds, append-assoc)
 
-pub turn-one : {A : Type 0} (f : Crossing → List A) (c : Crossing) → inTurn f (c ∷ []) ≡ f c
+turn-one : {A : Type 0} (f : Crossing → List A) (c : Crossing) → inTurn f (c ∷ []) ≡ f c
 unfolding inTurn
 turn-one f c = append-nil (f c)
 

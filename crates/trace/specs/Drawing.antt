@@ -1,15 +1,15 @@
 -- Lines as a trace draws them, and what lent lists can hold. References: `push_segment_point`, `flush_segment`, `Paths`. Assumes nothing.
-use mathlib.Core.Bool.{Bool, true, false}
+use mathlib.Core.Bool.{Bool, false}
 use mathlib.Core.List.{List, [], _∷_, _++_}
 use Prim.Native.Nat.{ℕ, _+_, _/_, min}
 use lib.Dec.{ltb, leb}
 use lib.ListN.{length}
 use lib.Ieee.{Float}
-use Rattle.vector.specs.Vectors.{allClose}
 use Rattle.refusal.specs.declared.Refusal.the-variants.{Full}
+use Rattle.vector.specs.Vectors.{allClose}
 use Rattle.edges.specs.Param.{pick}
-use Rattle.trace.specs.declared.crossing.Crossing.{Crossing}
-use Rattle.trace.specs.Walk.{Step, on, off}
+use Rattle.crossing.specs.declared.Crossing.{Crossing}
+use Rattle.page.specs.Step.{Step, on, off}
 
 -- the points of the kept lines in order, where each line starts among them, and the points of the pending line
 pub record Drawing : Type 0 where

@@ -1,10 +1,10 @@
 -- 01's "Table of known results", its starred rows, in 01's order and words: one theorem a row, about the definitions that the contracts cite. Each is the theorem by computation
--- of the layer that it is about (`Table` of `cyclic`, `surface`, `edges` and `trace`). Assumes nothing.
+-- of the layer that it is about (`Table` of `cyclic`, `surface`, `edges`, `crossing` and `trace`). Assumes nothing.
 use mathlib.Core.Path.{_≡_, ap}
 use mathlib.Core.List.{[], _∷_}
 use lib.Ieee.{binary64, ofBits, neg}
-use Rattle.float.specs.Consts.{eps, zero64, one64}
 use Rattle.refusal.specs.Refusals.{ok}
+use Rattle.float.specs.Consts.{eps, zero64, one64}
 use Rattle.cyclic.specs.declared.mapping.CyclicMapping.the-variants.{Forward, Reverse}
 use Rattle.cyclic.specs.declared.seam.Seam.the-variants.{Joined, Unjoined}
 use Rattle.cyclic.specs.Mapping.{mapIndex, mapIndexInv}
@@ -19,15 +19,16 @@ use Rattle.edges.specs.Param.{param}
 use Rattle.edges.specs.Events.{event, sortedEdgeEvents}
 use Rattle.edges.specs.Table as events
 use Rattle.edges.specs.Table.{quarter, half, three-quarters, minus-half, minus-zero}
-use Rattle.trace.specs.declared.crossing.StepIndex.the-variants.{At, Nothing}
-use Rattle.trace.specs.Crossing.{stepIndex}
+use Rattle.crossing.specs.declared.StepIndex.the-variants.{At, Nothing}
+use Rattle.crossing.specs.Crossing.{stepIndex}
+use Rattle.crossing.specs.Table as crossing
 use Rattle.trace.specs.Trace.{Traced}
 use Rattle.trace.specs.Table as traces
 use Rattle.trace.specs.Table.{step}
 
 -- "`step_index`(4, 4) = (3, 1); (−EPS, 4) = (0, 0); (0, 0) none."
 pub step-index : (stepIndex (ofBits binary64 0x4010000000000000) 4 ≡ At 3 one64) × (stepIndex (neg eps) 4 ≡ At 0 zero64) × (stepIndex zero64 0 ≡ Nothing)
-step-index = (traces.last-border, traces.before-first, traces.no-steps)
+step-index = (crossing.last-border, crossing.before-first, crossing.no-steps)
 
 -- "Forward(1,4): image of 4 is 1, inverse of 0 is 3."
 pub forward : (mapIndex (Forward 1 4) 4 ≡ ok 1) × (mapIndexInv (Forward 1 4) 0 ≡ ok 3)

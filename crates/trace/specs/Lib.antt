@@ -1,9 +1,7 @@
 -- The definitions that the contracts of this crate cite.
-pub mod Crossing
-pub mod Walk
+pub mod Curve
 pub mod Drawing
 pub mod Trace
-pub mod Page
 pub mod Demand
 pub mod Table
 pub mod Known

@@ -1,41 +1,24 @@
--- 01's known results on `step_index` and on traces, by computation. Assumes nothing.
-use Prim.Native.Nat.{ℕ}
+-- 01's known results on traces, by computation. Assumes nothing.
 use mathlib.Core.Path.{_≡_, refl}
 use mathlib.Core.Bool.{Bool, true}
 use mathlib.Core.List.{List, [], _∷_}
-use lib.Ieee.{Float, binary64, ofBits, neg, add}
+use lib.Ieee.{Float, binary64, ofBits, add}
+use Rattle.refusal.specs.Refusals.{ok, refused}
 use Rattle.float.specs.Consts.{eps, zero64, one64}
 use Rattle.float.specs.Order.{larger}
 use Rattle.vector.specs.Vectors.{allClose}
-use Rattle.refusal.specs.Refusals.{ok, refused}
-use Rattle.grid.specs.Grid.{pointAt, coordinatesFit, gridCheck}
-use Rattle.edges.specs.Table as events
+use Rattle.grid.specs.Grid.{coordinatesFit, gridCheck}
 use Rattle.edges.specs.Table.{quarter, three-quarters}
-use Rattle.trace.specs.declared.crossing.StepIndex.the-variants.{At, Nothing}
-use Rattle.trace.specs.Crossing.{closeTo, cellOf, offAxis, inCell, stepIndex, blend, edgePoint}
-use Rattle.trace.specs.Walk.{samplesOf, beforeInside, afterInside, crossed, crossings, appendEdgeCrossings, sampled, traced}
+use Rattle.crossing.specs.Table as crossing
+use Rattle.walk.specs.Walk.{beforeInside, afterInside, crossed, crossings, appendEdgeCrossings}
+use Rattle.trace.specs.Curve.{samplesOf, sampled, traced}
 use Rattle.trace.specs.Drawing.{pushSegmentPoint, flushSegment}
 use Rattle.trace.specs.Trace.{marksFit, pairsFit, traceCheck, Lists, lists, inTurn, Traced, traceFlat}
 
 -- `unfolding computed` opens every definition that a closed result needs
 unfoldable pub computed : Bool
-unfolding events.computed larger allClose pointAt coordinatesFit gridCheck closeTo cellOf offAxis inCell stepIndex blend edgePoint samplesOf beforeInside afterInside crossed crossings appendEdgeCrossings sampled traced pushSegmentPoint flushSegment marksFit pairsFit traceCheck inTurn traceFlat
+unfolding crossing.computed larger allClose coordinatesFit gridCheck samplesOf beforeInside afterInside crossed crossings appendEdgeCrossings sampled traced pushSegmentPoint flushSegment marksFit pairsFit traceCheck inTurn traceFlat
 computed = true
-
--- "`step_index`(4, 4) = (3, 1)"
-pub last-border : stepIndex (ofBits binary64 0x4010000000000000) 4 ≡ At 3 one64
-unfolding computed
-last-border = refl
-
--- "(−EPS, 4) = (0, 0)"
-pub before-first : stepIndex (neg eps) 4 ≡ At 0 zero64
-unfolding computed
-before-first = refl
-
--- "(0, 0) none"
-pub no-steps : stepIndex zero64 0 ≡ Nothing
-unfolding computed
-no-steps = refl
 
 -- a unit square as a grid of M = N = 1, and the trace of two samples in lists with room for two points and one line
 abbrev square : List Float

@@ -1,24 +1,24 @@
 -- The trace of flat samples: its refusals, its answer, and what it leaves in the four lent lists (01, "A trace across the cells", "Who sends the caller back"). Assumes nothing.
 use mathlib.Core.Path.{_≡_}
-use mathlib.Core.Bool.{Bool, true, false, _&&_, _||_}
+use mathlib.Core.Bool.{Bool, true, _&&_, _||_}
 use mathlib.Core.List.{List, [], _∷_, _++_}
 use Prim.Native.Nat.{ℕ, _*_}
 use lib.Dec.{eqb, leb}
 use lib.ListN.{length}
 use lib.Ieee.{Float, binary64, ofBits}
-use Rattle.float.specs.Sign.{atMost}
 use Rattle.refusal.specs.declared.Check.{Check}
 use Rattle.refusal.specs.declared.Check.the-variants.{Passed, Failed}
-use Rattle.refusal.specs.declared.Refusal.{Refusal}
 use Rattle.refusal.specs.declared.Refusal.the-variants.{Length, Mark, Sample}
 use Rattle.refusal.specs.Refusals.{Answer, ok, refused, numberOf, unless, andThen}
 use Rattle.lent.specs.Lent.{zeroFloat, filled}
+use Rattle.float.specs.Sign.{atMost}
 use Rattle.grid.specs.Grid.{gridCheck}
-use Rattle.trace.specs.declared.crossing.Crossing.{Crossing}
-use Rattle.trace.specs.declared.page.Previous.the-variants.{Nowhere}
-use Rattle.trace.specs.declared.page.Trace.{Trace}
-use Rattle.trace.specs.declared.page.Trace.the-variants.{Drawn, Refused}
-use Rattle.trace.specs.Walk.{Step, on, off, samplesOf, traced}
+use Rattle.crossing.specs.declared.Crossing.{Crossing}
+use Rattle.page.specs.Step.{Step, on, off}
+use Rattle.trace.specs.declared.curve.Previous.the-variants.{Nowhere}
+use Rattle.trace.specs.declared.flat.Trace.{Trace}
+use Rattle.trace.specs.declared.flat.Trace.the-variants.{Drawn, Refused}
+use Rattle.trace.specs.Curve.{samplesOf, traced}
 use Rattle.trace.specs.Drawing.{Drawing, Room, roomIn, nothingDrawn, pushSegmentPoint, flushSegment}
 
 -- "pairs not twice the marks; over 65,537 marks" is not so

@@ -1,16 +1,34 @@
 // The walk over all samples, which fills the lent lists.
-use crate::page::Pen;
-use crate::page::Penned;
-use crate::page::Previous;
-use crate::page::flush_segment;
-use crate::walk::append_edge_crossings;
 use edges::point::ParamPoint;
+use page::Pen;
+use page::Penned;
+use page::flush_segment;
+use walk::append_edge_crossings;
 ghost use mathlib.Core.Path.{_≡_};
-ghost use Prim.Native.Nat.{_*_, _≤_};
-ghost use lib.ListN.{length};
-ghost use Rattle.trace.specs.Crossing.{GridFits};
-ghost use Rattle.trace.specs.Walk.{sampleAt, samplesOf, afterSample, sampled, traced};
-ghost use Rattle.trace.specs.Page.{penAt, pageOf, pushPage, flushPage, Pushed, PenFits};
+ghost use Prim.Native.Nat.{_+_, _*_, _≤_};
+ghost use lib.ListN.{length, getD};
+ghost use lib.Ieee.{nan};
+ghost use Rattle.edges.specs.Param.{param};
+ghost use Rattle.crossing.specs.Crossing.{GridFits};
+ghost use Rattle.page.specs.Page.{penAt, pageOf, pushPage, flushPage, Pushed, PenFits};
+ghost use Rattle.trace.specs.Curve.{sampleAt, samplesOf, afterSample, sampled, traced};
+
+// What stands before a sample: a point, or nothing after a break and at the start.
+pub enum Previous {
+    At(ParamPoint),
+    Nowhere,
+}
+
+// The pair of sample i.
+fn point_of(pairs: &[f64], i: usize) -> ParamPoint
+    requires { ⌜ 2 * i + 2 ≤ length (now pairs) ⌝ }
+    ensures { λ r. ⌜ r ≡ param (getD (now (pairs .entry)) (2 * i) nan) (getD (now (pairs .entry)) (2 * i + 1) nan) ⌝ }
+{
+    ParamPoint {
+        u: pairs[2 * i],
+        v: pairs[2 * i + 1],
+    }
+}
 
 // What the next sample has before it.
 fn after_sample(mark: u8, point: ParamPoint) -> Previous
@@ -96,10 +114,7 @@ pub fn trace_parametric_edge_curve(
     let mut i: usize = 0;
     while i < marks.len() {
         let mark = marks[i];
-        let point = ParamPoint {
-            u: pairs[2 * i],
-            v: pairs[2 * i + 1],
-        };
+        let point = point_of(pairs, i);
         match trace_sample(
             &mut lambdas,
             &mut codes,

@@ -1,17 +1,23 @@
 // The trace of flat samples: a list of u, v pairs and a list of marks.
 use crate::curve::trace_parametric_edge_curve;
-use crate::page::Penned;
-use crate::page::Trace;
 use crate::samples::check_trace;
 use lent::zero_floats;
 use lent::zero_numbers;
+use page::Penned;
 use refusal::Check;
+use refusal::Refusal;
 ghost use mathlib.Core.Path.{_≡_};
 ghost use Prim.Native.Nat.{_*_, _≤_};
 ghost use lib.ListN.{length};
 ghost use Rattle.lent.specs.Lent.{zeroFloat, zeroedFrom};
 ghost use Rattle.trace.specs.Trace.{lists, traceFlat, Traces};
 ghost use Rattle.trace.specs.Demand.{Demand3};
+
+// The counts of points and lines, or a refusal.
+pub enum Trace {
+    Drawn(usize, usize),
+    Refused(Refusal),
+}
 
 // Zero past `count` points and `lines` starts.
 fn zero_past(

@@ -6,10 +6,10 @@ ghost use mathlib.Core.Bool.{_&&_, _||_};
 ghost use Prim.Native.Nat.{_*_};
 ghost use lib.Dec.{eqb};
 ghost use lib.ListN.{length};
-ghost use Rattle.float.specs.Sign.{atMost};
 ghost use Rattle.refusal.specs.declared.Check.the-variants.{Passed};
 ghost use Rattle.refusal.specs.declared.Refusal.the-variants.{Length};
 ghost use Rattle.refusal.specs.Refusals.{unless};
+ghost use Rattle.float.specs.Sign.{atMost};
 ghost use Rattle.trace.specs.Trace.{samplesLengthFits, marksFit, maxSample, pairsFit, traceCheck};
 
 // A trace takes at most this many marks.

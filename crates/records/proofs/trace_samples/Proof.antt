@@ -47,10 +47,10 @@ use denote.Triple.Table.{entered, cited}
 use denote.Triple.Walked.{Stays, stay-none, stay-none-slice, gave-slice, walkOf, Walks, ends-at, walked, goes-none, goes-none-slice, goes-gave-slice, walk-meets}
 use denote.Exit.{yes}
 use Rattle.trace.specs.Trace.{lists, traceFlat, Traces}
-use Rattle.trace.specs.declared.page.Trace.{Trace}
+use Rattle.trace.specs.declared.flat.Trace.{Trace}
 use Rattle.trace.proofs.Demands.{demand3}
-use Rattle.trace.proofs.page.Trace as An
-use Rattle.trace.proofs.page.Trace.Laws as An′
+use Rattle.trace.proofs.flat.Trace as An
+use Rattle.trace.proofs.flat.Trace.Laws as An′
 use Rattle.records.specs.Records.{pairsOf, marksOf}
 use Rattle.records.specs.Flattened.{pairsUpTo, marksUpTo, Flattened}
 use Rattle.records.specs.declared.Sample.{Sample}

@@ -42,9 +42,9 @@ use denote.Triple.Walked.{Stays, stay-none, stay-none-slice, gave-slice, walkOf,
 use denote.Exit.{yes}
 use Rattle.trace.specs.Trace.{lists, statedTrace, traceFlat, Traces}
 use Rattle.trace.specs.Demand.{Demand3}
-use Rattle.trace.specs.declared.page.Trace.{Trace}
-use Rattle.trace.proofs.page.Trace as Tr
-use Rattle.trace.proofs.page.Trace.Laws as Tr′
+use Rattle.trace.specs.declared.flat.Trace.{Trace}
+use Rattle.trace.proofs.flat.Trace as Tr
+use Rattle.trace.proofs.flat.Trace.Laws as Tr′
 use Rattle.records.specs.Records.{pairsOf, marksOf}
 use Rattle.records.specs.declared.Sample.{Sample}
 use Rattle.records.proofs.Sample as T

@@ -4,11 +4,12 @@ use mathlib.Core.Path.{_≡_, _∙_}
 use native.Mathlib.Omega.{arith}
 use denote.Ref.{now}
 use lib.ListN.{length, drop}
-use Rattle.trace.specs.declared.page.Previous.the-variants.{Nowhere}
-use Rattle.trace.specs.Walk.{samplesOf, traced}
-use Rattle.trace.specs.Page.{penAt, pageOf, pushPage, flushPage, PenFits}
-use Rattle.trace.proofs.Follow.{as-well}
-use Rattle.trace.proofs.Fits.{fits-down, sampled-fits}
+use Rattle.page.specs.Page.{penAt, pageOf, pushPage, flushPage, PenFits}
+use Rattle.page.proofs.Follow.{as-well}
+use Rattle.page.proofs.Fits.{fits-down}
+use Rattle.trace.specs.declared.curve.Previous.the-variants.{Nowhere}
+use Rattle.trace.specs.Curve.{samplesOf, traced}
+use Rattle.trace.proofs.Fits.{sampled-fits}
 use Rattle.trace.proofs.Sampled.{trace-goes, trace-stops, trace-flushes}
 use borrow.Author.Needs.{needs}
 use Rattle.trace.proofs.curve.trace_parametric_edge_curve.Statement.{statement}
@@ -30,26 +31,8 @@ loop-holds c = search needs
 shared-slice-read-mark : tie.Need-shared-slice-read-mark Inv-loop μ-loop
 shared-slice-read-mark c = search needs
 
-mul-t19 : tie.Need-mul-t19 Inv-loop μ-loop
-mul-t19 c = search needs
-
-mul-t23 : tie.Need-mul-t23 Inv-loop μ-loop
-mul-t23 c = search needs
-
-shared-slice-read-t25 : tie.Need-shared-slice-read-t25 Inv-loop μ-loop
-shared-slice-read-t25 c = search needs
-
-mul-t26 : tie.Need-mul-t26 Inv-loop μ-loop
-mul-t26 c = search needs
-
-add-t27 : tie.Need-add-t27 Inv-loop μ-loop
-add-t27 c = search needs
-
-mul-t28 : tie.Need-mul-t28 Inv-loop μ-loop
-mul-t28 c = search needs
-
-shared-slice-read-t30 : tie.Need-shared-slice-read-t30 Inv-loop μ-loop
-shared-slice-read-t30 c = search needs
+point-of-requires : tie.Need-point-of-requires Inv-loop μ-loop
+point-of-requires c κs = search needs
 
 slice-aggregate-trace-sample : tie.Need-slice-aggregate-trace-sample Inv-loop μ-loop
 slice-aggregate-trace-sample c = search needs
@@ -58,7 +41,9 @@ slice-aggregate-trace-sample-2 : tie.Need-slice-aggregate-trace-sample-2 Inv-loo
 slice-aggregate-trace-sample-2 c = search needs
 
 trace-sample-requires : tie.Need-trace-sample-requires Inv-loop μ-loop
-trace-sample-requires c κs = ((search needs, search needs), (c .before .before .before .before .before .before .before .before .before .before .before .before .before .before .before .before .before .before .pre .0, c .before .before .before .before .before .before .before .before .before .before .loop .inv .7))
+trace-sample-requires c κs =
+    let l = c .before .before .before .before .before .before .before .before .before in
+    ((search needs, search needs), (l .before .before .before .before .before .before .before .before .pre .0, l .loop .inv .7))
 
 enum-known-traced : tie.Need-enum-known-traced Inv-loop μ-loop
 enum-known-traced c = search needs
@@ -80,30 +65,36 @@ same-length-4 c = search needs
 
 returns : tie.Need-returns Inv-loop μ-loop
 returns c =
-    let s = c .before .before .before .before .before .before .before .before .before .before .before .before .before .before .before .before .before .before .before .before .before .before .before .before .before .before .before .before .before .before .before .before in
-    trace-stops _ _ _ (now (s .args .marks)) (now (s .args .pairs)) (c .before .before .before .before .before .before .before .before .before .before .before .before .before .before .before .before .before .before .before .before .before .before .before .before .loop .i) (s .pre .1 .0) _ _ (c .before .before .before .before .before .before .before .before .before .before .before .before .before .before .before .before .before .before .before .before .before .before .before .loop-test .taken) (c .before .before .before .before .before .before .before .before .before .before .before .before .before .before .before .before .before .before .before .before .before .before .before .before .loop .inv .8) (c .before .before .before .before .before .before .before .before .before .before .before .before .before .trace-sample .ensures) (c .before .refusal .given .1)
+    let t = c .before .before .before .before .before .before .before .before .before .before .before .before .before in
+    let l = t .before .before .before .before .before .before .before .before .before .before in
+    let s = l .before .before .before .before .before .before .before .before in
+    trace-stops _ _ _ (now (s .args .marks)) (now (s .args .pairs)) (l .loop .i) (s .pre .1 .0) _ _ (t .before .before .before .before .before .before .before .before .before .loop-test .taken) (t .before .before .before .before .before .before .before .point-of .ensures) (l .loop .inv .8) (t .trace-sample .ensures) (c .before .refusal .given .1)
 
 after-sample-requires : tie.Need-after-sample-requires Inv-loop μ-loop
 after-sample-requires c κs = search needs
 
 add-i : tie.Need-add-i Inv-loop μ-loop
-add-i c = omega (arith, c .before .before .before .before .before .before .before .before .before .before .before .before .before .before .before .before .before .before .before .before .before .before .before .before .loop-test .taken, c .before .before .before .before .before .before .before .before .before .before .before .before .before .before .before .before .before .before .before .before .before .before .before .before .before .before .before .before .before .before .before .before .before .pre .1 .1)
+add-i c =
+    let l = c .before .before .before .before .before .before .before .before .before .before .before .before .before .before .before .before .before .before .before .before .before .before .before .before in
+    omega (arith, c .before .before .before .before .before .before .before .before .before .before .before .before .before .before .before .before .before .before .before .before .before .before .before .loop-test .taken, l .before .before .before .before .before .before .before .before .pre .1 .1)
 
 loop-less : tie.Need-loop-less Inv-loop μ-loop
 loop-less c = search needs
 
 loop-again : tie.Need-loop-again Inv-loop μ-loop
 loop-again c =
-    let s = c .before .before .before .before .before .before .before .before .before .before .before .before .before .before .before .before .before .before .before .before .before .before .before .before .before .before .before .before .before .before .before .before .before in (
-      omega (arith, c .before .before .before .before .before .before .before .before .before .before .before .before .before .before .before .before .before .before .before .before .before .before .before .before .loop-test .taken),
-      omega (arith, c .before .before .before .before .before .before .before .before .before .before .before .points .given, c .before .before .before .before .before .before .before .before .before .before .before .before .before .before .before .before .before .before .before .before .before .before .before .before .before .loop .inv .1),
-      omega (arith, c .before .before .before .before .before .before .before .before .before .starts .given, c .before .before .before .before .before .before .before .before .before .before .before .before .before .before .before .before .before .before .before .before .before .before .before .before .before .loop .inv .2),
-      omega (arith, c .before .before .before .before .before .before .before .sides .given, c .before .before .before .before .before .before .before .before .before .before .before .before .before .before .before .before .before .before .before .before .before .before .before .before .before .loop .inv .3),
-      omega (arith, c .before .before .before .before .before .fractions .given, c .before .before .before .before .before .before .before .before .before .before .before .before .before .before .before .before .before .before .before .before .before .before .before .before .before .loop .inv .4),
+    let t = c .before .before .before .before .before .before .before .before .before .before .before .before .before .before in
+    let l = t .before .before .before .before .before .before .before .before .before .before in
+    let s = l .before .before .before .before .before .before .before .before in (
+      omega (arith, t .before .before .before .before .before .before .before .before .before .loop-test .taken),
+      omega (arith, c .before .before .before .before .before .before .before .before .before .before .before .points .given, l .loop .inv .1),
+      omega (arith, c .before .before .before .before .before .before .before .before .before .starts .given, l .loop .inv .2),
+      omega (arith, c .before .before .before .before .before .before .before .sides .given, l .loop .inv .3),
+      omega (arith, c .before .before .before .before .before .fractions .given, l .loop .inv .4),
       search needs,
       search needs,
-      fits-down (c .before .before .before .before .before .before .before .before .before .before .before .before .before .before .trace-sample .ensures) (c .before .before .traced .given .1) (sampled-fits _ _ _ _ _ _ (c .before .before .before .before .before .before .before .before .before .before .before .before .before .before .before .before .before .before .before .before .before .before .before .before .before .loop .inv .7)),
-      trace-goes _ _ _ (now (s .args .marks)) (now (s .args .pairs)) (c .before .before .before .before .before .before .before .before .before .before .before .before .before .before .before .before .before .before .before .before .before .before .before .before .before .loop .i) (s .pre .1 .0) _ _ (c .before .before .before .before .before .before .before .before .before .before .before .before .before .before .before .before .before .before .before .before .before .before .before .before .loop-test .taken) (c .before .before .before .before .before .before .before .before .before .before .before .before .before .before .before .before .before .before .before .before .before .before .before .before .before .loop .inv .8) (c .before .before .before .before .before .before .before .before .before .before .before .before .before .before .trace-sample .ensures) (c .before .before .traced .given .1) (c .after-sample .ensures),
+      fits-down (t .trace-sample .ensures) (c .before .before .traced .given .1) (sampled-fits _ _ _ _ _ _ (l .loop .inv .7)),
+      trace-goes _ _ _ (now (s .args .marks)) (now (s .args .pairs)) (l .loop .i) (s .pre .1 .0) _ _ (t .before .before .before .before .before .before .before .before .before .loop-test .taken) (t .before .before .before .before .before .before .before .point-of .ensures) (l .loop .inv .8) (t .trace-sample .ensures) (c .before .before .traced .given .1) (c .after-sample .ensures),
     )
 
 flush-segment-requires : tie.Need-flush-segment-requires Inv-loop μ-loop
@@ -134,13 +125,7 @@ trace-parametric-edge-curve-spec =
     μ-loop
     loop-holds
     shared-slice-read-mark
-    mul-t19
-    mul-t23
-    shared-slice-read-t25
-    mul-t26
-    add-t27
-    mul-t28
-    shared-slice-read-t30
+    point-of-requires
     slice-aggregate-trace-sample
     slice-aggregate-trace-sample-2
     trace-sample-requires

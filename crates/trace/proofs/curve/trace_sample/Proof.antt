@@ -41,7 +41,9 @@ same-length-7 : tie.Need-same-length-7
 same-length-7 c = search needs
 
 returns-2 : tie.Need-returns-2
-returns-2 c = sample-pair _ _ _ _ _ _ _ (c .before .before .before .before .before .before .before .before .before .before .before .before .before .before .before .before .before .before .before .before .before .before .if1 .left) (c .before .before .before .before .before .before .before .before .before .before .before .before .before .before .before .before .before .before .before .before .previous .given .1) (c .before .before .before .before .before .before .before .before .before .before .before .before .append-edge-crossings .ensures)
+returns-2 c =
+    let t = c .before .before .before .before .before .before .before .before .before .before .before .before in
+    sample-pair _ _ _ _ _ _ _ (t .before .before .before .before .before .before .before .before .before .before .if1 .left) (t .before .before .before .before .before .before .before .before .previous .given .1) (t .append-edge-crossings .ensures)
 
 returns-3 : tie.Need-returns-3
 returns-3 c = sample-first _ _ _ _ _ _ _ _ _ _ _ (c .before .before .if1 .left) (c .enum-told .given .1)

@@ -15,24 +15,27 @@ enum-known-refusal c = search needs
 
 returns : tie.Need-returns
 returns c =
-    let a = c .before .before .before .before .before .before .before .before .before .before .before .args in
-    (refused-before (now (a .grid)) (a .m) (a .n) (now (a .pairs)) (now (a .marks)) (lists (now (a .points)) (now (a .starts)) (now (a .sides)) (now (a .fractions))) (c .before .before .before .check-trace .ensures) (c .before .refusal .given .1), demand3 _ _ _)
+    let k = c .before .before .before in
+    let a = k .before .before .before .before .before .before .before .before .args in
+    (refused-before (now (a .grid)) (a .m) (a .n) (now (a .pairs)) (now (a .marks)) (lists (now (a .points)) (now (a .starts)) (now (a .sides)) (now (a .fractions))) (k .check-trace .ensures) (c .before .refusal .given .1), demand3 _ _ _)
 
 enum-told : tie.Need-enum-told
 enum-told c = search needs
 
 trace-parametric-edge-curve-requires : tie.Need-trace-parametric-edge-curve-requires
 trace-parametric-edge-curve-requires c κs =
-    let a = c .before .before .before .before .before .before .before .before .before .before .before .before .before .before .args in
-    passes (now (a .grid)) (a .m) (a .n) (now (a .pairs)) (now (a .marks)) (c .before .before .before .before .before .before .check-trace .ensures) (c .before .before .before .before .enum-told .given .1)
+    let k = c .before .before .before .before .before .before in
+    let a = k .before .before .before .before .before .before .before .before .args in
+    passes (now (a .grid)) (a .m) (a .n) (now (a .pairs)) (now (a .marks)) (k .check-trace .ensures) (c .before .before .before .before .enum-told .given .1)
 
 enum-known-pen : tie.Need-enum-known-pen
 enum-known-pen c = search needs
 
 zero-past-requires : tie.Need-zero-past-requires
 zero-past-requires c κs =
-    let a = c .before .before .before .before .before .before .before .before .before .before .before .before .before .before .before .before .before .before .before .before .before .before .before .before .before .before .before .before .before .before .args in
-    counted (now (a .grid)) (a .m) (a .n) (now (a .pairs)) (now (a .marks)) (lists (now (a .points)) (now (a .starts)) (now (a .sides)) (now (a .fractions))) (c .before .before .before .before .before .before .before .before .before .before .before .before .before .before .before .trace-parametric-edge-curve .ensures) (c .before .before .before .before .before .pen .given .1)
+    let t = c .before .before .before .before .before .before .before .before .before .before .before .before .before .before .before in
+    let a = t .before .before .before .before .before .before .before .before .before .before .before .before .before .before .before .args in
+    counted (now (a .grid)) (a .m) (a .n) (now (a .pairs)) (now (a .marks)) (lists (now (a .points)) (now (a .starts)) (now (a .sides)) (now (a .fractions))) (t .trace-parametric-edge-curve .ensures) (c .before .before .before .before .before .pen .given .1)
 
 enum-known-refusal-2 : tie.Need-enum-known-refusal-2
 enum-known-refusal-2 c = search needs
@@ -54,9 +57,14 @@ same-length-4 c = search needs
 
 returns-2 : tie.Need-returns-2
 returns-2 c =
-    let a = c .before .before .before .before .before .before .before .before .before .before .before .before .before .before .before .before .before .before .before .before .before .before .before .before .before .before .before .before .before .before .before .before .before .before .before .before .before .before .before .args in
-    let z = c .before .before .before .before .before .before .before .before .zero-past .ensures in
-    (drawn (now (a .grid)) (a .m) (a .n) (now (a .pairs)) (now (a .marks)) (lists (now (a .points)) (now (a .starts)) (now (a .sides)) (now (a .fractions))) (c .before .before .before .before .before .before .before .before .before .before .before .before .before .before .before .before .before .before .before .before .before .before .before .before .trace-parametric-edge-curve .ensures) (c .before .before .before .before .before .before .before .before .before .before .before .before .before .before .before .before .before .before .before .before .before .before .before .before .before .before .before .before .before .before .before .check-trace .ensures) (c .before .before .before .before .before .before .before .before .before .before .before .before .before .before .before .before .before .before .before .before .before .before .before .before .before .before .before .before .before .enum-told .given .1) (c .before .before .before .before .before .before .before .before .before .before .before .before .before .before .pen .given .1) (z .0) (z .1) (z .2) (z .3), demand3 _ _ _)
+    let t = c .before .before .before .before .before .before .before .before .before .before .before .before .before .before .before .before .before .before .before .before .before .before .before .before in
+    let k = t .before .before .before .before .before .before .before in
+    let a = k .before .before .before .before .before .before .before .before .args in
+    let z = c .before .before .before .before .before .before .before .before .zero-past .ensures in (
+      drawn (now (a .grid)) (a .m) (a .n) (now (a .pairs)) (now (a .marks)) (lists (now (a .points)) (now (a .starts)) (now (a .sides)) (now (a .fractions)))
+          (t .trace-parametric-edge-curve .ensures) (k .check-trace .ensures) (t .before .before .before .before .before .enum-told .given .1) (c .before .before .before .before .before .before .before .before .before .before .before .before .before .before .pen .given .1) (z .0) (z .1) (z .2) (z .3),
+      demand3 _ _ _,
+    )
 
 same-length-5 : tie.Need-same-length-5
 same-length-5 c = search needs
@@ -72,9 +80,14 @@ same-length-8 c = search needs
 
 returns-3 : tie.Need-returns-3
 returns-3 c =
-    let a = c .before .before .before .before .before .before .before .before .before .before .before .before .before .before .before .before .before .before .before .before .before .before .before .before .before .before .before .before .before .before .before .before .before .before .before .before .before .before .before .args in
-    let z = c .before .before .before .before .before .before .before .before .zero-past2 .ensures in
-    (refused-within (now (a .grid)) (a .m) (a .n) (now (a .pairs)) (now (a .marks)) (lists (now (a .points)) (now (a .starts)) (now (a .sides)) (now (a .fractions))) (c .before .before .before .before .before .before .before .before .before .before .before .before .before .before .before .before .before .before .before .before .before .before .before .before .trace-parametric-edge-curve .ensures) (c .before .before .before .before .before .before .before .before .before .before .before .before .before .before .before .before .before .before .before .before .before .before .before .before .before .before .before .before .before .before .before .check-trace .ensures) (c .before .before .before .before .before .before .before .before .before .before .before .before .before .before .before .before .before .before .before .before .before .before .before .before .before .before .before .before .before .enum-told .given .1) (c .before .before .before .before .before .before .before .before .before .before .before .before .before .before .refusal2 .given .1) (z .0) (z .1) (z .2) (z .3), demand3 _ _ _)
+    let t = c .before .before .before .before .before .before .before .before .before .before .before .before .before .before .before .before .before .before .before .before .before .before .before .before in
+    let k = t .before .before .before .before .before .before .before in
+    let a = k .before .before .before .before .before .before .before .before .args in
+    let z = c .before .before .before .before .before .before .before .before .zero-past2 .ensures in (
+      refused-within (now (a .grid)) (a .m) (a .n) (now (a .pairs)) (now (a .marks)) (lists (now (a .points)) (now (a .starts)) (now (a .sides)) (now (a .fractions)))
+          (t .trace-parametric-edge-curve .ensures) (k .check-trace .ensures) (t .before .before .before .before .before .enum-told .given .1) (c .before .before .before .before .before .before .before .before .before .before .before .before .before .before .refusal2 .given .1) (z .0) (z .1) (z .2) (z .3),
+      demand3 _ _ _,
+    )
 
 pub trace-flat-spec : {M : Type 1} → statement M
 trace-flat-spec =

@@ -1,0 +1,148 @@
+-- `crossing::edge_point` meets its contract. The side stands in the grid by the requires, and the cell that `step_index` gives is one of the steps. Assumes nothing.
+use Prim.Native.Nat.{_≤_, _<_}
+use native.Mathlib.Omega.{arith}
+use denote.Ref.{now}
+use Rattle.crossing.proofs.Edges.{sides-stand, inside-u, inside-v, inside-diagonal, cell-inside, on-u, off-u, on-v, off-v, on-diagonal}
+use borrow.Author.Needs.{needs}
+use Rattle.crossing.proofs.edge_point.Statement.{statement}
+use Rattle.crossing.proofs.edge_point.Tie as tie
+
+side-u : (c : tie.After-edge) → c .edge .given .0 .0 ≤ c .before .before .before .args .m
+side-u c = inside-u _ _ (c .before .before .before .pre .1) (c .edge .given .1)
+
+cell-u : (c : tie.After-v) → c .v .given .0 .0 < c .before .before .before .before .before .before .before .args .n
+cell-u c =
+    let i = c .before .before in
+    let s = i .before .before .before .before .before in
+    cell-inside _ _ (s .pre .0 .1) (i .step-index .ensures) (c .v .given .1)
+
+side-v : (c : tie.After-edge2) → c .edge2 .given .0 .0 ≤ c .before .before .before .args .n
+side-v c = inside-v _ _ (c .before .before .before .pre .1) (c .edge2 .given .1)
+
+cell-v : (c : tie.After-u) → c .u .given .0 .0 < c .before .before .before .before .before .before .before .args .m
+cell-v c =
+    let i = c .before .before in
+    let s = i .before .before .before .before .before in
+    cell-inside _ _ (s .pre .0 .0) (i .step-index2 .ensures) (c .u .given .1)
+
+side-diagonal : (c : tie.After-edge3) → (c .edge3 .given .0 .0 < c .before .before .before .args .m) × (c .edge3 .given .0 .1 .0 < c .before .before .before .args .n)
+side-diagonal c = inside-diagonal _ _ (c .before .before .before .pre .1) (c .edge3 .given .1)
+
+enum-known-edge : tie.Need-enum-known-edge
+enum-known-edge c = search needs
+
+step-index-requires : tie.Need-step-index-requires
+step-index-requires c κs = search needs
+
+enum-known-v : tie.Need-enum-known-v
+enum-known-v c = search needs
+
+add-between : tie.Need-add-between
+add-between c = omega (arith, cell-u (c .before))
+
+between-requires : tie.Need-between-requires
+between-requires c κs =
+    let s = c .before .before .before .before .before .before .before .before in
+    let v = cell-u (c .before) in
+    sides-stand (now (s .args .grid)) (s .args .m) _ _ _ _ _ (s .pre .0 .0) (s .pre .0 .1) (s .pre .0 .2) (side-u (c .before .before .before .before .before)) (omega arith) (side-u (c .before .before .before .before .before)) (omega arith)
+
+enum-told : tie.Need-enum-told
+enum-told c = search needs
+
+enum-known-edge-2 : tie.Need-enum-known-edge-2
+enum-known-edge-2 c = search needs
+
+step-index-requires-2 : tie.Need-step-index-requires-2
+step-index-requires-2 c κs = search needs
+
+enum-known-u : tie.Need-enum-known-u
+enum-known-u c = search needs
+
+add-between-2 : tie.Need-add-between-2
+add-between-2 c = omega (arith, cell-v (c .before))
+
+between-requires-2 : tie.Need-between-requires-2
+between-requires-2 c κs =
+    let s = c .before .before .before .before .before .before .before .before in
+    let u = cell-v (c .before) in
+    sides-stand (now (s .args .grid)) (s .args .m) _ _ _ _ _ (s .pre .0 .0) (s .pre .0 .1) (s .pre .0 .2) (omega arith) (side-v (c .before .before .before .before .before)) (omega arith) (side-v (c .before .before .before .before .before))
+
+enum-told-2 : tie.Need-enum-told-2
+enum-told-2 c = search needs
+
+enum-known-edge-3 : tie.Need-enum-known-edge-3
+enum-known-edge-3 c = search needs
+
+to-f64-requires : tie.Need-to-f64-requires
+to-f64-requires c κs = search needs
+
+clamp-requires : tie.Need-clamp-requires
+clamp-requires c κs = search needs
+
+add-between-3 : tie.Need-add-between-3
+add-between-3 c = omega (arith, side-diagonal (c .before .before .before .before))
+
+add-between-4 : tie.Need-add-between-4
+add-between-4 c = omega (arith, side-diagonal (c .before .before .before .before))
+
+between-requires-3 : tie.Need-between-requires-3
+between-requires-3 c κs =
+    let e = c .before .before .before .before in
+    let s = e .before .before .before in
+    let d = side-diagonal e in
+    sides-stand (now (s .args .grid)) (s .args .m) _ _ _ _ _ (s .pre .0 .0) (s .pre .0 .1) (s .pre .0 .2) (omega arith) (omega arith) (omega arith) (omega arith)
+
+returns : tie.Need-returns
+returns c =
+    let f = c .before .before in
+    let i = f .before .before in
+    on-u _ _ _ _ _ _ (i .before .before .edge .given .1) (i .step-index .ensures) (f .v .given .1) (c .between .ensures)
+
+returns-2 : tie.Need-returns-2
+returns-2 c =
+    let i = c .before .before in
+    off-u _ _ _ _ _ (i .before .before .edge .given .1) (i .step-index .ensures) (c .enum-told .given .1)
+
+returns-3 : tie.Need-returns-3
+returns-3 c =
+    let f = c .before .before in
+    let i = f .before .before in
+    on-v _ _ _ _ _ _ (i .before .before .edge2 .given .1) (i .step-index2 .ensures) (f .u .given .1) (c .between2 .ensures)
+
+returns-4 : tie.Need-returns-4
+returns-4 c =
+    let i = c .before .before in
+    off-v _ _ _ _ _ (i .before .before .edge2 .given .1) (i .step-index2 .ensures) (c .enum-told2 .given .1)
+
+returns-5 : tie.Need-returns-5
+returns-5 c =
+    let k = c .before .before .before in
+    on-diagonal _ _ _ _ _ _ (k .before .before .edge3 .given .1) (k .to-f64 .ensures) (c .before .clamp .ensures) (c .between3 .ensures)
+
+pub edge-point-spec : {M : Type 1} → statement M
+edge-point-spec =
+    tie.close
+    (tie.spec
+    enum-known-edge
+    step-index-requires
+    enum-known-v
+    add-between
+    between-requires
+    enum-told
+    enum-known-edge-2
+    step-index-requires-2
+    enum-known-u
+    add-between-2
+    between-requires-2
+    enum-told-2
+    enum-known-edge-3
+    to-f64-requires
+    clamp-requires
+    add-between-3
+    add-between-4
+    between-requires-3
+    returns
+    returns-2
+    returns-3
+    returns-4
+    returns-5)

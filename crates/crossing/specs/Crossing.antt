@@ -1,0 +1,82 @@
+-- "Each point is (1 − t) times p plus t times q. U(u) takes p, q at (u,v), (u,v+1); V(v) at (u,v), (u+1,v); the missing index and t come from `step_index`.
+-- Diagonal takes p at (u+1,v), q at (u,v+1)." References: `step_index`, `edge_point`. Assumes nothing.
+use mathlib.Core.Path.{_≡_}
+use mathlib.Core.Bool.{Bool, _||_}
+use mathlib.Core.List.{List}
+use Prim.Native.Nat.{ℕ, _+_, _-_, _*_, _≤_}
+use lib.Dec.{eqb}
+use lib.ListN.{length}
+use lib.Ieee.{Float, binary64, neg, lt, add, sub}
+use Rattle.float.specs.Consts.{eps, zero64, one64}
+use Rattle.float.specs.Sign.{absolute}
+use Rattle.float.specs.Order.{clamped}
+use Rattle.float.specs.Whole.{floorZ}
+use Rattle.float.specs.Cast.{natFloat, count}
+use Rattle.vector.specs.declared.Vector.{Vector}
+use Rattle.vector.specs.Vectors.{plus, scaled}
+use Rattle.grid.specs.Grid.{pointNumber, pointAt}
+use Rattle.edges.specs.Param.{pick}
+use Rattle.edges.specs.declared.point.ParamPoint.{ParamPoint}
+use Rattle.edges.specs.declared.event.ParamEdge.{ParamEdge}
+use Rattle.edges.specs.declared.event.ParamEdge.the-variants.{U, «V», Diagonal}
+use Rattle.crossing.specs.declared.StepIndex.{StepIndex}
+use Rattle.crossing.specs.declared.StepIndex.the-variants.{At, Nothing}
+use Rattle.crossing.specs.declared.Crossing.{Crossing}
+use Rattle.crossing.specs.declared.EdgePoint.{EdgePoint}
+use Rattle.crossing.specs.declared.EdgePoint.the-variants.{On, NoStep}
+
+-- ---- step_index
+
+-- the value is within EPS of n
+unfoldable pub closeTo : Float → ℕ → Bool
+closeTo x n = lt (absolute (sub binary64 x (natFloat n))) eps
+
+-- the cell of a value from 0 to steps: the last one where it is close to the border
+unfoldable pub cellOf : Float → ℕ → ℕ
+cellOf x steps = pick (closeTo x steps) (steps - 1) (count (floorZ x))
+
+-- no answer: no steps, or more than EPS outside 0 to steps
+unfoldable pub offAxis : Float → ℕ → Bool
+offAxis x steps = eqb steps 0 || (lt x (neg eps) || lt (add binary64 (natFloat steps) eps) x)
+
+-- the cell of a value, and how far into it the value is
+unfoldable pub inCell : Float → ℕ → StepIndex
+inCell x steps = At (cellOf x steps) (sub binary64 x (natFloat (cellOf x steps)))
+
+-- `step_index`: the value is brought between 0 and steps first
+unfoldable pub stepIndex : Float → ℕ → StepIndex
+stepIndex x steps = pick (offAxis x steps) Nothing (inCell (clamped x zero64 (natFloat steps)) steps)
+
+-- ---- edge_point
+
+-- "(1 − t) times p plus t times q", one rounding per operation
+unfoldable pub blend : Vector → Vector → Float → Vector
+blend p q t = plus (scaled p (sub binary64 one64 t)) (scaled q t)
+
+-- the point of grid points number p and q
+abbrev pub crossing : List Float → ℕ → ℕ → Float → Crossing
+crossing g p q t = record { p = p; q = q; t = t; point = blend (pointAt g p) (pointAt g q) t }
+
+-- on U(u): p, q at (u,v), (u,v+1)
+abbrev pub onU : List Float → ℕ → ℕ → StepIndex → EdgePoint
+onU g n u (At v t) = On (crossing g (pointNumber n u v) (pointNumber n u (v + 1)) t)
+onU g n u Nothing = NoStep
+
+-- on V(v): p, q at (u,v), (u+1,v)
+abbrev pub onV : List Float → ℕ → ℕ → StepIndex → EdgePoint
+onV g n v (At u t) = On (crossing g (pointNumber n u v) (pointNumber n (u + 1) v) t)
+onV g n v Nothing = NoStep
+
+-- Diagonal(u,v): p at (u+1,v), q at (u,v+1), t the distance from the cell's corner in v, clamped to 0 to 1
+abbrev pub onDiagonal : List Float → ℕ → ℕ → ℕ → Float → EdgePoint
+onDiagonal g n u v y =
+    On (crossing g (pointNumber n (u + 1) v) (pointNumber n u (v + 1)) (clamped (sub binary64 y (natFloat v)) zero64 one64))
+
+unfoldable pub edgePoint : List Float → ℕ → ℕ → ParamEdge → ParamPoint → EdgePoint
+edgePoint g m n (U u) x = onU g n u (stepIndex (x .v) n)
+edgePoint g m n («V» v) x = onV g n v (stepIndex (x .u) m)
+edgePoint g m n (Diagonal u v) x = onDiagonal g n u v (x .v)
+
+-- what the inner functions ask for: a grid of M and N steps, by its length
+abbrev pub GridFits : List Float → ℕ → ℕ → Type 0
+GridFits g m n = (m ≤ 255) × (n ≤ 255) × (length g ≡ 3 * ((m + 1) * (n + 1)))

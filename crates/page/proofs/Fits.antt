@@ -1,0 +1,72 @@
+-- `PenFits` holds after a push, which has room for its point, and after a flush, which only moves counts; and so after steps that follow each other. Assumes nothing.
+use Prim.Native.Nat.{ℕ, _+_, _*_, _/_, _≤_}
+use native.Mathlib.Omega.{arith}
+use mathlib.Core.Path.{_≡_, refl}
+use mathlib.Core.Bool.{Bool, true, false, _&&_}
+use mathlib.Core.List.{List}
+use lib.Dec.{ltb, leb}
+use lib.ListN.{length, length-set}
+use lib.Ieee.{Float}
+use borrow.Author.Tests.{ltb-true}
+use Rattle.refusal.specs.declared.Refusal.the-variants.{Full}
+use Rattle.edges.specs.Param.{pick}
+use Rattle.crossing.specs.declared.Crossing.{Crossing}
+use Rattle.page.specs.declared.Pen.{Pen}
+use Rattle.page.specs.declared.Penned.{Penned}
+use Rattle.page.specs.declared.Penned.the-variants.{Down}
+use Rattle.page.specs.Step.{Step, on, off, follow}
+use Rattle.page.specs.Page.{Page, hasRoom, closeToPending, written, pushPage, kept, dropped, flushPage, Pushed, PenFits}
+
+abbrev pub Fitting : Page → Type 0
+Fitting g = PenFits (g .points) (g .pen)
+
+abbrev pub Fits : Step Page → Type 0
+Fits (on g) = Fitting g
+Fits (off k g) = Unit {0}
+
+-- what a function's answer says of its pen
+pub fits-down : {x : Step Page} {r : Penned} {p : List Float} {s d : List ℕ} {f : List Float} {pen : Pen} → Pushed x r p s d f → r ≡ Down pen → Fits x → PenFits p pen
+fits-down {x} {r} {p} {s} {d} {f} {pen} u e h = go x u h
+  where
+    go : (y : Step Page) → Pushed y r p s d f → Fits y → PenFits p pen
+    go (on g) u h = let q : g .pen ≡ pen = cc in rw (u .points, ← q) h
+    go (off k g) u h = let z : _≡_ {A = ℕ} 0 1 = cc in absurd (omega arith)
+
+and-left : (a b : Bool) → a && b ≡ true → a ≡ true
+and-left true b h = refl
+and-left false b h = h
+
+room : (k l : ℕ) → ltb k (l / 3) ≡ true → 3 * k + 3 ≤ l
+room k l h = omega (arith, ltb-true k (l / 3) h)
+
+-- ---- push and flush
+
+pub push-fits : (c : Crossing) (g : Page) → Fitting g → Fits (pushPage c g)
+unfolding pushPage written
+push-fits c g h = go (closeToPending c g) (hasRoom g) refl
+  where
+    go : (a b : Bool) → hasRoom g ≡ b → Fits (pick a (on g) (pick b (on (written c g)) (off Full g)))
+    go true b e = h
+    go false true e =
+        let one = room (g .pen .count) (length (g .points)) (and-left (ltb (g .pen .count) (length (g .points) / 3)) (ltb (g .pen .count) (length (g .sides) / 2) && ltb (g .pen .count) (length (g .fractions))) e) in
+        (omega arith, simp length-set (omega arith))
+    go false false e = tt
+
+pub flush-fits : (g : Page) → Fitting g → Fits (flushPage g)
+unfolding flushPage kept dropped
+flush-fits g h = go (leb (g .pen .start + 2) (g .pen .count)) (ltb (g .pen .lines) (length (g .starts)))
+  where
+    go : (a b : Bool) → Fits (pick a (pick b (on (kept g)) (off Full g)) (on (dropped g)))
+    go true true = (omega arith, h .1)
+    go true false = tt
+    go false b = (omega arith, omega arith)
+
+-- ---- steps put together
+
+pub follow-fits : (x : Step Page) (k : Page → Step Page) → Fits x → ((g : Page) → Fitting g → Fits (k g)) → Fits (follow x k)
+follow-fits (on g) k h f = f g h
+follow-fits (off n g) k h f = tt
+
+pub pick-fits : (b : Bool) (x y : Step Page) → Fits x → Fits y → Fits (pick b x y)
+pick-fits true x y p q = p
+pick-fits false x y p q = q

@@ -1,0 +1,105 @@
+// The lent lists as the walk fills them: points in place, pending ones after the kept ones.
+use crossing::Crossing;
+use refusal::Refusal;
+ghost use mathlib.Core.Path.{_≡_};
+ghost use mathlib.Core.List.{List};
+ghost use Prim.Native.Nat.{ℕ, _+_, _*_, _≤_};
+ghost use lib.ListN.{length, set};
+ghost use lib.Ieee.{Float};
+ghost use Rattle.page.specs.Page.{pageOf, writePoint, writeSide, pushPage, flushPage, Pushed, PenFits};
+
+// The points written so far, where the pending line starts among them, and the lines kept.
+pub struct Pen {
+    pub count: usize,
+    pub start: usize,
+    pub lines: usize,
+}
+
+// The walk goes on, or a refusal ends it.
+pub enum Penned {
+    Down(Pen),
+    Stop(Refusal),
+}
+
+// A crossing at place i of each list.
+fn write_crossing(
+    points: &mut [f64],
+    sides: &mut [usize],
+    fractions: &mut [f64],
+    i: usize,
+    c: Crossing,
+)
+    requires { ⌜ (3 * i + 3 ≤ length (now points)) × (2 * i + 2 ≤ length (now sides)) × (i + 1 ≤ length (now fractions)) ⌝ }
+    ensures { λ _. ⌜ (now (points .exit) ≡ writePoint (now (points .entry)) i c)
+        × (now (sides .exit) ≡ writeSide (now (sides .entry)) i c)
+        × (now (fractions .exit) ≡ set (now (fractions .entry)) i (c .t)) ⌝ }
+{
+    points[3 * i] = c.point.x;
+    points[3 * i + 1] = c.point.y;
+    points[3 * i + 2] = c.point.z;
+    sides[2 * i] = c.p;
+    sides[2 * i + 1] = c.q;
+    fractions[i] = c.t;
+}
+
+// The next pending point, unless it is close to the last one. The starts, which it leaves alone, are any.
+pub fn push_segment_point(
+    points: &mut [f64],
+    sides: &mut [usize],
+    fractions: &mut [f64],
+    pen: Pen,
+    c: Crossing,
+) -> Penned
+    requires { ⌜ PenFits (now points) pen ⌝ }
+    ensures { λ r. ⌜ ((starts : List ℕ) → Pushed (pushPage c (pageOf (now (points .entry)) starts (now (sides .entry)) (now (fractions .entry)) pen)) r
+        (now (points .exit)) starts (now (sides .exit)) (now (fractions .exit))) ⌝ }
+{
+    let count = pen.count;
+    if pen.start < count {
+        if grid::point_at(points, count - 1).all_close(c.point) {
+            return Penned::Down(pen);
+        }
+    }
+    if points.len() / 3 <= count {
+        return Penned::Stop(Refusal::Full);
+    }
+    if sides.len() / 2 <= count {
+        return Penned::Stop(Refusal::Full);
+    }
+    if fractions.len() <= count {
+        return Penned::Stop(Refusal::Full);
+    }
+    write_crossing(points, sides, fractions, count, c);
+    Penned::Down(Pen {
+        count: count + 1,
+        start: pen.start,
+        lines: pen.lines,
+    })
+}
+
+// The pending points become a line, or go where they are fewer than two. The lists that it leaves alone are any.
+pub fn flush_segment(starts: &mut [usize], pen: Pen) -> Penned
+    requires { ⌜ pen .start ≤ pen .count ⌝ }
+    ensures { λ r. ⌜ ((points : List Float) (sides : List ℕ) (fractions : List Float) →
+        Pushed (flushPage (pageOf points (now (starts .entry)) sides fractions pen)) r points (now (starts .exit)) sides fractions) ⌝ }
+{
+    let count = pen.count;
+    let start = pen.start;
+    let lines = pen.lines;
+    if count - start < 2 {
+        return Penned::Down(Pen {
+            count: start,
+            start,
+            lines,
+        });
+    }
+    if starts.len() <= lines {
+        return Penned::Stop(Refusal::Full);
+    }
+    starts[lines] = start;
+    Penned::Down(Pen {
+        count,
+        start: count,
+        lines: lines + 1,
+    })
+}
