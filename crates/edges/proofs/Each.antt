@@ -43,7 +43,7 @@ module _ (P : EdgeEvent → Type 0) where
   each-lines x m n a b h =
       each-if (moves (change x a b)) (listFrom (lineCandidate x n a b) (m + 1) 0) (each-from (lineCandidate x n a b) (m + 1) 0 (m + 1) (omega arith) h)
 
-  each-insert : (e : EdgeEvent) (es : List EdgeEvent) → P e → Each P es → Each P (insert e es)
+  pub each-insert : (e : EdgeEvent) (es : List EdgeEvent) → P e → Each P es → Each P (insert e es)
   unfolding insert
   each-insert e [] h k = (h, tt)
   each-insert e (x ∷ xs) h k = go (precedes (totalOrder (e .lambda) (x .lambda))) (each-insert e xs h (k .1))

@@ -1,24 +1,26 @@
 -- `indexOf` by the tests of the code, on signed numbers; `tryCell` and `diagonalCellAt` by what the code found; and a diagonal's cell is in the grid. Assumes nothing.
-use mathlib.Core.Path.{_≡_, refl, sym, subst}
+use mathlib.Core.Path.{_≡_, refl, sym, _∙_, subst}
 use Prim.Native.Nat.{ℕ, zero, suc, _≤_, _<_}
 use native.Mathlib.Nat.{lt-of-le-of-lt, le-suc}
 use native.Mathlib.Omega.{arith}
-use mathlib.Core.Bool.{Bool, true, false, true≢false}
+use mathlib.Core.Bool.{Bool, true, false, _&&_, true≢false}
 use lib.IntN.{ℤ, pos, negsuc, natAbs, predℤ, _-ℤ_, -ℤ-one}
 use lib.Signed.{nonNeg, leZ}
 use lib.Dec.{T, ltb, leb}
 use borrow.Author.Tests.{ltb-true, lt-ltb, le-ltb, leb-false}
 use mir.Syntax.{w64}
 use mir.Val.{SFits, Fits}
+use lib.Ieee.{Float, binary64, sub}
+use Rattle.float.specs.Consts.{one64}
 use Rattle.float.specs.Whole.{floorZ}
-use Rattle.float.specs.Cast.{count}
+use Rattle.float.specs.Cast.{count, natFloat}
 use Rattle.edges.specs.declared.point.ParamPoint.{ParamPoint}
 use Rattle.edges.specs.declared.cell.CellIndex.{CellIndex}
 use Rattle.edges.specs.declared.cell.CellIndex.the-variants.{Index, Outside}
 use Rattle.edges.specs.declared.cell.DiagonalCell.{DiagonalCell}
 use Rattle.edges.specs.declared.cell.DiagonalCell.the-variants.{Cell, NoCell}
-use Rattle.edges.specs.Param.{pick}
-use Rattle.edges.specs.Cell.{indexOf, onDiagonal, tryCell, orCell, diagonalCellAt}
+use Rattle.edges.specs.Param.{pick, within}
+use Rattle.edges.specs.Cell.{indexOf, onDiagonal, tryCell, inCell, orCell, diagonalCellAt}
 
 -- ---- the cast
 pub nonneg-of : (z : ℤ) → leZ (pos 0) z ≡ true → T (nonNeg z)
@@ -89,14 +91,51 @@ pub try-no : (p : ParamPoint) {i j : CellIndex} {u v : ℕ} → i ≡ Index u �
 unfolding tryCell
 try-no p d e h = rw (d, e, h)
 
-pub diagonal-is : (m n : ℕ) (p : ParamPoint) {x y : ℤ} {u0 u1 v0 v1 : CellIndex} {a b c d e f g : DiagonalCell}
-    → x ≡ floorZ (p .u) → y ≡ floorZ (p .v)
-    → u0 ≡ indexOf (x -ℤ pos 1) m → u1 ≡ indexOf x m → v0 ≡ indexOf (y -ℤ pos 1) n → v1 ≡ indexOf y n
-    → a ≡ tryCell p u0 v0 → b ≡ tryCell p u0 v1 → c ≡ tryCell p u1 v0 → d ≡ tryCell p u1 v1
-    → e ≡ orCell c d → f ≡ orCell b e → g ≡ orCell a f
-    → g ≡ diagonalCellAt m n p
-unfolding diagonalCellAt
-diagonal-is m n p hx hy h0 h1 k0 k1 ea eb ec ed ee ef eg = cc
+pub in-cell : (x : Float) {i : CellIndex} {k : ℕ} {y : Float} {b : Bool} → i ≡ Index k → y ≡ natFloat k → b ≡ within (sub binary64 x y) one64 → b ≡ inCell x i
+unfolding inCell
+in-cell x d e h = rw (d, ← e) h
+
+pub in-none : (x : Float) {i : CellIndex} → i ≡ Outside → false ≡ inCell x i
+unfolding inCell
+in-none x d = rw d
+
+-- a cell that the point is not in on one axis
+pub not-in-u : (p : ParamPoint) (i j : CellIndex) → inCell (p .u) i ≡ false → tryCell p i j ≡ NoCell
+unfolding inCell tryCell onDiagonal
+not-in-u p Outside j h = refl
+not-in-u p (Index u) Outside h = refl
+not-in-u p (Index u) (Index v) h = rw h
+
+pub not-in-v : (p : ParamPoint) (i j : CellIndex) → inCell (p .v) j ≡ false → tryCell p i j ≡ NoCell
+unfolding inCell tryCell onDiagonal
+not-in-v p Outside j h = refl
+not-in-v p (Index u) Outside h = refl
+not-in-v p (Index u) (Index v) h = rw h (go (within (sub binary64 (p .u) (natFloat u)) one64))
+  where
+    go : (s : Bool) → pick (s && false) (Cell u v) NoCell ≡ NoCell
+    go true = refl
+    go false = refl
+
+-- the four cells in their order
+module _ (m n : ℕ) (p : ParamPoint) {x y : ℤ} {u0 u1 v0 v1 : CellIndex} (hx : x ≡ floorZ (p .u)) (hy : y ≡ floorZ (p .v))
+    (h0 : u0 ≡ indexOf (x -ℤ pos 1) m) (h1 : u1 ≡ indexOf x m) (k0 : v0 ≡ indexOf (y -ℤ pos 1) n) (k1 : v1 ≡ indexOf y n) where
+  pub four-cells : diagonalCellAt m n p ≡ orCell (tryCell p u0 v0) (orCell (tryCell p u0 v1) (orCell (tryCell p u1 v0) (tryCell p u1 v1)))
+  unfolding diagonalCellAt
+  four-cells = cc
+
+module _ (p : ParamPoint) (u0 u1 v0 v1 : CellIndex) {w : DiagonalCell} (h : w ≡ orCell (tryCell p u0 v0) (orCell (tryCell p u0 v1) (orCell (tryCell p u1 v0) (tryCell p u1 v1)))) where
+  pub first-fits : {u v : ℕ} → tryCell p u0 v0 ≡ Cell u v → Cell u v ≡ w
+  first-fits a = sym (h ∙ rw a)
+
+  pub second-fits : {u v : ℕ} → tryCell p u0 v0 ≡ NoCell → tryCell p u0 v1 ≡ Cell u v → Cell u v ≡ w
+  second-fits a b = sym (h ∙ rw (a, b))
+
+  module _ (ab : (tryCell p u0 v0 ≡ NoCell) × (tryCell p u0 v1 ≡ NoCell)) where
+    pub third-fits : {u v : ℕ} → tryCell p u1 v0 ≡ Cell u v → Cell u v ≡ w
+    third-fits c = sym (h ∙ rw (ab .0, ab .1, c))
+
+    pub fourth-left : {r : DiagonalCell} → tryCell p u1 v0 ≡ NoCell → r ≡ tryCell p u1 v1 → r ≡ w
+    fourth-left c d = d ∙ sym (h ∙ rw (ab .0, ab .1, c))
 
 -- ---- the cell is in the grid
 abbrev pub IndexBelow : ℕ → CellIndex → Type 0

@@ -1,5 +1,5 @@
 -- What holds of the events of every step: each is on a side of the grid, lambdas are from 0 to 1 and ascend in the total order, neighbours are at least EPS apart, and there are at most 1,023. Assumes nothing.
-use mathlib.Core.Path.{_≡_, refl, sym, ap, _∙_, subst⁻¹}
+use mathlib.Core.Path.{_≡_, refl, sym, ap, subst⁻¹}
 use mathlib.Core.Bool.{Bool, true, false, _&&_, true≢false}
 use mathlib.Core.List.{List, [], _∷_}
 use Prim.Native.Nat.{ℕ, _+_, _-_, _^_, _≤_, _<_}
@@ -10,11 +10,9 @@ use lib.ListN.{length, getD}
 use lib.Ieee.{Float, nan, binary64, ofBits, lt, le, eq, neg, add, isNan}
 use Rattle.float.specs.Consts.{eps, zero64, one64}
 use Rattle.float.specs.Order.{clamped, totalOrder}
-use Rattle.float.specs.declared.order.Ordering.{Ordering}
-use Rattle.float.specs.declared.order.Ordering.the-variants.{Less, Equal, Greater}
 use Rattle.float.proofs.Less.{le-not-nan}
 use Rattle.float.proofs.Bounds.{clamp-above, clamp-below}
-use Rattle.float.proofs.Orders.{less-greater, not-less-transitive, order-self}
+use Rattle.float.proofs.Orders.{not-less-transitive, order-self}
 use Rattle.edges.specs.declared.point.ParamPoint.{ParamPoint}
 use Rattle.edges.specs.declared.point.Axis.{Axis}
 use Rattle.edges.specs.declared.point.Axis.the-variants.{AxisU, AxisV}
@@ -28,9 +26,10 @@ use Rattle.edges.specs.declared.event.NormalizedLambda.the-variants.{Lam
 use Rattle.edges.specs.declared.event.Candidate.the-variants.{NoEvent}
 use Rattle.edges.specs.Param.{pick, lerp, across, within, paramInBounds, normalizeLambda}
 use Rattle.edges.specs.Cell.{diagonalCellAt}
-use Rattle.edges.specs.Events.{event, edgeAtPoint, endCandidate, lambdaAt, lineAt, lineCrossing, change, diagonalEvent, diagonalCrossing, sumOf, changeOfSum, candidates, precedes, insert, sortInto, closeBy, uniqueAfter, unique, sortedEdgeEvents, Inside, IfEvent, Each, OnGrid}
-use Rattle.edges.specs.Scratch.{edgeOf, eventOf, eventsIn}
+use Rattle.edges.specs.Events.{event, edgeAtPoint, endCandidate, lambdaAt, lineAt, lineCrossing, change, diagonalEvent, diagonalCrossing, sumOf, changeOfSum, candidates, precedes, sortInto, closeBy, uniqueAfter, unique, sortedEdgeEvents, Inside, IfEvent, Each, OnGrid}
+use Rattle.edges.specs.Scratch.{edgeOf, eventOf, eventsIn, AscendFrom, Ascend}
 use Rattle.edges.proofs.Places.{event-in, events-length}
+use Rattle.edges.proofs.Order.{not-less, is-not, sort-ascends}
 use Rattle.edges.proofs.Grid.{on-line, end-on-grid, line-on-grid, diagonal-on-grid}
 use Rattle.edges.proofs.Each.{each-event, each-candidate, each-sort, each-unique, each-at, each-implies, length-sort, length-unique, length-candidates}
 
@@ -63,7 +62,7 @@ zero-le-one : le zero64 one64 ≡ true
 unfolding le lt eq ofBits
 zero-le-one = refl
 
-normalized : (l : Float) → LambdaOnStep (normalizeLambda l)
+pub normalized : (l : Float) → LambdaOnStep (normalizeLambda l)
 unfolding normalizeLambda
 normalized l = go (within l one64) refl
   where
@@ -73,17 +72,25 @@ normalized l = go (within l one64) refl
         (clamp-above l zero64 one64 n zero-le-one, clamp-below l zero64 one64 n zero-le-one)
     go false p = tt
 
-end-on-step : (l : Float) (e : EdgeAtPoint) → (le zero64 l ≡ true) × (le l one64 ≡ true) → IfEvent OnStep (endCandidate l e)
+pub end-on-step : (l : Float) (e : EdgeAtPoint) → (le zero64 l ≡ true) × (le l one64 ≡ true) → IfEvent OnStep (endCandidate l e)
 end-on-step l (Edge e) h = h
 end-on-step l NoEdge h = tt
 
+pub zero-on-step : (le zero64 zero64 ≡ true) × (le zero64 one64 ≡ true)
+unfolding le lt eq ofBits
+zero-on-step = (refl, refl)
+
+pub one-on-step : (le zero64 one64 ≡ true) × (le one64 one64 ≡ true)
+unfolding le lt eq ofBits
+one-on-step = (refl, refl)
+
 module _ (m n : ℕ) (a b : ParamPoint) where
-  line-on-step : (x : Axis) (steps k : ℕ) (r : NormalizedLambda) → LambdaOnStep r → IfEvent OnStep (lineCrossing x steps a b k r)
+  pub line-on-step : (x : Axis) (steps k : ℕ) (r : NormalizedLambda) → LambdaOnStep r → IfEvent OnStep (lineCrossing x steps a b k r)
   unfolding lineCrossing
   line-on-step x steps k Outside h = tt
   line-on-step x steps k (Lambda l) h = on-line OnStep (across x (lerp a b l)) steps (event l (lineAt x k)) h
 
-  diagonal-on-step : (r : NormalizedLambda) → LambdaOnStep r → IfEvent OnStep (diagonalCrossing m n a b r)
+  pub diagonal-on-step : (r : NormalizedLambda) → LambdaOnStep r → IfEvent OnStep (diagonalCrossing m n a b r)
   unfolding diagonalCrossing
   diagonal-on-step Outside h = tt
   diagonal-on-step (Lambda l) h = go (paramInBounds m n (lerp a b l)) (diagonalCellAt m n (lerp a b l))
@@ -92,14 +99,6 @@ module _ (m n : ℕ) (a b : ParamPoint) where
       go true (Cell u v) = h
       go true NoCell = tt
       go false c = tt
-
-  zero-on-step : (le zero64 zero64 ≡ true) × (le zero64 one64 ≡ true)
-  unfolding le lt eq ofBits
-  zero-on-step = (refl, refl)
-
-  one-on-step : (le zero64 one64 ≡ true) × (le one64 one64 ≡ true)
-  unfolding le lt eq ofBits
-  one-on-step = (refl, refl)
 
   candidates-on-step : Each OnStep (candidates m n a b)
   candidates-on-step =
@@ -116,20 +115,6 @@ module _ (m n : ℕ) (a b : ParamPoint) where
   events-on-step = each-unique OnStep (sortInto (candidates m n a b) []) sorted-on-step
 
 -- ---- they ascend
-is-less : (o : Ordering) → precedes o ≡ true → o ≡ Less
-is-less Less h = refl
-is-less Equal h = absurd (true≢false (sym h))
-is-less Greater h = absurd (true≢false (sym h))
-
--- events whose lambdas ascend in the total order, the first not before x
-abbrev pub AscendFrom : Float → List EdgeEvent → Type 0
-AscendFrom x [] = Unit
-AscendFrom x (e ∷ es) = (precedes (totalOrder (e .lambda) x) ≡ false) × AscendFrom (e .lambda) es
-
-abbrev pub Ascend : List EdgeEvent → Type 0
-Ascend [] = Unit
-Ascend (e ∷ es) = AscendFrom (e .lambda) es
-
 -- events of which none is closer than EPS to the one before it, the first not to x
 abbrev pub ApartFrom : Float → List EdgeEvent → Type 0
 ApartFrom x [] = Unit
@@ -138,41 +123,6 @@ ApartFrom x (e ∷ es) = (closeBy x (e .lambda) ≡ false) × ApartFrom (e .lamb
 abbrev pub Apart : List EdgeEvent → Type 0
 Apart [] = Unit
 Apart (e ∷ es) = ApartFrom (e .lambda) es
-
-not-less : (o : Ordering) → precedes o ≡ false → o ≡ Less → ⊥
-not-less o h q = true≢false (sym (ap precedes q) ∙ h)
-
-is-not : (o : Ordering) → (o ≡ Less → ⊥) → precedes o ≡ false
-is-not Less h = absurd (h refl)
-is-not Equal h = refl
-is-not Greater h = refl
-
-precedes-once : (x y : Float) → precedes (totalOrder x y) ≡ true → precedes (totalOrder y x) ≡ false
-precedes-once x y h = ap precedes (less-greater x y (is-less (totalOrder x y) h))
-
-insert-from : (e : EdgeEvent) (x : Float) (es : List EdgeEvent) → precedes (totalOrder (e .lambda) x) ≡ false → AscendFrom x es → AscendFrom x (insert e es)
-unfolding insert
-insert-from e x [] h k = (h, tt)
-insert-from e x (y ∷ ys) h k = go (λ p. insert-from e (y .lambda) ys p (k .1)) (precedes (totalOrder (e .lambda) (y .lambda))) refl
-  where
-    go : (precedes (totalOrder (e .lambda) (y .lambda)) ≡ false → AscendFrom (y .lambda) (insert e ys)) →
-        (t : Bool) → precedes (totalOrder (e .lambda) (y .lambda)) ≡ t → AscendFrom x (pick t (e ∷ (y ∷ ys)) (y ∷ insert e ys))
-    go f true p = (h, (precedes-once (e .lambda) (y .lambda) p, k .1))
-    go f false p = (k .0, f p)
-
-pub insert-ascends : (e : EdgeEvent) (es : List EdgeEvent) → Ascend es → Ascend (insert e es)
-unfolding insert
-insert-ascends e [] h = tt
-insert-ascends e (y ∷ ys) h = go (precedes (totalOrder (e .lambda) (y .lambda))) refl
-  where
-    go : (t : Bool) → precedes (totalOrder (e .lambda) (y .lambda)) ≡ t → Ascend (pick t (e ∷ (y ∷ ys)) (y ∷ insert e ys))
-    go true p = (precedes-once (e .lambda) (y .lambda) p, h)
-    go false p = insert-from e (y .lambda) ys p h
-
-pub sort-ascends : (es acc : List EdgeEvent) → Ascend acc → Ascend (sortInto es acc)
-unfolding sortInto
-sort-ascends [] acc h = h
-sort-ascends (e ∷ es) acc h = sort-ascends es (insert e acc) (insert-ascends e acc h)
 
 -- what is kept ascends, and is apart: an event that was dropped stands between the one kept before it and the next
 abbrev NotNan : EdgeEvent → Type 0

@@ -8,4 +8,6 @@ pub mod Kept
 pub mod Gather
 pub mod Grid
 pub mod Each
+pub mod Order
 pub mod Laws
+pub mod Storable

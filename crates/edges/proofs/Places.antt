@@ -1,18 +1,14 @@
--- Events as one list. A store to both lists is a store of an event; the place of a lambda, found from the left; an event that is carried up from its place, and the list once it is there. Assumes nothing.
+-- Events as one list. A store to both lists is a store of an event; a list whose end is moved up by one, so that a value can be put there; and an event put at a place of both lists. Assumes nothing.
 use mathlib.Core.Path.{_≡_, refl, ap, sym, _∙_}
-use mathlib.Core.Bool.{Bool, true, false}
-use mathlib.Core.List.{List, [], _∷_, _++_, append-assoc}
+use mathlib.Core.List.{List, [], _∷_}
 use Prim.Native.Nat.{ℕ, zero, suc, _+_, _<_, _≤_}
 use native.Mathlib.Omega.{arith}
 use native.Mathlib.Numerals.{add-one}
-use lib.ListN.{length, take, drop, getD, set, drop-of-length-le}
-use lib.Seq.{drop-cons, getD-take, take-suc-set, drop-set-lt, take-at, length-take-le}
+use lib.ListN.{length, take, drop, getD, set, length-set, drop-of-length-le}
+use lib.Seq.{drop-cons, getD-take, getD-set-same, set-split, take-take, take-set-le, take-set-lt, drop-set-lt, length-take-le}
 use lib.Ieee.{Float, nan}
-use Rattle.float.specs.Order.{totalOrder}
 use Rattle.edges.specs.declared.event.EdgeEvent.{EdgeEvent}
-use Rattle.edges.specs.Param.{pick}
-use Rattle.edges.specs.Events.{precedes, insert}
-use Rattle.edges.specs.Scratch.{eventOf, held, eventsIn, place}
+use Rattle.edges.specs.Scratch.{eventOf, held, eventsIn, putAt}
 
 -- ---- the two lists as one
 pub held-length : (ls : List Float) (cs : List ℕ) → length ls ≡ length cs → length (held ls cs) ≡ length ls
@@ -43,68 +39,52 @@ event-in ls cs count i d e h k = sym (getD-take count (held ls cs) i d k ∙ hel
 pub events-length : (ls : List Float) (cs : List ℕ) (count : ℕ) → length ls ≡ length cs → count ≤ length ls → length (eventsIn ls cs count) ≡ count
 events-length ls cs count e h = length-take-le count (held ls cs) (omega (arith, held-length ls cs e))
 
--- ---- the place of l among the first n of xs, after i of them were passed
-module _ (l : Float) (xs : List Float) (n i : ℕ) (d : Float) (h : i < n) (k : n ≤ length xs) where
-  place-here : place l (drop i (take n xs)) ≡ pick (precedes (totalOrder l (getD xs i d))) 0 (suc (place l (drop (suc i) (take n xs))))
-  unfolding place
-  place-here =
-      let m : i < length (take n xs) = omega (arith, length-take-le n xs k) in
-      ap (place l) (drop-cons (take n xs) i d m) ∙ ap (λ (x : Float). pick (precedes (totalOrder l x)) 0 (suc (place l (drop (suc i) (take n xs))))) (getD-take n xs i d h)
+-- ---- a list whose end is moved up by one, from the back: so far what stood from i on, in a list of which `count` count
+module _ {A : Type 0} (xs : List A) (count : ℕ) where
+  abbrev pub Moved : List A → ℕ → Type 0
+  Moved ys i = (take i ys ≡ take i xs) × (drop (i + 1) (take (count + 1) ys) ≡ drop i (take count xs))
 
-  pub place-found : {p : ℕ} → p ≡ i + place l (drop i (take n xs)) → precedes (totalOrder l (getD xs i d)) ≡ true → i ≡ p
-  place-found e t =
-      let q : place l (drop i (take n xs)) ≡ 0 = place-here ∙ ap (λ (b : Bool). pick b 0 (suc (place l (drop (suc i) (take n xs))))) t in
-      omega arith
+  pub moved-none : count < length xs → Moved xs count
+  moved-none h =
+      let m : length (take (count + 1) xs) ≤ count + 1 = omega (arith, length-take-le (count + 1) xs (omega arith)) in
+      let n : length (take count xs) ≤ count = omega (arith, length-take-le count xs (omega arith)) in
+      (refl, drop-of-length-le (take (count + 1) xs) m ∙ sym (drop-of-length-le (take count xs) n))
 
-  pub place-passed : {p : ℕ} → p ≡ i + place l (drop i (take n xs)) → precedes (totalOrder l (getD xs i d)) ≡ false → p ≡ i + 1 + place l (drop (i + 1) (take n xs))
-  place-passed e t =
-      let q : place l (drop i (take n xs)) ≡ suc (place l (drop (suc i) (take n xs))) = place-here ∙ ap (λ (b : Bool). pick b 0 (suc (place l (drop (suc i) (take n xs))))) t in
-      rw add-one (omega arith)
+  module _ (ys : List A) (h : count < length ys) where
+    pub moved-on : (i j : ℕ) (d : A) → count < length xs → j + 1 ≡ i → i ≤ count → Moved ys i → Moved (set ys i (getD ys j d)) j
+    moved-on i j d g e k m =
+        let x = getD ys j d in
+        let t = take (count + 1) ys in
+        let n : i < length t = omega (arith, length-take-le (count + 1) ys (omega arith)) in
+        let same : x ≡ getD (take count xs) j d =
+        sym (getD-take i ys j d (omega arith)) ∙ ap (λ (l : List A). getD l j d) (m .0) ∙ getD-take i xs j d (omega arith) ∙ sym (getD-take count xs j d (omega arith)) in (
+          take-set-le j ys i x (omega arith) ∙ sym (take-take j i ys (omega arith)) ∙ ap (take j) (m .0) ∙ take-take j i xs (omega arith),
+          rw (e, take-set-lt (count + 1) ys i x (omega arith), drop-cons (set t i x) i d (omega (arith, length-set t i x)), getD-set-same t i x d n, drop-set-lt (suc i) t i x (omega arith), ← add-one i, m .1, same, ← e, add-one j)
+              (sym (drop-cons (take count xs) j d (omega (arith, length-take-le count xs (omega arith))))),
+        )
 
-pub place-ended : (l : Float) (xs : List Float) (n i : ℕ) {p : ℕ} → n ≤ i → i ≤ n → n ≤ length xs → p ≡ i + place l (drop i (take n xs)) → i ≡ p
-unfolding place
-place-ended l xs n i h g k e =
-    let m : length (take n xs) ≤ i = omega (arith, length-take-le n xs k) in
-    let q : place l (drop i (take n xs)) ≡ 0 = ap (place l) (drop-of-length-le (take n xs) m) in
-    omega arith
+    pub moved-all : (p : ℕ) (x : A) → p ≤ count → Moved ys p → take (count + 1) (set ys p x) ≡ putAt p x (take count xs)
+    moved-all p x k m =
+        let t = take (count + 1) ys in
+        rw (take-set-lt (count + 1) ys p x (omega arith), set-split t p x (omega (arith, length-take-le (count + 1) ys (omega arith))), take-take p (count + 1) ys (omega arith), m .0, take-take p count xs k, ← add-one p, m .1)
 
--- ---- an event e carried at j: it is to stand before what is there
-abbrev pub carried : List EdgeEvent → ℕ → EdgeEvent → List EdgeEvent
-carried r j e = take j r ++ (e ∷ drop j r)
+-- ---- an event put at a place of both lists
+held-put : (p : ℕ) (x : Float) (y : ℕ) (ls : List Float) (cs : List ℕ) → length ls ≡ length cs → held (putAt p x ls) (putAt p y cs) ≡ putAt p (eventOf x y) (held ls cs)
+unfolding held
+held-put zero x y ls cs e = refl
+held-put (suc p) x y [] [] e = refl
+held-put (suc p) x y [] (c ∷ cs) e = absurd (omega arith)
+held-put (suc p) x y (l ∷ ls) [] e = absurd (omega arith)
+held-put (suc p) x y (l ∷ ls) (c ∷ cs) e = ap (λ (r : List EdgeEvent). eventOf l c ∷ r) (held-put p x y ls cs (omega arith))
 
-carry : (r : List EdgeEvent) (j : ℕ) (e d : EdgeEvent) → j < length r → carried (set r j e) (suc j) (getD r j d) ≡ carried r j e
-carry r j e d h = rw (take-suc-set r j e h, drop-set-lt (suc j) r j e (omega arith), append-assoc, ← drop-cons r j d h)
+held-take : (n : ℕ) (ls : List Float) (cs : List ℕ) → take n (held ls cs) ≡ held (take n ls) (take n cs)
+unfolding held
+held-take zero ls cs = refl
+held-take (suc n) [] cs = refl
+held-take (suc n) (l ∷ ls) [] = refl
+held-take (suc n) (l ∷ ls) (c ∷ cs) = ap (λ (r : List EdgeEvent). eventOf l c ∷ r) (held-take n ls cs)
 
-pub carry-on : (ls : List Float) (cs : List ℕ) (j : ℕ) (x : Float) (y : ℕ) → length ls ≡ length cs → j < length ls →
-    carried (held (set ls j x) (set cs j y)) (j + 1) (eventOf (getD ls j nan) (getD cs j 0)) ≡ carried (held ls cs) j (eventOf x y)
-carry-on ls cs j x y e h =
-    rw (add-one, held-set ls cs j x y e, ← held-at ls cs j (eventOf nan 0) e h) (carry (held ls cs) j (eventOf x y) (eventOf nan 0) (omega (arith, held-length ls cs e)))
-
--- carried at its place it is inserted
-carried-place : (e : EdgeEvent) (ls : List Float) (cs : List ℕ) (n : ℕ) → length ls ≡ length cs → n ≤ length ls →
-    take (suc n) (carried (held ls cs) (place (e .lambda) (take n ls)) e) ≡ insert e (take n (held ls cs))
-unfolding held place insert
-carried-place e ls cs zero h k = refl
-carried-place e [] cs (suc n) h k = absurd (omega arith)
-carried-place e (l ∷ ls) [] (suc n) h k = absurd (omega arith)
-carried-place e (l ∷ ls) (c ∷ cs) (suc n) h k =
-    by-test (precedes (totalOrder (e .lambda) l)) (ap (λ (r : List EdgeEvent). eventOf l c ∷ r) (carried-place e ls cs n (omega arith) (omega arith)))
-  where
-    by-test : (b : Bool) → eventOf l c ∷ take (suc n) (carried (held ls cs) (place (e .lambda) (take n ls)) e) ≡ eventOf l c ∷ insert e (take n (held ls cs)) →
-        take (suc (suc n)) (carried (eventOf l c ∷ held ls cs) (pick b 0 (suc (place (e .lambda) (take n ls)))) e)
-        ≡ pick b (e ∷ (eventOf l c ∷ take n (held ls cs))) (eventOf l c ∷ insert e (take n (held ls cs)))
-    by-test true i = refl
-    by-test false i = i
-
--- what was carried has come past the n events
-pub carried-up : (e : EdgeEvent) (ls : List Float) (cs : List ℕ) (n k j : ℕ) (r : List EdgeEvent) (x : EdgeEvent) → length ls ≡ length cs → n < length ls → k ≡ place (e .lambda) (take n ls) →
-    carried r j x ≡ carried (held ls cs) k e → n < j → j ≤ n + 1 → n < length r → take (n + 1) r ≡ insert e (take n (held ls cs))
-carried-up e ls cs n k j r x h g p q a b t =
-    let s : j ≡ suc n = omega arith in
-    let m : length (take (suc n) r) ≡ suc n = length-take-le (suc n) r t in
-    rw add-one (
-    sym (take-at (take (suc n) r) (x ∷ drop (suc n) r) (suc n) m)
-    ∙ ap (λ (i : ℕ). take (suc n) (carried r i x)) (sym s)
-    ∙ ap (take (suc n)) q
-    ∙ ap (λ (i : ℕ). take (suc n) (carried (held ls cs) i e)) p
-    ∙ carried-place e ls cs n h (omega arith))
+pub events-put : (ls : List Float) (cs : List ℕ) (n p : ℕ) (x : Float) (y : ℕ) (ms : List Float) (ds : List ℕ) → length ls ≡ length cs → n ≤ length ls →
+    take (n + 1) ms ≡ putAt p x (take n ls) → take (n + 1) ds ≡ putAt p y (take n cs) → eventsIn ms ds (n + 1) ≡ putAt p (eventOf x y) (eventsIn ls cs n)
+events-put ls cs n p x y ms ds e h q r =
+    rw (held-take (n + 1) ms ds, q, r, held-take n ls cs) (held-put p x y (take n ls) (take n cs) (length-take-le n ls h ∙ sym (length-take-le n cs (omega arith))))

@@ -1,9 +1,9 @@
 -- The cell on whose diagonal a point lies (reference: `diagonal_cell_at`). "Floors give signed whole numbers: −0.25 gives −1." Assumes nothing.
-use mathlib.Core.Bool.{Bool, _&&_}
+use mathlib.Core.Bool.{Bool, false, _&&_}
 use Prim.Native.Nat.{ℕ}
 use lib.IntN.{ℤ, pos, negsuc, _-ℤ_}
 use lib.Dec.{ltb}
-use lib.Ieee.{binary64, lt, add, sub}
+use lib.Ieee.{Float, binary64, lt, add, sub}
 use Rattle.float.specs.Consts.{eps, one64}
 use Rattle.float.specs.Sign.{absolute}
 use Rattle.float.specs.Whole.{floorZ}
@@ -32,6 +32,11 @@ unfoldable pub tryCell : ParamPoint → CellIndex → CellIndex → DiagonalCell
 tryCell p Outside j = NoCell
 tryCell p (Index u) Outside = NoCell
 tryCell p (Index u) (Index v) = pick (onDiagonal p u v) (Cell u v) NoCell
+
+-- x is in the cells of an index on one axis; where a point is not, on either axis, it is on no diagonal there
+unfoldable pub inCell : Float → CellIndex → Bool
+inCell x Outside = false
+inCell x (Index k) = within (sub binary64 x (natFloat k)) one64
 
 -- the first of two answers that is a cell
 abbrev pub orCell : DiagonalCell → DiagonalCell → DiagonalCell

@@ -1,16 +1,17 @@
 -- Where the events of a step stand ("`Vec` of events: an array of 1,023 with a count"): their lambdas in one list and the codes of their sides in another. Assumes nothing.
-use mathlib.Core.List.{List, [], _∷_}
+use mathlib.Core.Bool.{true, false}
+use mathlib.Core.List.{List, [], _∷_, _++_}
 use mathlib.Core.Path.{_≡_}
-use Prim.Native.Nat.{ℕ, suc, _+_, _-_, _*_, _/_, _%_, _≤_}
+use Prim.Native.Nat.{ℕ, _+_, _-_, _*_, _/_, _%_, _≤_, _<_}
 use lib.Dec.{ltb}
-use lib.ListN.{length, take}
-use lib.Ieee.{Float}
+use lib.ListN.{length, take, drop, getD}
+use lib.Ieee.{Float, nan, isNan}
 use Rattle.float.specs.Order.{totalOrder}
 use Rattle.edges.specs.declared.event.ParamEdge.{ParamEdge}
 use Rattle.edges.specs.declared.event.ParamEdge.the-variants.{U, «V», Diagonal}
 use Rattle.edges.specs.declared.event.EdgeEvent.{EdgeEvent}
 use Rattle.edges.specs.Param.{pick}
-use Rattle.edges.specs.Events.{event, precedes}
+use Rattle.edges.specs.Events.{event, precedes, Each, OnGrid}
 
 -- a side as one number, and back: indices are below 256
 unfoldable pub codeOf : ParamEdge → ℕ
@@ -34,10 +35,33 @@ held (l ∷ ls) (c ∷ cs) = eventOf l c ∷ held ls cs
 abbrev pub eventsIn : List Float → List ℕ → ℕ → List EdgeEvent
 eventsIn lambdas codes count = take count (held lambdas codes)
 
--- how many lambdas stand before the first that l precedes
-unfoldable pub place : Float → List Float → ℕ
-place l [] = 0
-place l (x ∷ xs) = pick (precedes (totalOrder l x)) 0 (suc (place l xs))
+-- x put at place p of a list
+abbrev pub putAt : {A : Type 0} → ℕ → A → List A → List A
+putAt p x xs = take p xs ++ (x ∷ drop p xs)
+
+-- a place among the first `count` lambdas: l does not precede the one before it, and precedes the one that stands there
+pub record PlaceOf (l : Float) (lambdas : List Float) (count place : ℕ) : Type 0 where
+  pub most : place ≤ count
+  pub after : (i : ℕ) → i + 1 ≡ place → precedes (totalOrder l (getD lambdas i nan)) ≡ false
+  pub before : place < count → precedes (totalOrder l (getD lambdas place nan)) ≡ true
+
+-- events whose lambdas ascend in the total order, the first not before x
+abbrev pub AscendFrom : Float → List EdgeEvent → Type 0
+AscendFrom x [] = Unit
+AscendFrom x (e ∷ es) = (precedes (totalOrder (e .lambda) x) ≡ false) × AscendFrom (e .lambda) es
+
+abbrev pub Ascend : List EdgeEvent → Type 0
+Ascend [] = Unit
+Ascend (e ∷ es) = AscendFrom (e .lambda) es
+
+-- an event that the lists take: its side has a code, and its lambda is no NaN
+abbrev pub Storable : EdgeEvent → Type 0
+Storable e = OnGrid 255 255 e × (isNan (e .lambda) ≡ false)
+
+-- such events, in order
+pub record Sorted (es : List EdgeEvent) : Type 0 where
+  pub ascend : Ascend es
+  pub storable : Each Storable es
 
 -- for M and N up to 255, two lists of 1,023 that hold `count` events and have room for so many more: ends, U, V and diagonals are at most 2 + (M+1) + (N+1) + (M+N−1)
 pub record ScratchRoom (m n : ℕ) (lambdas : List Float) (codes : List ℕ) (count more : ℕ) : Type 0 where

@@ -7,7 +7,7 @@ use float::sign::abs;
 use float::whole::floor_i64;
 ghost use mathlib.Core.Path.{_≡_};
 ghost use lib.IntN.{pos, _-ℤ_};
-ghost use Rattle.edges.specs.Cell.{indexOf, onDiagonal, tryCell, orCell, diagonalCellAt};
+ghost use Rattle.edges.specs.Cell.{indexOf, onDiagonal, tryCell, inCell, diagonalCellAt};
 
 // A whole number as an index below a count.
 pub enum CellIndex {
@@ -71,12 +71,13 @@ fn try_cell(point: ParamPoint, i: CellIndex, j: CellIndex) -> DiagonalCell
     }
 }
 
-fn or_cell(a: DiagonalCell, b: DiagonalCell) -> DiagonalCell
-    ensures { λ r. ⌜ r ≡ orCell a b ⌝ }
+// Whether x is in the cells of an index, on one axis: no other of them is worth a try.
+fn is_in_cell(x: f64, index: CellIndex) -> bool
+    ensures { λ r. ⌜ r ≡ inCell x index ⌝ }
 {
-    match a {
-        DiagonalCell::Cell(u, v) => DiagonalCell::Cell(u, v),
-        DiagonalCell::NoCell => b,
+    match index {
+        CellIndex::Index(k) => is_within(x - to_f64(k), 1.0),
+        CellIndex::Outside => false,
     }
 }
 
@@ -91,9 +92,18 @@ pub fn diagonal_cell_at(m: usize, n: usize, point: ParamPoint) -> DiagonalCell
     let u1 = index_of(u_floor, m);
     let v0 = index_before(v_floor, n);
     let v1 = index_of(v_floor, n);
-    let a = try_cell(point, u0, v0);
-    let b = try_cell(point, u0, v1);
-    let c = try_cell(point, u1, v0);
-    let d = try_cell(point, u1, v1);
-    or_cell(a, or_cell(b, or_cell(c, d)))
+    if is_in_cell(point.u, u0) {
+        if let DiagonalCell::Cell(u, v) = try_cell(point, u0, v0) {
+            return DiagonalCell::Cell(u, v);
+        }
+        if let DiagonalCell::Cell(u, v) = try_cell(point, u0, v1) {
+            return DiagonalCell::Cell(u, v);
+        }
+    }
+    if is_in_cell(point.v, v0) {
+        if let DiagonalCell::Cell(u, v) = try_cell(point, u1, v0) {
+            return DiagonalCell::Cell(u, v);
+        }
+    }
+    try_cell(point, u1, v1)
 }

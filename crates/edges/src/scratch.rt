@@ -12,8 +12,8 @@ ghost use Prim.Native.Nat.{_+_, _<_, _≤_};
 ghost use lib.ListN.{length, getD, take};
 ghost use lib.Ieee.{nan};
 ghost use Rattle.float.specs.Order.{totalOrder};
-ghost use Rattle.edges.specs.Events.{precedes, insert, pushed, unique, Inside, IfEvent, OnGrid};
-ghost use Rattle.edges.specs.Scratch.{codeOf, edgeOf, eventOf, eventsIn, place};
+ghost use Rattle.edges.specs.Events.{precedes, insert, pushed, unique, Inside, IfEvent};
+ghost use Rattle.edges.specs.Scratch.{codeOf, edgeOf, eventOf, eventsIn, putAt, PlaceOf, Storable, Sorted};
 
 // A side as one number.
 fn code_of(edge: ParamEdge) -> u32
@@ -63,41 +63,69 @@ fn precedes(x: f64, y: f64) -> bool
     }
 }
 
-// The place of the first of `count` lambdas that `lambda` precedes, or `count`.
+// Where `lambda` goes among `count` lambdas. Most go to the end, since the lines of an axis and the
+// diagonals come in order; for the others what is left to search is halved.
 fn place_of(lambdas: &[f64], count: usize, lambda: f64) -> usize
     requires { ⌜ count ≤ length (now lambdas) ⌝ }
-    ensures { λ r. ⌜ (r ≤ count) × (r ≡ place lambda (take count (now (lambdas .entry)))) ⌝ }
+    ensures { λ r. ⌜ PlaceOf lambda (now (lambdas .entry)) count r ⌝ }
 {
-    let mut i: usize = 0;
-    while i < count {
-        if precedes(lambda, lambdas[i]) {
-            return i;
-        }
-        i += 1;
+    if count == 0 {
+        return 0;
     }
-    i
+    let mut low: usize = 0;
+    let mut high = count - 1;
+    if !precedes(lambda, lambdas[high]) {
+        return count;
+    }
+    while low < high {
+        let middle = low + (high - low) / 2;
+        if precedes(lambda, lambdas[middle]) {
+            high = middle;
+        } else {
+            low = middle + 1;
+        }
+    }
+    low
 }
 
-// Puts an event in its place among `count` sorted events, after its equals, and moves those after
-// it up by one.
-pub fn insert_event(lambdas: &mut [f64], codes: &mut [u32], count: usize, event: EdgeEvent)
-    requires { ⌜ (count < length (now lambdas)) × (length (now lambdas) ≡ length (now codes)) × OnGrid 255 255 event ⌝ }
-    ensures { λ _. ⌜ eventsIn (now (lambdas .exit)) (now (codes .exit)) (count + 1)
-        ≡ insert event (eventsIn (now (lambdas .entry)) (now (codes .entry)) count) ⌝ }
+// Puts a lambda at a place among `count`. Each list is moved up by a loop of its own, which copies
+// whole runs at once.
+fn insert_lambda(lambdas: &mut [f64], count: usize, place: usize, lambda: f64)
+    requires { ⌜ (place ≤ count) × (count < length (now lambdas)) ⌝ }
+    ensures { λ _. ⌜ take (count + 1) (now (lambdas .exit)) ≡ putAt place lambda (take count (now (lambdas .entry))) ⌝ }
 {
-    let edge = event.edge;
-    let mut lambda = event.lambda;
-    let mut code = code_of(edge);
-    let mut i = place_of(lambdas, count, lambda);
-    while i <= count {
-        let next_lambda = lambdas[i];
-        let next_code = codes[i];
-        lambdas[i] = lambda;
-        codes[i] = code;
-        lambda = next_lambda;
-        code = next_code;
-        i += 1;
+    let mut i = count;
+    while place < i {
+        lambdas[i] = lambdas[i - 1];
+        i -= 1;
     }
+    lambdas[place] = lambda;
+}
+
+fn insert_code(codes: &mut [u32], count: usize, place: usize, code: u32)
+    requires { ⌜ (place ≤ count) × (count < length (now codes)) ⌝ }
+    ensures { λ _. ⌜ take (count + 1) (now (codes .exit)) ≡ putAt place code (take count (now (codes .entry))) ⌝ }
+{
+    let mut i = count;
+    while place < i {
+        codes[i] = codes[i - 1];
+        i -= 1;
+    }
+    codes[place] = code;
+}
+
+// Puts an event in its place among `count` sorted events, after its equals.
+pub fn insert_event(lambdas: &mut [f64], codes: &mut [u32], count: usize, event: EdgeEvent)
+    requires { ⌜ (count < length (now lambdas)) × (length (now lambdas) ≡ length (now codes)) × Storable event × Sorted (eventsIn (now lambdas) (now codes) count) ⌝ }
+    ensures { λ _. ⌜ (eventsIn (now (lambdas .exit)) (now (codes .exit)) (count + 1)
+        ≡ insert event (eventsIn (now (lambdas .entry)) (now (codes .entry)) count))
+        × Sorted (eventsIn (now (lambdas .exit)) (now (codes .exit)) (count + 1)) ⌝ }
+{
+    let lambda = event.lambda;
+    let edge = event.edge;
+    let place = place_of(lambdas, count, lambda);
+    insert_lambda(lambdas, count, place, lambda);
+    insert_code(codes, count, place, code_of(edge));
 }
 
 // Adds a candidate that is an event, and answers the new count.
@@ -107,9 +135,10 @@ pub fn push_candidate(
     count: usize,
     candidate: Candidate,
 ) -> usize
-    requires { ⌜ (count < length (now lambdas)) × (length (now lambdas) ≡ length (now codes)) × IfEvent (OnGrid 255 255) candidate ⌝ }
+    requires { ⌜ (count < length (now lambdas)) × (length (now lambdas) ≡ length (now codes)) × IfEvent Storable candidate × Sorted (eventsIn (now lambdas) (now codes) count) ⌝ }
     ensures { λ r. ⌜ (r ≤ count + 1) × (eventsIn (now (lambdas .exit)) (now (codes .exit)) r
-        ≡ pushed candidate (eventsIn (now (lambdas .entry)) (now (codes .entry)) count)) ⌝ }
+        ≡ pushed candidate (eventsIn (now (lambdas .entry)) (now (codes .entry)) count))
+        × Sorted (eventsIn (now (lambdas .exit)) (now (codes .exit)) r) ⌝ }
 {
     match candidate {
         Candidate::Event(event) => {

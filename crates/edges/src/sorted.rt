@@ -19,7 +19,7 @@ ghost use mathlib.Core.List.{[]};
 ghost use Prim.Native.Nat.{_+_, _-_, _<_, _≤_};
 ghost use Rattle.float.specs.Cast.{count};
 ghost use Rattle.edges.specs.Events.{lowSum, highSum, firstSum, pastSum, ends, lines, diagonals, candidates, sortInto, sortedEdgeEvents};
-ghost use Rattle.edges.specs.Scratch.{eventsIn, ScratchRoom};
+ghost use Rattle.edges.specs.Scratch.{eventsIn, ScratchRoom, Sorted};
 
 fn push_ends(
     lambdas: &mut [f64],
@@ -30,7 +30,8 @@ fn push_ends(
     b: ParamPoint,
 ) -> usize
     requires { ⌜ ScratchRoom m n (now lambdas) (now codes) 0 2 ⌝ }
-    ensures { λ r. ⌜ (r ≤ 2) × (eventsIn (now (lambdas .exit)) (now (codes .exit)) r ≡ sortInto (ends m n a b) []) ⌝ }
+    ensures { λ r. ⌜ (r ≤ 2) × (eventsIn (now (lambdas .exit)) (now (codes .exit)) r ≡ sortInto (ends m n a b) [])
+        × Sorted (eventsIn (now (lambdas .exit)) (now (codes .exit)) r) ⌝ }
 {
     let start = end_candidate(0.0, edge_at_point(m, n, a));
     let end = end_candidate(1.0, edge_at_point(m, n, b));
@@ -49,9 +50,10 @@ fn push_lines(
     a: ParamPoint,
     b: ParamPoint,
 ) -> usize
-    requires { ⌜ ScratchRoom along across (now lambdas) (now codes) count (along + 1) ⌝ }
+    requires { ⌜ ScratchRoom along across (now lambdas) (now codes) count (along + 1) × Sorted (eventsIn (now lambdas) (now codes) count) ⌝ }
     ensures { λ r. ⌜ (r ≤ count + (along + 1)) × (eventsIn (now (lambdas .exit)) (now (codes .exit)) r
-        ≡ sortInto (lines axis along across a b) (eventsIn (now (lambdas .entry)) (now (codes .entry)) count)) ⌝ }
+        ≡ sortInto (lines axis along across a b) (eventsIn (now (lambdas .entry)) (now (codes .entry)) count))
+        × Sorted (eventsIn (now (lambdas .exit)) (now (codes .exit)) r) ⌝ }
 {
     let mut total = count;
     if !(EPS < abs(b.along(axis) - a.along(axis))) {
@@ -117,7 +119,7 @@ fn push_diagonals(
     a: ParamPoint,
     b: ParamPoint,
 ) -> usize
-    requires { ⌜ ScratchRoom m n (now lambdas) (now codes) count (m + n - 1) ⌝ }
+    requires { ⌜ ScratchRoom m n (now lambdas) (now codes) count (m + n - 1) × Sorted (eventsIn (now lambdas) (now codes) count) ⌝ }
     ensures { λ r. ⌜ (r ≤ count + (m + n - 1)) × (eventsIn (now (lambdas .exit)) (now (codes .exit)) r
         ≡ sortInto (diagonals m n a b) (eventsIn (now (lambdas .entry)) (now (codes .entry)) count)) ⌝ }
 {

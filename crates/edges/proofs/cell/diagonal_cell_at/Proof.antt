@@ -1,11 +1,43 @@
--- `edges::cell::diagonal_cell_at` meets its contract: the calls are those of the definition, at the floors. Assumes nothing.
-use mathlib.Core.Path.{_∙_}
+-- `edges::cell::diagonal_cell_at` meets its contract: the cells are those of the definition, at the floors, and one that is not tried has no fit. Assumes nothing.
+use mathlib.Core.Path.{_≡_, sym, _∙_}
+use mathlib.Core.Logic.{⊎-elim}
 use mir.Syntax.{w64}
 use mir.ValLaws.{toZ-ofZ}
-use Rattle.edges.proofs.Index.{diagonal-is}
+use Rattle.edges.specs.declared.cell.DiagonalCell.the-variants.{NoCell}
+use Rattle.edges.specs.Cell.{tryCell, orCell, diagonalCellAt}
+use Rattle.edges.proofs.Index.{not-in-u, not-in-v, four-cells, first-fits, second-fits, third-fits, fourth-left}
 use borrow.Author.Needs.{needs}
 use Rattle.edges.proofs.cell.diagonal_cell_at.Statement.{statement}
 use Rattle.edges.proofs.cell.diagonal_cell_at.Tie as tie
+
+-- the four cells, from the indices that were found
+cells : (c : tie.After-index-of2) →
+    let a = c .before .before .before .before .before .before .args in
+    let u0 = c .before .before .before .index-before .result in
+    let u1 = c .before .before .index-of .result in
+    let v0 = c .before .index-before2 .result in
+    let v1 = c .index-of2 .result in
+    diagonalCellAt (a .m) (a .n) (a .point) ≡ orCell (tryCell (a .point) u0 v0) (orCell (tryCell (a .point) u0 v1) (orCell (tryCell (a .point) u1 v0) (tryCell (a .point) u1 v1)))
+cells c =
+    let y = c .before .before .before .before in
+    let x = y .before in
+    four-cells (x .before .args .m) (x .before .args .n) (x .before .args .point)
+    (toZ-ofZ w64 (x .floor-i64 .result) (record { sfits = x .floor-i64 .ok }) ∙ x .floor-i64 .ensures)
+    (toZ-ofZ w64 (y .floor-i642 .result) (record { sfits = y .floor-i642 .ok }) ∙ y .floor-i642 .ensures)
+    (c .before .before .before .index-before .ensures) (c .before .before .index-of .ensures) (c .before .index-before2 .ensures) (c .index-of2 .ensures)
+
+-- neither cell of the earlier u fits
+before-none : (c : tie.Joined1) →
+    let k = c .before .before in
+    let p = k .before .before .before .before .before .before .args .point in
+    let u0 = k .before .before .before .index-before .result in
+    (tryCell p u0 (k .before .index-before2 .result) ≡ NoCell) × (tryCell p u0 (k .index-of2 .result) ≡ NoCell)
+before-none c =
+    let k = c .before .before in
+    let p = k .before .before .before .before .before .before .args .point in
+    let u0 = k .before .before .before .index-before .result in
+    ⊎-elim (λ w. (sym (w .1 .ensures) ∙ w .3 .given .1, sym (w .4 .ensures) ∙ w .6 .given .1))
+    (λ w. let out = sym (c .before .is-in-cell .ensures) ∙ w .left in (not-in-u p u0 (k .before .index-before2 .result) out, not-in-u p u0 (k .index-of2 .result) out)) (c .if1 .came)
 
 floor-i64-requires : tie.Need-floor-i64-requires
 floor-i64-requires c κs = search needs
@@ -25,45 +57,82 @@ index-before-requires-2 c κs = search needs
 index-of-requires-2 : tie.Need-index-of-requires-2
 index-of-requires-2 c κs = search needs
 
+is-in-cell-requires : tie.Need-is-in-cell-requires
+is-in-cell-requires c κs = search needs
+
 try-cell-requires : tie.Need-try-cell-requires
 try-cell-requires c κs = search needs
+
+enum-known-u : tie.Need-enum-known-u
+enum-known-u c = search needs
+
+returns : tie.Need-returns
+returns c =
+    let k = c .before .before .before .before .before .before in
+    let a = k .before .before .before .before .before .before .args in
+    let u0 = k .before .before .before .index-before .result in
+    let u1 = k .before .before .index-of .result in
+    let v0 = k .before .index-before2 .result in
+    let v1 = k .index-of2 .result in
+    first-fits (a .point) u0 u1 v0 v1 (cells k) (sym (c .before .before .before .try-cell .ensures) ∙ c .before .u .given .1)
+
+enum-told : tie.Need-enum-told
+enum-told c = search needs
 
 try-cell-requires-2 : tie.Need-try-cell-requires-2
 try-cell-requires-2 c κs = search needs
 
+enum-known-u-2 : tie.Need-enum-known-u-2
+enum-known-u-2 c = search needs
+
+returns-2 : tie.Need-returns-2
+returns-2 c =
+    let k = c .before .before .before .before .before .before .before .before .before in
+    let a = k .before .before .before .before .before .before .args in
+    let u0 = k .before .before .before .index-before .result in
+    let u1 = k .before .before .index-of .result in
+    let v0 = k .before .index-before2 .result in
+    let v1 = k .index-of2 .result in
+    second-fits (a .point) u0 u1 v0 v1 (cells k) (sym (c .before .before .before .before .before .before .try-cell .ensures) ∙ c .before .before .before .before .enum-told .given .1) (sym (c .before .before .before .try-cell2 .ensures) ∙ c .before .u2 .given .1)
+
+enum-told-2 : tie.Need-enum-told-2
+enum-told-2 c = search needs
+
+is-in-cell-requires-2 : tie.Need-is-in-cell-requires-2
+is-in-cell-requires-2 c κs = search needs
+
 try-cell-requires-3 : tie.Need-try-cell-requires-3
 try-cell-requires-3 c κs = search needs
+
+enum-known-u-3 : tie.Need-enum-known-u-3
+enum-known-u-3 c = search needs
+
+returns-3 : tie.Need-returns-3
+returns-3 c =
+    let k = c .before .before .before .before .before .before .before .before in
+    let a = k .before .before .before .before .before .before .args in
+    let u0 = k .before .before .before .index-before .result in
+    let u1 = k .before .before .index-of .result in
+    let v0 = k .before .index-before2 .result in
+    let v1 = k .index-of2 .result in
+    third-fits (a .point) u0 u1 v0 v1 (cells k) (before-none (c .before .before .before .before .before .before)) (sym (c .before .before .before .try-cell3 .ensures) ∙ c .before .u3 .given .1)
+
+enum-told-3 : tie.Need-enum-told-3
+enum-told-3 c = search needs
 
 try-cell-requires-4 : tie.Need-try-cell-requires-4
 try-cell-requires-4 c κs = search needs
 
-or-cell-requires : tie.Need-or-cell-requires
-or-cell-requires c κs = search needs
-
-or-cell-requires-2 : tie.Need-or-cell-requires-2
-or-cell-requires-2 c κs = search needs
-
-or-cell-requires-3 : tie.Need-or-cell-requires-3
-or-cell-requires-3 c κs = search needs
-
-returns : tie.Need-returns
-returns c =
-    let x = c .before .before .before .before .before .before .before .before .before .before .before .before in
-    let y = c .before .before .before .before .before .before .before .before .before .before .before in
-    diagonal-is (x .before .args .m) (x .before .args .n) (x .before .args .point)
-    (toZ-ofZ w64 (x .floor-i64 .result) (record { sfits = x .floor-i64 .ok }) ∙ x .floor-i64 .ensures)
-    (toZ-ofZ w64 (y .floor-i642 .result) (record { sfits = y .floor-i642 .ok }) ∙ y .floor-i642 .ensures)
-    (c .before .before .before .before .before .before .before .before .before .before .index-before .ensures)
-    (c .before .before .before .before .before .before .before .before .before .index-of .ensures)
-    (c .before .before .before .before .before .before .before .before .index-before2 .ensures)
-    (c .before .before .before .before .before .before .before .index-of2 .ensures)
-    (c .before .before .before .before .before .before .try-cell .ensures)
-    (c .before .before .before .before .before .try-cell2 .ensures)
-    (c .before .before .before .before .try-cell3 .ensures)
-    (c .before .before .before .try-cell4 .ensures)
-    (c .before .before .or-cell .ensures)
-    (c .before .or-cell2 .ensures)
-    (c .or-cell3 .ensures)
+returns-4 : tie.Need-returns-4
+returns-4 c =
+    let k = c .before .before .before .before .before in
+    let a = k .before .before .before .before .before .before .args in
+    let u0 = k .before .before .before .index-before .result in
+    let u1 = k .before .before .index-of .result in
+    let v0 = k .before .index-before2 .result in
+    let v1 = k .index-of2 .result in
+    let out = ⊎-elim (λ w. sym (w .1 .ensures) ∙ w .3 .given .1) (λ w. not-in-v (a .point) u1 v0 (sym (c .before .before .is-in-cell2 .ensures) ∙ w .left)) (c .before .if2 .came) in
+    fourth-left (a .point) u0 u1 v0 v1 (cells k) (before-none (c .before .before .before)) out (c .try-cell4 .ensures)
 
 pub diagonal-cell-at-spec : {M : Type 1} → statement M
 diagonal-cell-at-spec =
@@ -75,11 +144,19 @@ diagonal-cell-at-spec =
     index-of-requires
     index-before-requires-2
     index-of-requires-2
+    is-in-cell-requires
     try-cell-requires
+    enum-known-u
+    returns
+    enum-told
     try-cell-requires-2
+    enum-known-u-2
+    returns-2
+    enum-told-2
+    is-in-cell-requires-2
     try-cell-requires-3
+    enum-known-u-3
+    returns-3
+    enum-told-3
     try-cell-requires-4
-    or-cell-requires
-    or-cell-requires-2
-    or-cell-requires-3
-    returns)
+    returns-4)

@@ -1,22 +1,32 @@
--- `edges::scratch::place_of` meets its contract: i lambdas were passed, and the place is found among the rest. Assumes nothing.
-use mathlib.Core.Path.{_≡_, sym, _∙_}
-use Prim.Native.Nat.{_≤_, _-_, _+_}
-use lib.ListN.{take, drop}
+-- `edges::scratch::place_of` meets its contract: the place is after what `low` has passed, and not after `high`, which the lambda precedes. Assumes nothing.
+use mathlib.Core.Path.{_≡_, refl, sym, _∙_, subst}
+use mathlib.Core.Bool.{true}
+use Prim.Native.Nat.{ℕ, _≤_, _<_, _-_}
+use native.Mathlib.Omega.{arith}
+use lib.ListN.{getD}
 use lib.Ieee.{nan}
-use Rattle.edges.specs.Scratch.{place}
-use Rattle.edges.proofs.Places.{place-found, place-passed, place-ended}
+use Rattle.float.specs.Order.{totalOrder}
+use Rattle.edges.specs.Events.{precedes}
+use Rattle.edges.proofs.Order.{After, after-none, after-this}
+use borrow.Author.Tests.{not-true, not-false}
 use borrow.Author.Needs.{needs}
 use Rattle.edges.proofs.scratch.place_of.Statement.{statement}
 use Rattle.edges.proofs.scratch.place_of.Tie as tie
 
 abbrev Inv-loop : tie.InvT-loop
-Inv-loop lambdas count lambda i₀ i = (i ≤ count) × (place lambda (take count lambdas) ≡ i + place lambda (drop i (take count lambdas)))
+Inv-loop lambdas count lambda low₀ high₀ low high =
+    (low ≤ high) × (high < count) × After lambda lambdas low × (precedes (totalOrder lambda (getD lambdas high nan)) ≡ true)
 
 abbrev μ-loop : tie.MeasureT-loop
-μ-loop lambdas count lambda i₀ i = count - i
+μ-loop lambdas count lambda low₀ high₀ low high = high - low
 
-loop-holds : tie.Need-loop-holds Inv-loop μ-loop
-loop-holds c = search needs
+returns : tie.Need-returns Inv-loop μ-loop
+returns c =
+    let a = c .before .before .args in
+    record { most = search needs; after = after-none (a .lambda) (a .lambdas .now); before = λ h. absurd (omega arith) }
+
+sub-high : tie.Need-sub-high Inv-loop μ-loop
+sub-high c = search needs
 
 mul-precedes : tie.Need-mul-precedes Inv-loop μ-loop
 mul-precedes c = search needs
@@ -27,24 +37,62 @@ shared-slice-read-precedes c = search needs
 precedes-requires : tie.Need-precedes-requires Inv-loop μ-loop
 precedes-requires c κs = search needs
 
-returns : tie.Need-returns Inv-loop μ-loop
-returns c =
-    let t = c .before .before .before in
-    (search needs, place-found _ _ _ _ nan (t .loop-test .taken) (t .before .before .before .pre) (t .before .loop .inv .1) (sym (c .before .precedes .ensures) ∙ c .if1 .taken))
+returns-2 : tie.Need-returns-2 Inv-loop μ-loop
+returns-2 c =
+    let a = c .before .before .before .before .before .args in
+    record {
+      most = search needs;
+      after = after-this (a .lambda) (a .lambdas .now) (a .count - 1) (a .count) (omega arith) (sym (c .before .precedes .ensures) ∙ not-true _ (c .if2 .taken));
+      before = λ h. absurd (omega arith);
+    }
 
-add-i : tie.Need-add-i Inv-loop μ-loop
-add-i c = search needs
+loop-holds : tie.Need-loop-holds Inv-loop μ-loop
+loop-holds c =
+    let a = c .before .before .before .before .before .args in
+    (search needs, search needs, after-none (a .lambda) (a .lambdas .now), sym (c .before .precedes .ensures) ∙ not-false _ (c .if2 .left))
+
+sub-middle : tie.Need-sub-middle Inv-loop μ-loop
+sub-middle c = search needs
+
+add-middle : tie.Need-add-middle Inv-loop μ-loop
+add-middle c = search needs
+
+mul-precedes-2 : tie.Need-mul-precedes-2 Inv-loop μ-loop
+mul-precedes-2 c = search needs
+
+shared-slice-read-precedes-2 : tie.Need-shared-slice-read-precedes-2 Inv-loop μ-loop
+shared-slice-read-precedes-2 c = search needs
+
+precedes-requires-2 : tie.Need-precedes-requires-2 Inv-loop μ-loop
+precedes-requires-2 c κs = search needs
 
 loop-less : tie.Need-loop-less Inv-loop μ-loop
 loop-less c = search needs
 
 loop-again : tie.Need-loop-again Inv-loop μ-loop
-loop-again c =
-    let t = c .before .before .before in
-    (search needs, place-passed _ _ _ _ nan (t .loop-test .taken) (t .before .before .before .pre) (t .before .loop .inv .1) (sym (c .before .precedes .ensures) ∙ c .if1 .left))
+loop-again c = (search needs, search needs, c .before .before .before .before .loop .inv .2, sym (c .before .precedes2 .ensures) ∙ c .if3 .taken)
 
-returns-2 : tie.Need-returns-2 Inv-loop μ-loop
-returns-2 c = (search needs, place-ended _ _ _ _ (c .loop-test .left) (c .before .loop .inv .0) (c .before .before .before .pre) (c .before .loop .inv .1))
+add-low : tie.Need-add-low Inv-loop μ-loop
+add-low c = search needs
+
+loop-less-2 : tie.Need-loop-less-2 Inv-loop μ-loop
+loop-less-2 c = search needs
+
+loop-again-2 : tie.Need-loop-again-2 Inv-loop μ-loop
+loop-again-2 c =
+    let a = c .before .before .before .before .before .before .before .before .before .before .args in
+    (search needs, search needs, after-this (a .lambda) (a .lambdas .now) _ _ refl (sym (c .before .precedes2 .ensures) ∙ c .if3 .left), c .before .before .before .before .loop .inv .3)
+
+returns-3 : tie.Need-returns-3 Inv-loop μ-loop
+returns-3 c =
+    let l = c .before .loop in
+    let a = c .before .before .before .before .before .before .before .args in
+    let e : l .high ≡ l .low = omega (arith, c .loop-test .left, l .inv .0) in
+    record {
+      most = omega (arith, l .inv .0, l .inv .1);
+      after = l .inv .2;
+      before = λ h. subst (λ (p : ℕ). precedes (totalOrder (a .lambda) (getD (a .lambdas .now) p nan)) ≡ true) e (l .inv .3);
+    }
 
 pub place-of-spec : {M : Type 1} → statement M
 place-of-spec =
@@ -52,12 +100,21 @@ place-of-spec =
     (tie.spec
     Inv-loop
     μ-loop
-    loop-holds
+    returns
+    sub-high
     mul-precedes
     shared-slice-read-precedes
     precedes-requires
-    returns
-    add-i
+    returns-2
+    loop-holds
+    sub-middle
+    add-middle
+    mul-precedes-2
+    shared-slice-read-precedes-2
+    precedes-requires-2
     loop-less
     loop-again
-    returns-2)
+    add-low
+    loop-less-2
+    loop-again-2
+    returns-3)

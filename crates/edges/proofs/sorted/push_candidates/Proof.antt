@@ -22,13 +22,13 @@ push-ends-requires : tie.Need-push-ends-requires
 push-ends-requires c κs = search needs
 
 push-lines-requires : tie.Need-push-lines-requires
-push-lines-requires c κs = search needs
+push-lines-requires c κs = (search needs, c .before .before .before .before .before .before .push-ends .ensures .2)
 
 push-lines-requires-2 : tie.Need-push-lines-requires-2
-push-lines-requires-2 c κs = search needs
+push-lines-requires-2 c κs = (search needs, c .before .before .before .before .before .before .push-lines .ensures .2)
 
 push-diagonals-requires : tie.Need-push-diagonals-requires
-push-diagonals-requires c κs = search needs
+push-diagonals-requires c κs = (search needs, c .before .before .before .before .before .before .push-lines2 .ensures .2)
 
 same-length : tie.Need-same-length
 same-length c = search needs

@@ -6,8 +6,8 @@ use lib.Ieee.{lt}
 use borrow.Author.Tests.{not-true, not-false}
 use Rattle.float.specs.Consts.{eps}
 use Rattle.edges.specs.Events.{diagonalCandidate, diagonals, sortInto}
-use Rattle.edges.specs.Scratch.{eventsIn}
-use Rattle.edges.proofs.Grid.{diagonal-small}
+use Rattle.edges.specs.Scratch.{eventsIn, Sorted}
+use Rattle.edges.proofs.Storable.{diagonal-storable}
 use Rattle.edges.proofs.Gather.{gathering, gather-turn, gather-ends, diagonals-none, diagonals-start, first-from, past-to, shorter}
 use borrow.Author.Needs.{needs}
 use Rattle.edges.proofs.sorted.push_diagonals.Statement.{statement}
@@ -17,6 +17,7 @@ abbrev Inv-loop : tie.InvT-loop
 Inv-loop lambdas₀ codes₀ count m n a b total₀ first past sum₀ lambdas codes total sum =
     (1 ≤ first) × (past ≤ m + n) × (first ≤ sum) × (sum - first ≤ past - first) × (total ≤ count + (sum - first)) × (length lambdas ≡ 1023) × (length codes ≡ 1023)
     × (sortInto (diagonals m n a b) (eventsIn lambdas₀ codes₀ count) ≡ gathering (diagonalCandidate m n a b) past sum (eventsIn lambdas codes total))
+    × Sorted (eventsIn lambdas codes total)
 
 abbrev μ-loop : tie.MeasureT-loop
 μ-loop lambdas₀ codes₀ count m n a b total₀ first past sum₀ lambdas codes total sum = past - sum
@@ -51,6 +52,7 @@ loop-holds c =
       search needs,
       diagonals-start (a .m) (a .n) (a .a) (a .b) (eventsIn (a .lambdas .now) (a .codes .now) (a .count))
           (ap (lt eps) (sym (c .before .before .before .abs .ensures)) ∙ not-false _ (c .before .before .if1 .left)) (c .before .first-sum .ensures) (c .past-sum .ensures),
+      c .before .before .before .before .before .before .before .before .before .before .pre .1,
     )
 
 diagonal-candidate-requires : tie.Need-diagonal-candidate-requires Inv-loop μ-loop
@@ -60,7 +62,7 @@ push-candidate-requires : tie.Need-push-candidate-requires Inv-loop μ-loop
 push-candidate-requires c κs =
     let s = c .before .before .before .before .before .before .before .before .before .before .before .before .before .before .before in
     let l = c .before .before .before .before .loop in
-    (search needs, search needs, diagonal-small (s .args .m) (s .args .n) (s .pre .u-steps) (s .pre .v-steps) (s .args .a) (s .args .b) (l .sum) (c .diagonal-candidate .ensures))
+    (search needs, search needs, diagonal-storable (s .args .m) (s .args .n) (s .pre .0 .u-steps) (s .pre .0 .v-steps) (s .args .a) (s .args .b) (l .sum) (c .diagonal-candidate .ensures), l .inv .8)
 
 add-sum : tie.Need-add-sum Inv-loop μ-loop
 add-sum c = search needs
@@ -81,6 +83,7 @@ loop-again c =
       search needs,
       gather-turn (diagonalCandidate (s .args .m) (s .args .n) (s .args .a) (s .args .b)) (c .before .before .before .before .before .before .before .before .before .before .past-sum .result) (l .sum) (eventsIn (l .lambdas) (l .codes) (l .total)) (l .inv .7) (c .before .before .before .before .before .before .before .before .loop-test .taken)
           (c .before .before .before .before .before .diagonal-candidate .ensures) (c .before .before .before .before .push-candidate .ensures .1),
+      c .before .before .before .before .push-candidate .ensures .2,
     )
 
 same-length : tie.Need-same-length Inv-loop μ-loop

@@ -2,7 +2,9 @@
 use Prim.Native.Nat.{_≤_, _+_}
 use native.Mathlib.Omega.{arith}
 use Rattle.float.specs.Consts.{zero64, one64}
-use Rattle.edges.proofs.Grid.{end-small}
+use Rattle.edges.proofs.Laws.{zero-on-step, one-on-step}
+use Rattle.edges.proofs.Order.{sorted-none}
+use Rattle.edges.proofs.Storable.{end-storable}
 use Rattle.edges.proofs.Gather.{ends-pushed}
 use borrow.Author.Needs.{needs}
 use Rattle.edges.proofs.sorted.push_ends.Statement.{statement}
@@ -23,12 +25,12 @@ end-candidate-requires-2 c κs = search needs
 push-candidate-requires : tie.Need-push-candidate-requires
 push-candidate-requires c κs =
     let s = c .before .before .before .before .before .before .before .before in
-    (search needs, search needs, end-small (s .args .m) (s .args .n) (s .pre .u-steps) (s .pre .v-steps) zero64 (s .args .a) (c .before .before .before .before .before .edge-at-point .ensures) (c .before .before .before .before .end-candidate .ensures))
+    (search needs, search needs, end-storable (s .args .m) (s .args .n) (s .pre .u-steps) (s .pre .v-steps) zero64 (s .args .a) zero-on-step (c .before .before .before .before .before .edge-at-point .ensures) (c .before .before .before .before .end-candidate .ensures), sorted-none)
 
 push-candidate-requires-2 : tie.Need-push-candidate-requires-2
 push-candidate-requires-2 c κs =
     let s = c .before .before .before .before .before .before .before .before .before .before .before .before .before .before .before in
-    (search needs, search needs, end-small (s .args .m) (s .args .n) (s .pre .u-steps) (s .pre .v-steps) one64 (s .args .b) (c .before .before .before .before .before .before .before .before .before .before .edge-at-point2 .ensures) (c .before .before .before .before .before .before .before .before .before .end-candidate2 .ensures))
+    (search needs, search needs, end-storable (s .args .m) (s .args .n) (s .pre .u-steps) (s .pre .v-steps) one64 (s .args .b) one-on-step (c .before .before .before .before .before .before .before .before .before .before .edge-at-point2 .ensures) (c .before .before .before .before .before .before .before .before .before .end-candidate2 .ensures), c .before .before .before .before .before .before .push-candidate .ensures .2)
 
 same-length : tie.Need-same-length
 same-length c = search needs
@@ -47,6 +49,7 @@ returns c =
       omega arith,
       ends-pushed (s .args .m) (s .args .n) (s .args .a) (s .args .b) (p .before .before .before .edge-at-point .ensures) (p .before .edge-at-point2 .ensures) (p .before .before .end-candidate .ensures) (p .end-candidate2 .ensures)
           (first .ensures .1) (second .ensures .1),
+      second .ensures .2,
     )
 
 pub push-ends-spec : {M : Type 1} → statement M

@@ -5,9 +5,9 @@ use lib.ListN.{length}
 use lib.Ieee.{binary64, lt, sub}
 use borrow.Author.Tests.{not-true, not-false}
 use Rattle.float.specs.Consts.{eps}
-use Rattle.edges.specs.Events.{change, lineCandidate, lines, sortInto, OnGrid}
-use Rattle.edges.specs.Scratch.{eventsIn}
-use Rattle.edges.proofs.Grid.{line-small}
+use Rattle.edges.specs.Events.{change, lineCandidate, lines, sortInto}
+use Rattle.edges.specs.Scratch.{eventsIn, Storable, Sorted}
+use Rattle.edges.proofs.Storable.{line-storable}
 use Rattle.edges.proofs.Gather.{if-event, push-yes, push-no, gathering, gather-turn, gather-ends, changes, lines-none, lines-start}
 use borrow.Author.Needs.{needs}
 use Rattle.edges.proofs.sorted.push_lines.Statement.{statement}
@@ -17,6 +17,7 @@ abbrev Inv-loop : tie.InvT-loop
 Inv-loop lambdas₀ codes₀ count axis along across a b total₀ step₀ step-end lambdas codes total step =
     (step ≤ step-end) × (total ≤ count + step) × (length lambdas ≡ 1023) × (length codes ≡ 1023)
     × (sortInto (lines axis along across a b) (eventsIn lambdas₀ codes₀ count) ≡ gathering (lineCandidate axis across a b) step-end step (eventsIn lambdas codes total))
+    × Sorted (eventsIn lambdas codes total)
 
 abbrev μ-loop : tie.MeasureT-loop
 μ-loop lambdas₀ codes₀ count axis along across a b total₀ step₀ step-end lambdas codes total step = step-end - step
@@ -38,7 +39,7 @@ returns : tie.Need-returns Inv-loop μ-loop
 unfolding eps
 returns c =
     let a = c .before .before .before .before .before .before .args in
-    (search needs, lines-none (a .axis) (a .along) (a .across) (a .a) (a .b) (eventsIn (a .lambdas .now) (a .codes .now) (a .count)) (changed (c .before)) (ap (lt eps) (sym (c .before .abs .ensures)) ∙ not-true _ (c .if1 .taken)))
+    (search needs, lines-none (a .axis) (a .along) (a .across) (a .a) (a .b) (eventsIn (a .lambdas .now) (a .codes .now) (a .count)) (changed (c .before)) (ap (lt eps) (sym (c .before .abs .ensures)) ∙ not-true _ (c .if1 .taken)), c .before .before .before .before .before .before .pre .1)
 
 add-step-end : tie.Need-add-step-end Inv-loop μ-loop
 add-step-end c = search needs
@@ -47,7 +48,7 @@ loop-holds : tie.Need-loop-holds Inv-loop μ-loop
 unfolding eps
 loop-holds c =
     let a = c .before .before .before .before .before .before .args in
-    (search needs, search needs, search needs, search needs, lines-start (a .axis) (a .along) (a .across) (a .a) (a .b) (eventsIn (a .lambdas .now) (a .codes .now) (a .count)) (changed (c .before)) (ap (lt eps) (sym (c .before .abs .ensures)) ∙ not-false _ (c .if1 .left)))
+    (search needs, search needs, search needs, search needs, lines-start (a .axis) (a .along) (a .across) (a .a) (a .b) (eventsIn (a .lambdas .now) (a .codes .now) (a .count)) (changed (c .before)) (ap (lt eps) (sym (c .before .abs .ensures)) ∙ not-false _ (c .if1 .left)), c .before .before .before .before .before .before .pre .1)
 
 line-candidate-requires : tie.Need-line-candidate-requires Inv-loop μ-loop
 line-candidate-requires c κs = search needs
@@ -75,6 +76,7 @@ loop-again c =
       search needs,
       gather-turn (lineCandidate (a .axis) (a .across) (a .a) (a .b)) (a .along + 1) (l .step) (eventsIn (l .lambdas) (l .codes) (l .total)) (l .inv .4) (t .loop-test .taken)
           (c .before .before .line-candidate .ensures) (push-no _ (c .enum-told .given .1)),
+      l .inv .5,
     )
 
 insert-event-requires : tie.Need-insert-event-requires Inv-loop μ-loop
@@ -84,8 +86,9 @@ insert-event-requires c κs =
     let s = c .before .before .before .before .before .before .before .before .before .before .before .before .before .before in (
       search needs,
       search needs,
-      if-event (OnGrid 255 255) (e .event .given .1)
-          (line-small (s .args .axis) (s .args .along) (s .args .across) (s .args .a) (s .args .b) (t .before .loop .step) (s .pre .u-steps) (t .loop-test .taken) (e .before .before .line-candidate .ensures)),
+      if-event Storable (e .event .given .1)
+          (line-storable (s .args .axis) (s .args .along) (s .args .across) (s .args .a) (s .args .b) (t .before .loop .step) (s .pre .0 .u-steps) (t .loop-test .taken) (e .before .before .line-candidate .ensures)),
+      t .before .loop .inv .5,
     )
 
 add-total : tie.Need-add-total Inv-loop μ-loop
@@ -108,7 +111,8 @@ loop-again-2 c =
       search needs,
       search needs,
       gather-turn (lineCandidate (a .axis) (a .across) (a .a) (a .b)) (a .along + 1) (l .step) (eventsIn (l .lambdas) (l .codes) (l .total)) (l .inv .4) (t .loop-test .taken)
-          (e .before .before .line-candidate .ensures) (push-yes _ (e .event .given .1) (c .before .before .before .before .insert-event .ensures)),
+          (e .before .before .line-candidate .ensures) (push-yes _ (e .event .given .1) (c .before .before .before .before .insert-event .ensures .0)),
+      c .before .before .before .before .insert-event .ensures .1,
     )
 
 same-length : tie.Need-same-length Inv-loop μ-loop
@@ -121,7 +125,7 @@ returns-2 : tie.Need-returns-2 Inv-loop μ-loop
 returns-2 c =
     let l = c .before .loop in
     let a = c .before .before .before .before .before .before .before .before .args in
-    (search needs, gather-ends (lineCandidate (a .axis) (a .across) (a .a) (a .b)) (a .along + 1) (l .step) (eventsIn (l .lambdas) (l .codes) (l .total)) (l .inv .4) (c .loop-test .left))
+    (search needs, gather-ends (lineCandidate (a .axis) (a .across) (a .a) (a .b)) (a .along + 1) (l .step) (eventsIn (l .lambdas) (l .codes) (l .total)) (l .inv .4) (c .loop-test .left), l .inv .5)
 
 pub push-lines-spec : {M : Type 1} → statement M
 push-lines-spec =
