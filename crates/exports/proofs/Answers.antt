@@ -7,7 +7,7 @@ use Rattle.path.specs.declared.GridPathsAnswer.{GridPathsAnswer}
 use Rattle.path.specs.GridPaths.{GridPaths, statedPaths, Leaves as PathLeaves}
 use Rattle.mesh.specs.declared.Triangulation.{Triangulation}
 use Rattle.mesh.specs.Mesh.{Handed, statedTriangulation, Hands as MeshHands}
-use Rattle.trace.specs.declared.page.Trace.{Trace}
+use Rattle.trace.specs.declared.flat.Trace.{Trace}
 use Rattle.trace.specs.Trace.{Traced, statedTrace, Traces}
 use Rattle.exports.specs.declared.lines.PathsAnswer.{PathsAnswer}
 use Rattle.exports.specs.declared.meshes.MeshAnswer.{MeshAnswer}
