@@ -71,7 +71,8 @@ fn try_cell(point: ParamPoint, i: CellIndex, j: CellIndex) -> DiagonalCell
     }
 }
 
-// Whether x is in the cells of an index, on one axis: no other of them is worth a try.
+// Whether x is in the cells of an index on its axis, within EPS. Of a point that is not, none of
+// them need be tried.
 fn is_in_cell(x: f64, index: CellIndex) -> bool
     ensures { λ r. ⌜ r ≡ inCell x index ⌝ }
 {

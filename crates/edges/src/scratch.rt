@@ -63,7 +63,7 @@ fn precedes(x: f64, y: f64) -> bool
     }
 }
 
-// Where `lambda` goes among `count` lambdas. Most go to the end, since the lines of an axis and the
+// Where `lambda` goes among `count` lambdas. Many go to the end, since the lines of an axis and the
 // diagonals come in order; for the others what is left to search is halved.
 fn place_of(lambdas: &[f64], count: usize, lambda: f64) -> usize
     requires { ⌜ count ≤ length (now lambdas) ⌝ }
@@ -88,8 +88,8 @@ fn place_of(lambdas: &[f64], count: usize, lambda: f64) -> usize
     low
 }
 
-// Puts a lambda at a place among `count`. Each list is moved up by a loop of its own, which copies
-// whole runs at once.
+// Puts a lambda at a place among `count`, and moves up what stands there and after. Each list has a
+// loop of its own, from its end, so that several numbers are moved at once.
 fn insert_lambda(lambdas: &mut [f64], count: usize, place: usize, lambda: f64)
     requires { ⌜ (place ≤ count) × (count < length (now lambdas)) ⌝ }
     ensures { λ _. ⌜ take (count + 1) (now (lambdas .exit)) ≡ putAt place lambda (take count (now (lambdas .entry))) ⌝ }
