@@ -1,6 +1,6 @@
 -- `stepIndex` by the tests of the code, and the law for its callers: the cell is one of the steps. Assumes nothing.
 use mathlib.Core.Path.{_≡_, refl, subst}
-use mathlib.Core.Bool.{Bool, true, false, _||_}
+use mathlib.Core.Bool.{Bool, true, false, _||_, cond}
 use Prim.Native.Nat.{ℕ, zero, suc, _-_, _^_, _≤_, _<_}
 use native.Mathlib.Nat.{zero-lt-suc}
 use native.Mathlib.Omega.{arith}
@@ -18,7 +18,6 @@ use Rattle.float.specs.Order.{clamped}
 use Rattle.float.specs.Whole.{floorZ}
 use Rattle.float.specs.Cast.{natFloat, count}
 use Rattle.float.proofs.Bounds.{floor-count, floor-nonneg, clamped-nonneg, abs-count}
-use Rattle.edges.specs.Param.{pick}
 use Rattle.crossing.specs.declared.StepIndex.{StepIndex}
 use Rattle.crossing.specs.declared.StepIndex.the-variants.{At, Nothing}
 use Rattle.crossing.specs.Crossing.{closeTo, cellOf, offAxis, inCell, stepIndex}
@@ -85,7 +84,7 @@ cell-below : (x : Float) (n : ℕ) → 0 < n → n ≤ 2 ^ 53 → cellOf (clampe
 unfolding cellOf closeTo
 cell-below x n N h = go (closeTo (clamped x zero64 (natFloat n)) n) refl
   where
-    go : (t : Bool) → closeTo (clamped x zero64 (natFloat n)) n ≡ t → pick t (n - 1) (count (floorZ (clamped x zero64 (natFloat n)))) < n
+    go : (t : Bool) → closeTo (clamped x zero64 (natFloat n)) n ≡ t → cond t (n - 1) (count (floorZ (clamped x zero64 (natFloat n)))) < n
     go true p = one-less n N
     go false p = floor-count x n N h p
 
@@ -101,7 +100,7 @@ step-below x n h = go (eqb n 0) (lt x (neg eps) || lt (add binary64 (natFloat n)
     some zero f = absurd (f refl)
     some (suc k) f = zero-lt-suc k
 
-    go : (b t : Bool) → eqb n 0 ≡ b → Below (pick (b || t) Nothing (At (cellOf (clamped x zero64 (natFloat n)) n) (sub binary64 (clamped x zero64 (natFloat n)) (natFloat (cellOf (clamped x zero64 (natFloat n)) n))))) n
+    go : (b t : Bool) → eqb n 0 ≡ b → Below (cond (b || t) Nothing (At (cellOf (clamped x zero64 (natFloat n)) n) (sub binary64 (clamped x zero64 (natFloat n)) (natFloat (cellOf (clamped x zero64 (natFloat n)) n))))) n
     go true t p = tt
     go false true p = tt
     go false false p = cell-below x n (some n (eqb-false n 0 p)) h

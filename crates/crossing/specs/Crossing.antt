@@ -1,7 +1,7 @@
 -- "Each point is (1 − t) times p plus t times q. U(u) takes p, q at (u,v), (u,v+1); V(v) at (u,v), (u+1,v); the missing index and t come from `step_index`.
 -- Diagonal takes p at (u+1,v), q at (u,v+1)." References: `step_index`, `edge_point`. Assumes nothing.
 use mathlib.Core.Path.{_≡_}
-use mathlib.Core.Bool.{Bool, _||_}
+use mathlib.Core.Bool.{Bool, _||_, cond}
 use mathlib.Core.List.{List}
 use Prim.Native.Nat.{ℕ, _+_, _-_, _*_, _≤_}
 use lib.Dec.{eqb}
@@ -15,7 +15,6 @@ use Rattle.float.specs.Cast.{natFloat, count}
 use Rattle.vector.specs.declared.Vector.{Vector}
 use Rattle.vector.specs.Vectors.{plus, scaled}
 use Rattle.grid.specs.Grid.{pointNumber, pointAt}
-use Rattle.edges.specs.Param.{pick}
 use Rattle.edges.specs.declared.point.ParamPoint.{ParamPoint}
 use Rattle.edges.specs.declared.event.ParamEdge.{ParamEdge}
 use Rattle.edges.specs.declared.event.ParamEdge.the-variants.{U, «V», Diagonal}
@@ -33,7 +32,7 @@ closeTo x n = lt (absolute (sub binary64 x (natFloat n))) eps
 
 -- the cell of a value from 0 to steps: the last one where it is close to the border
 unfoldable pub cellOf : Float → ℕ → ℕ
-cellOf x steps = pick (closeTo x steps) (steps - 1) (count (floorZ x))
+cellOf x steps = cond (closeTo x steps) (steps - 1) (count (floorZ x))
 
 -- no answer: no steps, or more than EPS outside 0 to steps
 unfoldable pub offAxis : Float → ℕ → Bool
@@ -45,7 +44,7 @@ inCell x steps = At (cellOf x steps) (sub binary64 x (natFloat (cellOf x steps))
 
 -- `step_index`: the value is brought between 0 and steps first
 unfoldable pub stepIndex : Float → ℕ → StepIndex
-stepIndex x steps = pick (offAxis x steps) Nothing (inCell (clamped x zero64 (natFloat steps)) steps)
+stepIndex x steps = cond (offAxis x steps) Nothing (inCell (clamped x zero64 (natFloat steps)) steps)
 
 -- ---- edge_point
 

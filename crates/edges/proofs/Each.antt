@@ -1,6 +1,6 @@
 -- What holds of every candidate holds of every event: sorting and dropping keep to the candidates. Assumes nothing.
 use mathlib.Core.Path.{_≡_, refl}
-use mathlib.Core.Bool.{Bool, true, false}
+use mathlib.Core.Bool.{Bool, true, false, cond}
 use mathlib.Core.List.{List, [], _∷_, _++_}
 use Prim.Native.Nat.{ℕ, zero, suc, _+_, _-_, _≤_, _<_, min, max}
 use native.Mathlib.Nat.{le-trans}
@@ -17,7 +17,6 @@ use Rattle.edges.specs.declared.point.Axis.the-variants.{AxisU, AxisV}
 use Rattle.edges.specs.declared.event.EdgeEvent.{EdgeEvent}
 use Rattle.edges.specs.declared.event.Candidate.{Candidate}
 use Rattle.edges.specs.declared.event.Candidate.the-variants.{Event, NoEvent}
-use Rattle.edges.specs.Param.{pick}
 use Rattle.edges.specs.Events.{edgeAtPoint, endCandidate, change, lineCandidate, changeOfSum, diagonalCandidate, moves, listed, listFrom, lowSum, highSum, firstSum, pastSum, ends, lines, diagonals, candidates, precedes, insert, sortInto, closeBy, uniqueAfter, unique, sortedEdgeEvents, IfEvent, Each}
 
 module _ (P : EdgeEvent → Type 0) where
@@ -34,7 +33,7 @@ module _ (P : EdgeEvent → Type 0) where
   each-from f zero i end h p = tt
   each-from f (suc k) i end h p = each-listed (f i) (listFrom f k (i + 1)) (p i (omega arith)) (each-from f k (i + 1) end (omega arith) p)
 
-  each-if : (b : Bool) (es : List EdgeEvent) → Each P es → Each P (pick b es [])
+  each-if : (b : Bool) (es : List EdgeEvent) → Each P es → Each P (cond b es [])
   each-if true es h = h
   each-if false es h = tt
 
@@ -48,7 +47,7 @@ module _ (P : EdgeEvent → Type 0) where
   each-insert e [] h k = (h, tt)
   each-insert e (x ∷ xs) h k = go (precedes (totalOrder (e .lambda) (x .lambda))) (each-insert e xs h (k .1))
     where
-      go : (b : Bool) → Each P (insert e xs) → Each P (pick b (e ∷ (x ∷ xs)) (x ∷ insert e xs))
+      go : (b : Bool) → Each P (insert e xs) → Each P (cond b (e ∷ (x ∷ xs)) (x ∷ insert e xs))
       go true t = (h, k)
       go false t = (k .0, t)
 
@@ -62,7 +61,7 @@ module _ (P : EdgeEvent → Type 0) where
   each-after kept [] h = tt
   each-after kept (e ∷ es) h = go (closeBy kept (e .lambda)) (each-after kept es (h .1)) (each-after (e .lambda) es (h .1))
     where
-      go : (b : Bool) → Each P (uniqueAfter kept es) → Each P (uniqueAfter (e .lambda) es) → Each P (pick b (uniqueAfter kept es) (e ∷ uniqueAfter (e .lambda) es))
+      go : (b : Bool) → Each P (uniqueAfter kept es) → Each P (uniqueAfter (e .lambda) es) → Each P (cond b (uniqueAfter kept es) (e ∷ uniqueAfter (e .lambda) es))
       go true p q = p
       go false p q = (h .0, q)
 
@@ -111,7 +110,7 @@ unfolding listFrom
 length-from f zero i = omega arith
 length-from f (suc k) i = omega (arith, length-listed (f i) (listFrom f k (i + 1)), length-from f k (i + 1))
 
-length-if : (b : Bool) (es : List EdgeEvent) → length (pick b es []) ≤ length es
+length-if : (b : Bool) (es : List EdgeEvent) → length (cond b es []) ≤ length es
 length-if true es = omega arith
 length-if false es = omega arith
 
@@ -120,7 +119,7 @@ unfolding insert
 length-insert e [] = refl
 length-insert e (x ∷ xs) = go (precedes (totalOrder (e .lambda) (x .lambda))) (length-insert e xs)
   where
-    go : (b : Bool) → length (insert e xs) ≡ length xs + 1 → length (pick b (e ∷ (x ∷ xs)) (x ∷ insert e xs)) ≡ suc (length xs) + 1
+    go : (b : Bool) → length (insert e xs) ≡ length xs + 1 → length (cond b (e ∷ (x ∷ xs)) (x ∷ insert e xs)) ≡ suc (length xs) + 1
     go true t = omega arith
     go false t = omega arith
 
@@ -135,7 +134,7 @@ length-after kept [] = omega arith
 length-after kept (e ∷ es) = go (closeBy kept (e .lambda)) (length-after kept es) (length-after (e .lambda) es)
   where
     go : (b : Bool) → length (uniqueAfter kept es) ≤ length es → length (uniqueAfter (e .lambda) es) ≤ length es →
-        length (pick b (uniqueAfter kept es) (e ∷ uniqueAfter (e .lambda) es)) ≤ suc (length es)
+        length (cond b (uniqueAfter kept es) (e ∷ uniqueAfter (e .lambda) es)) ≤ suc (length es)
     go true p q = omega arith
     go false p q = omega arith
 

@@ -1,5 +1,5 @@
 -- Every candidate is on the grid: a whole step is at most the last, a diagonal's cell is in the grid, and lines are tried up to the last. Assumes nothing.
-use mathlib.Core.Bool.{Bool, true, false}
+use mathlib.Core.Bool.{Bool, true, false, cond}
 use Prim.Native.Nat.{ℕ, _^_, _≤_}
 use lib.Ieee.{Float}
 use Rattle.float.specs.Cast.{natFloat}
@@ -15,7 +15,7 @@ use Rattle.edges.specs.declared.event.EdgeAtPoint.the-variants.{Edge, No
 use Rattle.edges.specs.declared.event.NormalizedLambda.{NormalizedLambda}
 use Rattle.edges.specs.declared.event.NormalizedLambda.the-variants.{Lambda, Outside}
 use Rattle.edges.specs.declared.event.Candidate.the-variants.{Event, NoEvent}
-use Rattle.edges.specs.Param.{pick, lerp, across, within, paramInBounds, integerStep}
+use Rattle.edges.specs.Param.{lerp, across, within, paramInBounds, integerStep}
 use Rattle.edges.specs.Cell.{diagonalCellAt}
 use Rattle.edges.specs.Events.{event, diagonalAt, orV, orU, edgeAtPoint, endCandidate, onLine, lineAt, lineCrossing, diagonalEvent, diagonalCrossing, Inside, IfEvent, OnGrid}
 use Rattle.edges.proofs.Steps.{StepWithin, step-within}
@@ -45,7 +45,7 @@ edge-inside m n p hm hn = go (paramInBounds m n p)
     here : EdgeAtPoint
     here = orU (integerStep (p .u) m) (orV (integerStep (p .v) n) (diagonalAt (diagonalCellAt m n p)))
 
-    go : (b : Bool) → EdgeInside m n (pick b here NoEdge)
+    go : (b : Bool) → EdgeInside m n (cond b here NoEdge)
     go true =
         or-u m n (integerStep (p .u) m) (orV (integerStep (p .v) n) (diagonalAt (diagonalCellAt m n p))) (step-within (p .u) m hm)
         (or-v m n (integerStep (p .v) n) (diagonalAt (diagonalCellAt m n p)) (step-within (p .v) n hn) (diagonal-at m n (diagonalCellAt m n p) (diagonal-inside m n p)))
@@ -62,7 +62,7 @@ end-on-grid m n l p hm hn = go (edgeAtPoint m n p) (edge-inside m n p hm hn)
 pub on-line : (P : EdgeEvent → Type 0) (x : Float) (steps : ℕ) (e : EdgeEvent) → P e → IfEvent P (onLine x steps e)
 on-line P x steps e h = go (within x (natFloat steps))
   where
-    go : (b : Bool) → IfEvent P (pick b (Event e) NoEvent)
+    go : (b : Bool) → IfEvent P (cond b (Event e) NoEvent)
     go true = h
     go false = tt
 
@@ -80,6 +80,6 @@ diagonal-on-grid m n a b (Lambda l) = go (paramInBounds m n (lerp a b l))
     at (Cell u v) h = h
     at NoCell h = tt
 
-    go : (t : Bool) → IfEvent (OnGrid m n) (pick t (diagonalEvent l (diagonalCellAt m n (lerp a b l))) NoEvent)
+    go : (t : Bool) → IfEvent (OnGrid m n) (cond t (diagonalEvent l (diagonalCellAt m n (lerp a b l))) NoEvent)
     go true = at (diagonalCellAt m n (lerp a b l)) (diagonal-inside m n (lerp a b l))
     go false = tt

@@ -3,7 +3,7 @@ use mathlib.Core.Path.{_≡_, refl, sym, _∙_, subst}
 use Prim.Native.Nat.{ℕ, zero, suc, _≤_, _<_}
 use native.Mathlib.Nat.{lt-of-le-of-lt, le-suc}
 use native.Mathlib.Omega.{arith}
-use mathlib.Core.Bool.{Bool, true, false, _&&_, true≢false}
+use mathlib.Core.Bool.{Bool, true, false, _&&_, true≢false, cond}
 use lib.IntN.{ℤ, pos, negsuc, natAbs, predℤ, _-ℤ_, -ℤ-one}
 use lib.Signed.{nonNeg, leZ}
 use lib.Dec.{T, ltb, leb}
@@ -19,7 +19,7 @@ use Rattle.edges.specs.declared.cell.CellIndex.{CellIndex}
 use Rattle.edges.specs.declared.cell.CellIndex.the-variants.{Index, Outside}
 use Rattle.edges.specs.declared.cell.DiagonalCell.{DiagonalCell}
 use Rattle.edges.specs.declared.cell.DiagonalCell.the-variants.{Cell, NoCell}
-use Rattle.edges.specs.Param.{pick, within}
+use Rattle.edges.specs.Param.{within}
 use Rattle.edges.specs.Cell.{indexOf, onDiagonal, tryCell, inCell, orCell, diagonalCellAt}
 
 -- ---- the cast
@@ -112,7 +112,7 @@ not-in-v p Outside j h = refl
 not-in-v p (Index u) Outside h = refl
 not-in-v p (Index u) (Index v) h = rw h (go (within (sub binary64 (p .u) (natFloat u)) one64))
   where
-    go : (s : Bool) → pick (s && false) (Cell u v) NoCell ≡ NoCell
+    go : (s : Bool) → cond (s && false) (Cell u v) NoCell ≡ NoCell
     go true = refl
     go false = refl
 
@@ -150,7 +150,7 @@ index-below : (z : ℤ) (n : ℕ) → IndexBelow n (indexOf z n)
 unfolding indexOf
 index-below (pos k) n = go (ltb k n) refl
   where
-    go : (t : Bool) → ltb k n ≡ t → IndexBelow n (pick t (Index k) Outside)
+    go : (t : Bool) → ltb k n ≡ t → IndexBelow n (cond t (Index k) Outside)
     go true p = ltb-true k n p
     go false p = tt
 index-below (negsuc k) n = tt
@@ -161,7 +161,7 @@ try-inside p Outside j m n h k = tt
 try-inside p (Index u) Outside m n h k = tt
 try-inside p (Index u) (Index v) m n h k = go (onDiagonal p u v)
   where
-    go : (t : Bool) → CellInside m n (pick t (Cell u v) NoCell)
+    go : (t : Bool) → CellInside m n (cond t (Cell u v) NoCell)
     go true = (h, k)
     go false = tt
 

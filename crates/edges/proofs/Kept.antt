@@ -1,6 +1,6 @@
 -- Dropping close events in place: what is kept so far, and the events that are left, make the answer. A store below the place that is read does not touch what is left. Assumes nothing.
 use mathlib.Core.Path.{_≡_, refl, ap, sym, _∙_}
-use mathlib.Core.Bool.{Bool, true, false}
+use mathlib.Core.Bool.{Bool, true, false, cond}
 use mathlib.Core.List.{List, [], _∷_, _++_, append-assoc, append-nil}
 use Prim.Native.Nat.{ℕ, zero, suc, _+_, _<_, _≤_}
 use native.Mathlib.Omega.{arith}
@@ -9,7 +9,6 @@ use lib.ListN.{length, take, drop, getD, set, drop-of-length-le}
 use lib.Seq.{drop-cons, take-suc-set, take-set-lt, drop-set-lt}
 use lib.Ieee.{Float, nan}
 use Rattle.edges.specs.declared.event.EdgeEvent.{EdgeEvent}
-use Rattle.edges.specs.Param.{pick}
 use Rattle.edges.specs.Events.{closeBy, uniqueAfter, unique}
 use Rattle.edges.specs.Scratch.{eventOf, held, eventsIn}
 use Rattle.edges.proofs.Places.{held-length, held-set, event-in, events-length}
@@ -42,7 +41,7 @@ module _ (ls : List Float) (cs : List ℕ) (count kept : ℕ) (last : Float) (i 
   here = eventOf (getD ls i nan) (getD cs i 0)
 
   left : i < count → {b : Bool} → closeBy last (getD ls i nan) ≡ b →
-      uniqueAfter last (drop i (eventsIn ls cs count)) ≡ pick b (uniqueAfter last (drop (i + 1) (eventsIn ls cs count))) (here ∷ uniqueAfter (getD ls i nan) (drop (i + 1) (eventsIn ls cs count)))
+      uniqueAfter last (drop i (eventsIn ls cs count)) ≡ cond b (uniqueAfter last (drop (i + 1) (eventsIn ls cs count))) (here ∷ uniqueAfter (getD ls i nan) (drop (i + 1) (eventsIn ls cs count)))
   unfolding uniqueAfter
   left k t = ap (uniqueAfter last) (next-event ls cs count i e h k) ∙ rw t refl
 

@@ -1,6 +1,6 @@
 -- What holds of the events of every step: each is on a side of the grid, lambdas are from 0 to 1 and ascend in the total order, neighbours are at least EPS apart, and there are at most 1,023. Assumes nothing.
 use mathlib.Core.Path.{_≡_, refl, sym, ap, subst⁻¹}
-use mathlib.Core.Bool.{Bool, true, false, _&&_, true≢false}
+use mathlib.Core.Bool.{Bool, true, false, _&&_, true≢false, cond}
 use mathlib.Core.List.{List, [], _∷_}
 use Prim.Native.Nat.{ℕ, _+_, _-_, _^_, _≤_, _<_}
 use native.Mathlib.Nat.{le-trans}
@@ -24,7 +24,7 @@ use Rattle.edges.specs.declared.event.EdgeAtPoint.the-variants.{Edge, No
 use Rattle.edges.specs.declared.event.NormalizedLambda.{NormalizedLambda}
 use Rattle.edges.specs.declared.event.NormalizedLambda.the-variants.{Lambda, Outside}
 use Rattle.edges.specs.declared.event.Candidate.the-variants.{NoEvent}
-use Rattle.edges.specs.Param.{pick, lerp, across, within, paramInBounds, normalizeLambda}
+use Rattle.edges.specs.Param.{lerp, across, within, paramInBounds, normalizeLambda}
 use Rattle.edges.specs.Cell.{diagonalCellAt}
 use Rattle.edges.specs.Events.{event, edgeAtPoint, endCandidate, lambdaAt, lineAt, lineCrossing, change, diagonalEvent, diagonalCrossing, sumOf, changeOfSum, candidates, precedes, sortInto, closeBy, uniqueAfter, unique, sortedEdgeEvents, Inside, IfEvent, Each, OnGrid}
 use Rattle.edges.specs.Scratch.{edgeOf, eventOf, eventsIn, AscendFrom, Ascend}
@@ -66,7 +66,7 @@ pub normalized : (l : Float) → LambdaOnStep (normalizeLambda l)
 unfolding normalizeLambda
 normalized l = go (within l one64) refl
   where
-    go : (t : Bool) → within l one64 ≡ t → LambdaOnStep (pick t (Lambda (clamped l zero64 one64)) Outside)
+    go : (t : Bool) → within l one64 ≡ t → LambdaOnStep (cond t (Lambda (clamped l zero64 one64)) Outside)
     go true p =
         let n : isNan l ≡ false = within-not-nan l one64 p in
         (clamp-above l zero64 one64 n zero-le-one, clamp-below l zero64 one64 n zero-le-one)
@@ -95,7 +95,7 @@ module _ (m n : ℕ) (a b : ParamPoint) where
   diagonal-on-step Outside h = tt
   diagonal-on-step (Lambda l) h = go (paramInBounds m n (lerp a b l)) (diagonalCellAt m n (lerp a b l))
     where
-      go : (t : Bool) (c : DiagonalCell) → IfEvent OnStep (pick t (diagonalEvent l c) NoEvent)
+      go : (t : Bool) (c : DiagonalCell) → IfEvent OnStep (cond t (diagonalEvent l c) NoEvent)
       go true (Cell u v) = h
       go true NoCell = tt
       go false c = tt
@@ -143,7 +143,7 @@ kept-after kept x (e ∷ es) l m n h k =
 
     go : AscendFrom kept (uniqueAfter kept es) × ApartFrom kept (uniqueAfter kept es) → AscendFrom (e .lambda) (uniqueAfter (e .lambda) es) × ApartFrom (e .lambda) (uniqueAfter (e .lambda) es) →
         (t : Bool) → closeBy kept (e .lambda) ≡ t →
-        AscendFrom kept (pick t (uniqueAfter kept es) (e ∷ uniqueAfter (e .lambda) es)) × ApartFrom kept (pick t (uniqueAfter kept es) (e ∷ uniqueAfter (e .lambda) es))
+        AscendFrom kept (cond t (uniqueAfter kept es) (e ∷ uniqueAfter (e .lambda) es)) × ApartFrom kept (cond t (uniqueAfter kept es) (e ∷ uniqueAfter (e .lambda) es))
     go dropped next true p = dropped
     go dropped next false p = ((later, next .0), (p, next .1))
 

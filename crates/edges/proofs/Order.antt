@@ -1,6 +1,6 @@
 -- Events in order: an insertion keeps them so, and an event goes to the place that is after what it does not precede and before what it precedes. Assumes nothing.
 use mathlib.Core.Path.{_≡_, refl, sym, ap, _∙_, subst, subst⁻¹}
-use mathlib.Core.Bool.{Bool, true, false, true≢false}
+use mathlib.Core.Bool.{Bool, true, false, true≢false, cond}
 use mathlib.Core.List.{List, [], _∷_}
 use Prim.Native.Nat.{ℕ, zero, suc, _+_, _≤_, _<_}
 use native.Mathlib.Omega.{arith}
@@ -11,7 +11,6 @@ use Rattle.float.specs.declared.order.Ordering.{Ordering}
 use Rattle.float.specs.declared.order.Ordering.the-variants.{Less, Equal, Greater}
 use Rattle.float.proofs.Orders.{less-greater, not-less-transitive}
 use Rattle.edges.specs.declared.event.EdgeEvent.{EdgeEvent}
-use Rattle.edges.specs.Param.{pick}
 use Rattle.edges.specs.Events.{precedes, insert, sortInto, Each}
 use Rattle.edges.specs.Scratch.{eventOf, eventsIn, putAt, PlaceOf, AscendFrom, Ascend, Storable, Sorted}
 use Rattle.edges.proofs.Places.{event-in, events-length}
@@ -39,7 +38,7 @@ insert-from e x [] h k = (h, tt)
 insert-from e x (y ∷ ys) h k = go (λ p. insert-from e (y .lambda) ys p (k .1)) (precedes (totalOrder (e .lambda) (y .lambda))) refl
   where
     go : (precedes (totalOrder (e .lambda) (y .lambda)) ≡ false → AscendFrom (y .lambda) (insert e ys)) →
-        (t : Bool) → precedes (totalOrder (e .lambda) (y .lambda)) ≡ t → AscendFrom x (pick t (e ∷ (y ∷ ys)) (y ∷ insert e ys))
+        (t : Bool) → precedes (totalOrder (e .lambda) (y .lambda)) ≡ t → AscendFrom x (cond t (e ∷ (y ∷ ys)) (y ∷ insert e ys))
     go f true p = (h, (precedes-once (e .lambda) (y .lambda) p, k .1))
     go f false p = (k .0, f p)
 
@@ -48,7 +47,7 @@ unfolding insert
 insert-ascends e [] h = tt
 insert-ascends e (y ∷ ys) h = go (precedes (totalOrder (e .lambda) (y .lambda))) refl
   where
-    go : (t : Bool) → precedes (totalOrder (e .lambda) (y .lambda)) ≡ t → Ascend (pick t (e ∷ (y ∷ ys)) (y ∷ insert e ys))
+    go : (t : Bool) → precedes (totalOrder (e .lambda) (y .lambda)) ≡ t → Ascend (cond t (e ∷ (y ∷ ys)) (y ∷ insert e ys))
     go true p = (precedes-once (e .lambda) (y .lambda) p, h)
     go false p = insert-from e (y .lambda) ys p h
 

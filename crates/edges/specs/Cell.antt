@@ -1,5 +1,5 @@
 -- The cell on whose diagonal a point lies (reference: `diagonal_cell_at`). "Floors give signed whole numbers: −0.25 gives −1." Assumes nothing.
-use mathlib.Core.Bool.{Bool, false, _&&_}
+use mathlib.Core.Bool.{Bool, false, _&&_, cond}
 use Prim.Native.Nat.{ℕ}
 use lib.IntN.{ℤ, pos, negsuc, _-ℤ_}
 use lib.Dec.{ltb}
@@ -13,11 +13,11 @@ use Rattle.edges.specs.declared.cell.CellIndex.{CellIndex}
 use Rattle.edges.specs.declared.cell.CellIndex.the-variants.{Index, Outside}
 use Rattle.edges.specs.declared.cell.DiagonalCell.{DiagonalCell}
 use Rattle.edges.specs.declared.cell.DiagonalCell.the-variants.{Cell, NoCell}
-use Rattle.edges.specs.Param.{pick, within}
+use Rattle.edges.specs.Param.{within}
 
 -- z where it is from 0 to n − 1
 unfoldable pub indexOf : ℤ → ℕ → CellIndex
-indexOf (pos k) n = pick (ltb k n) (Index k) Outside
+indexOf (pos k) n = cond (ltb k n) (Index k) Outside
 indexOf (negsuc k) n = Outside
 
 -- the point is in the cell (u, v), and on its diagonal: its two distances from the cell's corner add up to 1
@@ -31,7 +31,7 @@ onDiagonal p u v =
 unfoldable pub tryCell : ParamPoint → CellIndex → CellIndex → DiagonalCell
 tryCell p Outside j = NoCell
 tryCell p (Index u) Outside = NoCell
-tryCell p (Index u) (Index v) = pick (onDiagonal p u v) (Cell u v) NoCell
+tryCell p (Index u) (Index v) = cond (onDiagonal p u v) (Cell u v) NoCell
 
 -- x is in the cells of an index on one axis; where a point is not, on either axis, it is on no diagonal there
 unfoldable pub inCell : Float → CellIndex → Bool

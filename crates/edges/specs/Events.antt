@@ -1,6 +1,6 @@
 -- Events (01, "An event is a lambda and the side it falls on: U(u), V(v) or Diagonal(u,v)"). `sorted_edge_events` "fixes the candidates and their order: end
 -- events first, then U, V, diagonals; a stable sort by IEEE 754 totalOrder, so −0 precedes +0; an event closer than EPS to the last one kept is dropped". Assumes nothing.
-use mathlib.Core.Bool.{Bool, true, false}
+use mathlib.Core.Bool.{Bool, true, false, cond}
 use mathlib.Core.List.{List, [], _∷_, _++_}
 use Prim.Native.Nat.{ℕ, zero, suc, _+_, _-_, _≤_, _<_, min, max}
 use lib.Ieee.{Float, binary64, lt, add, sub, div}
@@ -27,7 +27,7 @@ use Rattle.edges.specs.declared.event.NormalizedLambda.{NormalizedLambda
 use Rattle.edges.specs.declared.event.NormalizedLambda.the-variants.{Lambda, Outside}
 use Rattle.edges.specs.declared.event.Candidate.{Candidate}
 use Rattle.edges.specs.declared.event.Candidate.the-variants.{Event, NoEvent}
-use Rattle.edges.specs.Param.{pick, lerp, along, across, within, paramInBounds, integerStep, normalizeLambda}
+use Rattle.edges.specs.Param.{lerp, along, across, within, paramInBounds, integerStep, normalizeLambda}
 use Rattle.edges.specs.Cell.{diagonalCellAt}
 
 abbrev pub event : Float → ParamEdge → EdgeEvent
@@ -49,7 +49,7 @@ orU Between e = e
 
 unfoldable pub edgeAtPoint : ℕ → ℕ → ParamPoint → EdgeAtPoint
 edgeAtPoint m n p =
-    pick (paramInBounds m n p)
+    cond (paramInBounds m n p)
     (orU (integerStep (p .u) m) (orV (integerStep (p .v) n) (diagonalAt (diagonalCellAt m n p))))
     NoEdge
 
@@ -65,7 +65,7 @@ lambdaAt step x dx = normalizeLambda (div binary64 (sub binary64 (natFloat step)
 
 -- an event on a line of so many steps, where it is within EPS of the line
 abbrev pub onLine : Float → ℕ → EdgeEvent → Candidate
-onLine x steps e = pick (within x (natFloat steps)) (Event e) NoEvent
+onLine x steps e = cond (within x (natFloat steps)) (Event e) NoEvent
 
 -- the line at a step of an axis
 abbrev pub lineAt : Axis → ℕ → ParamEdge
@@ -85,7 +85,7 @@ diagonalEvent l NoCell = NoEvent
 unfoldable pub diagonalCrossing : ℕ → ℕ → ParamPoint → ParamPoint → NormalizedLambda → Candidate
 diagonalCrossing m n a b Outside = NoEvent
 diagonalCrossing m n a b (Lambda l) =
-    pick (paramInBounds m n (lerp a b l)) (diagonalEvent l (diagonalCellAt m n (lerp a b l))) NoEvent
+    cond (paramInBounds m n (lerp a b l)) (diagonalEvent l (diagonalCellAt m n (lerp a b l))) NoEvent
 
 -- by how much an axis changes along the step
 abbrev pub change : Axis → ParamPoint → ParamPoint → Float
@@ -121,10 +121,10 @@ listFrom f (suc k) i = listed (f i) (listFrom f k (i + 1))
 
 -- the smaller and the larger of two sums
 abbrev pub lowSum : ParamPoint → ParamPoint → Float
-lowSum a b = pick (lt (sumOf b) (sumOf a)) (sumOf b) (sumOf a)
+lowSum a b = cond (lt (sumOf b) (sumOf a)) (sumOf b) (sumOf a)
 
 abbrev pub highSum : ParamPoint → ParamPoint → Float
-highSum a b = pick (lt (sumOf a) (sumOf b)) (sumOf b) (sumOf a)
+highSum a b = cond (lt (sumOf a) (sumOf b)) (sumOf b) (sumOf a)
 
 -- whole sums from the ceiling of the smaller to the floor of the larger; those outside 1 to M+N−1 are skipped
 abbrev pub firstSum : ParamPoint → ParamPoint → ℕ
@@ -138,11 +138,11 @@ ends m n a b = listed (endCandidate zero64 (edgeAtPoint m n a)) (listed (endCand
 
 -- the lines of an axis of m steps, the other having n
 unfoldable pub lines : Axis → ℕ → ℕ → ParamPoint → ParamPoint → List EdgeEvent
-lines x m n a b = pick (moves (change x a b)) (listFrom (lineCandidate x n a b) (m + 1) 0) []
+lines x m n a b = cond (moves (change x a b)) (listFrom (lineCandidate x n a b) (m + 1) 0) []
 
 unfoldable pub diagonals : ℕ → ℕ → ParamPoint → ParamPoint → List EdgeEvent
 diagonals m n a b =
-    pick (moves (changeOfSum a b)) (listFrom (diagonalCandidate m n a b) (pastSum m n a b - firstSum a b) (firstSum a b)) []
+    cond (moves (changeOfSum a b)) (listFrom (diagonalCandidate m n a b) (pastSum m n a b - firstSum a b) (firstSum a b)) []
 
 -- "the candidates and their order: end events first, then U, V, diagonals"
 unfoldable pub candidates : ℕ → ℕ → ParamPoint → ParamPoint → List EdgeEvent
@@ -156,7 +156,7 @@ precedes Greater = false
 
 unfoldable pub insert : EdgeEvent → List EdgeEvent → List EdgeEvent
 insert e [] = e ∷ []
-insert e (x ∷ xs) = pick (precedes (totalOrder (e .lambda) (x .lambda))) (e ∷ (x ∷ xs)) (x ∷ insert e xs)
+insert e (x ∷ xs) = cond (precedes (totalOrder (e .lambda) (x .lambda))) (e ∷ (x ∷ xs)) (x ∷ insert e xs)
 
 abbrev pub pushed : Candidate → List EdgeEvent → List EdgeEvent
 pushed (Event e) sorted = insert e sorted
@@ -172,7 +172,7 @@ closeBy kept l = lt (absolute (sub binary64 kept l)) eps
 
 unfoldable pub uniqueAfter : Float → List EdgeEvent → List EdgeEvent
 uniqueAfter kept [] = []
-uniqueAfter kept (e ∷ es) = pick (closeBy kept (e .lambda)) (uniqueAfter kept es) (e ∷ uniqueAfter (e .lambda) es)
+uniqueAfter kept (e ∷ es) = cond (closeBy kept (e .lambda)) (uniqueAfter kept es) (e ∷ uniqueAfter (e .lambda) es)
 
 unfoldable pub unique : List EdgeEvent → List EdgeEvent
 unique [] = []

@@ -1,6 +1,6 @@
 -- A point of the parameter plane (01, "A ParamPoint is the two f64 u and v"), and where it lies on an axis of whole steps. References: `lerp`,
 -- `param_in_bounds`, `integer_step`, `normalize_lambda`. Assumes nothing.
-use mathlib.Core.Bool.{Bool, true, false, _&&_}
+use mathlib.Core.Bool.{Bool, _&&_, cond}
 use Prim.Native.Nat.{ℕ}
 use lib.Ieee.{Float, binary64, neg, lt, le, add, sub, mul, toUnsigned}
 use Rattle.float.specs.Consts.{eps, zero64, one64}
@@ -15,10 +15,6 @@ use Rattle.edges.specs.declared.point.WholeStep.{WholeStep}
 use Rattle.edges.specs.declared.point.WholeStep.the-variants.{Step, Between}
 use Rattle.edges.specs.declared.event.NormalizedLambda.{NormalizedLambda}
 use Rattle.edges.specs.declared.event.NormalizedLambda.the-variants.{Lambda, Outside}
-
-abbrev pub pick : {A : Type 0} → Bool → A → A → A
-pick true a b = a
-pick false a b = b
 
 abbrev pub param : Float → Float → ParamPoint
 param u v = record { u = u; v = v }
@@ -50,10 +46,10 @@ paramInBounds m n p = within (p .u) (natFloat m) && within (p .v) (natFloat n)
 -- the whole number from 0 to n that x is within EPS of
 unfoldable pub integerStep : Float → ℕ → WholeStep
 integerStep x n =
-    pick (lt (absolute (sub binary64 x (rounded x))) eps && (le zero64 (rounded x) && le (rounded x) (natFloat n)))
+    cond (lt (absolute (sub binary64 x (rounded x))) eps && (le zero64 (rounded x) && le (rounded x) (natFloat n)))
     (Step (toUnsigned 64 (rounded x)))
     Between
 
 -- a lambda from −EPS to 1 + EPS, brought between 0 and 1
 unfoldable pub normalizeLambda : Float → NormalizedLambda
-normalizeLambda l = pick (within l one64) (Lambda (clamped l zero64 one64)) Outside
+normalizeLambda l = cond (within l one64) (Lambda (clamped l zero64 one64)) Outside

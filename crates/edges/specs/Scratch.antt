@@ -1,5 +1,5 @@
 -- Where the events of a step stand ("`Vec` of events: an array of 1,023 with a count"): their lambdas in one list and the codes of their sides in another. Assumes nothing.
-use mathlib.Core.Bool.{true, false}
+use mathlib.Core.Bool.{true, false, cond}
 use mathlib.Core.List.{List, [], _∷_, _++_}
 use mathlib.Core.Path.{_≡_}
 use Prim.Native.Nat.{ℕ, _+_, _-_, _*_, _/_, _%_, _≤_, _<_}
@@ -10,7 +10,6 @@ use Rattle.float.specs.Order.{totalOrder}
 use Rattle.edges.specs.declared.event.ParamEdge.{ParamEdge}
 use Rattle.edges.specs.declared.event.ParamEdge.the-variants.{U, «V», Diagonal}
 use Rattle.edges.specs.declared.event.EdgeEvent.{EdgeEvent}
-use Rattle.edges.specs.Param.{pick}
 use Rattle.edges.specs.Events.{event, precedes, Each, OnGrid}
 
 -- a side as one number, and back: indices are below 256
@@ -20,7 +19,7 @@ codeOf («V» v) = 256 + v
 codeOf (Diagonal u v) = 512 + 256 * u + v
 
 unfoldable pub edgeOf : ℕ → ParamEdge
-edgeOf c = pick (ltb c 256) (U c) (pick (ltb c 512) («V» (c - 256)) (Diagonal ((c - 512) / 256) ((c - 512) % 256)))
+edgeOf c = cond (ltb c 256) (U c) (cond (ltb c 512) («V» (c - 256)) (Diagonal ((c - 512) / 256) ((c - 512) % 256)))
 
 abbrev pub eventOf : Float → ℕ → EdgeEvent
 eventOf l c = event l (edgeOf c)

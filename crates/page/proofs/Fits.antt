@@ -2,14 +2,13 @@
 use Prim.Native.Nat.{ℕ, _+_, _*_, _/_, _≤_}
 use native.Mathlib.Omega.{arith}
 use mathlib.Core.Path.{_≡_, refl}
-use mathlib.Core.Bool.{Bool, true, false, _&&_}
+use mathlib.Core.Bool.{Bool, true, false, _&&_, cond}
 use mathlib.Core.List.{List}
 use lib.Dec.{ltb, leb}
 use lib.ListN.{length, length-set}
 use lib.Ieee.{Float}
 use borrow.Author.Tests.{ltb-true}
 use Rattle.refusal.specs.declared.Refusal.the-variants.{Full}
-use Rattle.edges.specs.Param.{pick}
 use Rattle.crossing.specs.declared.Crossing.{Crossing}
 use Rattle.page.specs.declared.Pen.{Pen}
 use Rattle.page.specs.declared.Penned.{Penned}
@@ -45,7 +44,7 @@ pub push-fits : (c : Crossing) (g : Page) → Fitting g → Fits (pushPage c g)
 unfolding pushPage written
 push-fits c g h = go (closeToPending c g) (hasRoom g) refl
   where
-    go : (a b : Bool) → hasRoom g ≡ b → Fits (pick a (on g) (pick b (on (written c g)) (off Full g)))
+    go : (a b : Bool) → hasRoom g ≡ b → Fits (cond a (on g) (cond b (on (written c g)) (off Full g)))
     go true b e = h
     go false true e =
         let one = room (g .pen .count) (length (g .points)) (and-left (ltb (g .pen .count) (length (g .points) / 3)) (ltb (g .pen .count) (length (g .sides) / 2) && ltb (g .pen .count) (length (g .fractions))) e) in
@@ -56,7 +55,7 @@ pub flush-fits : (g : Page) → Fitting g → Fits (flushPage g)
 unfolding flushPage kept dropped
 flush-fits g h = go (leb (g .pen .start + 2) (g .pen .count)) (ltb (g .pen .lines) (length (g .starts)))
   where
-    go : (a b : Bool) → Fits (pick a (pick b (on (kept g)) (off Full g)) (on (dropped g)))
+    go : (a b : Bool) → Fits (cond a (cond b (on (kept g)) (off Full g)) (on (dropped g)))
     go true true = (omega arith, h .1)
     go true false = tt
     go false b = (omega arith, omega arith)
@@ -67,6 +66,6 @@ pub follow-fits : (x : Step Page) (k : Page → Step Page) → Fits x → ((g : 
 follow-fits (on g) k h f = f g h
 follow-fits (off n g) k h f = tt
 
-pub pick-fits : (b : Bool) (x y : Step Page) → Fits x → Fits y → Fits (pick b x y)
-pick-fits true x y p q = p
-pick-fits false x y p q = q
+pub cond-fits : (b : Bool) (x y : Step Page) → Fits x → Fits y → Fits (cond b x y)
+cond-fits true x y p q = p
+cond-fits false x y p q = q

@@ -2,11 +2,10 @@
 use Prim.Native.Nat.{ℕ}
 use native.Mathlib.Omega.{arith}
 use mathlib.Core.Path.{_≡_, refl}
-use mathlib.Core.Bool.{Bool, true, false}
+use mathlib.Core.Bool.{Bool, true, false, cond}
 use mathlib.Core.List.{List}
 use lib.Ieee.{Float}
 use Rattle.refusal.specs.declared.Refusal.{Refusal}
-use Rattle.edges.specs.Param.{pick}
 use Rattle.page.specs.declared.Pen.{Pen}
 use Rattle.page.specs.declared.Penned.{Penned}
 use Rattle.page.specs.declared.Penned.the-variants.{Down, Stop}
@@ -38,8 +37,8 @@ pub as-well : {w x : Step Page} {r : Penned} {p : List Float} {s d : List ℕ} {
 as-well e u = rw e u
 
 -- a test that picks the step
-pub picks-still : (b : Bool) (p : List Float) (s d : List ℕ) (f : List Float) (pen : Pen) (x : Step Page) → b ≡ true → Pushed (pick b (on (pageOf p s d f pen)) x) (Down pen) p s d f
+pub picks-still : (b : Bool) (p : List Float) (s d : List ℕ) (f : List Float) (pen : Pen) (x : Step Page) → b ≡ true → Pushed (cond b (on (pageOf p s d f pen)) x) (Down pen) p s d f
 picks-still b p s d f pen x e = rw e (still p s d f pen refl)
 
-pub picks-other : (b : Bool) (w : Step Page) {x : Step Page} {r : Penned} {p : List Float} {s d : List ℕ} {f : List Float} → b ≡ false → Pushed x r p s d f → Pushed (pick b w x) r p s d f
+pub picks-other : (b : Bool) (w : Step Page) {x : Step Page} {r : Penned} {p : List Float} {s d : List ℕ} {f : List Float} → b ≡ false → Pushed x r p s d f → Pushed (cond b w x) r p s d f
 picks-other b w e u = rw e u

@@ -1,7 +1,7 @@
 -- How the walk fills the lent lists, for the contracts of the inner functions: points are written in place, pending ones after the kept ones, and a flush moves a
 -- count. What is said of the whole trace is in Trace.antt of `trace`; its proofs/ show that the two agree. Assumes nothing.
 use mathlib.Core.Path.{_≡_}
-use mathlib.Core.Bool.{Bool, _&&_}
+use mathlib.Core.Bool.{Bool, _&&_, cond}
 use mathlib.Core.List.{List}
 use Prim.Native.Nat.{ℕ, _+_, _-_, _*_, _/_, _≤_}
 use lib.Dec.{ltb, leb}
@@ -10,7 +10,6 @@ use lib.Ieee.{Float}
 use Rattle.refusal.specs.declared.Refusal.the-variants.{Full}
 use Rattle.vector.specs.Vectors.{allClose}
 use Rattle.grid.specs.Grid.{pointAt}
-use Rattle.edges.specs.Param.{pick}
 use Rattle.crossing.specs.declared.Crossing.{Crossing}
 use Rattle.page.specs.declared.Pen.{Pen}
 use Rattle.page.specs.declared.Penned.{Penned}
@@ -50,7 +49,7 @@ written c g =
     (penAt (g .pen .count + 1) (g .pen .start) (g .pen .lines))
 
 unfoldable pub pushPage : Crossing → Page → Step Page
-pushPage c g = pick (closeToPending c g) (on g) (pick (hasRoom g) (on (written c g)) (off Full g))
+pushPage c g = cond (closeToPending c g) (on g) (cond (hasRoom g) (on (written c g)) (off Full g))
 
 unfoldable pub kept : Page → Page
 kept g =
@@ -62,8 +61,8 @@ dropped g = pageOf (g .points) (g .starts) (g .sides) (g .fractions) (penAt (g .
 
 unfoldable pub flushPage : Page → Step Page
 flushPage g =
-    pick (leb (g .pen .start + 2) (g .pen .count))
-    (pick (ltb (g .pen .lines) (length (g .starts))) (on (kept g)) (off Full g))
+    cond (leb (g .pen .start + 2) (g .pen .count))
+    (cond (ltb (g .pen .lines) (length (g .starts))) (on (kept g)) (off Full g))
     (on (dropped g))
 
 abbrev pub pageIn : Step Page → Page

@@ -13,7 +13,7 @@ use mir.Syntax.{Ty, tyArray}
 use mir.Raw.{raw as rawTy}
 use mir.Val.{Val}
 use base.Logic.{ent, sep, via, neverE}
-use base.Fml.{Fml, fsep, fat, froom}
+use base.Fml.{fsep, fat, froom}
 use prog.Wp.{Heap}
 use ghost.Atoms.{Atoms, sem}
 use types.Kit.{Given, ‵, _$_, _∵_, !, qed, move, drop, use1, fsplit, fjoin, fpick, fpack, done}

@@ -3,14 +3,13 @@ use mathlib.Core.Path.{_≡_, refl, sym, _∙_, ap}
 use Prim.Native.Nat.{ℕ, zero, suc, _+_, _*_, _<_, _≤_}
 use native.Mathlib.Nat.{le-refl}
 use native.Mathlib.Omega.{arith}
-use mathlib.Core.Bool.{Bool, true, false}
+use mathlib.Core.Bool.{Bool, true, false, cond}
 use mathlib.Core.List.{List, [], _∷_, _++_}
 use lib.Dec.{ltb}
 use lib.Ieee.{Float}
 use lib.ListN.{length, getD, set, take, length-set}
 use lib.Seq.{take-suc, take-suc-set, take-length}
 use borrow.Author.Tests.{lt-ltb}
-use Rattle.edges.specs.Param.{pick}
 use Rattle.records.specs.declared.Sample.{Sample}
 use Rattle.records.specs.Records.{pairsOf, marksOf}
 use Rattle.records.specs.Flattened.{nowhere, pairsUpTo, marksUpTo, Flattened}
@@ -21,7 +20,7 @@ pub marks-count : (ss : List Sample) → length (marksOf ss) ≡ length ss
 marks-count [] = refl
 marks-count (s ∷ ss) = ap suc (marks-count ss)
 
-long : {A : Type 0} (b : Bool) (x y : List A) (n : ℕ) → length x ≡ n → length y ≡ n → length (pick b x y) ≡ n
+long : {A : Type 0} (b : Bool) (x y : List A) (n : ℕ) → length x ≡ n → length y ≡ n → length (cond b x y) ≡ n
 long true x y n p q = p
 long false x y n p q = q
 
@@ -61,7 +60,7 @@ module _ (ss : List Sample) (few : length ss ≤ 65537) where
       let s : Sample = getD ss i nowhere in
       let room : 2 * suc i ≤ length (pairsUpTo ss ps i) = rw (pairs-long ss ps i, lp) (omega (arith, h, few)) in
       let in-range : ltb i 65537 ≡ true = lt-ltb i 65537 (omega (arith, h, few)) in
-      ap (λ (b : Bool). take (2 * suc i) (pick b (set (set (pairsUpTo ss ps i) (2 * i) (s .point .u)) (2 * i + 1) (s .point .v)) (pairsUpTo ss ps i))) in-range
+      ap (λ (b : Bool). take (2 * suc i) (cond b (set (set (pairsUpTo ss ps i) (2 * i) (s .point .u)) (2 * i + 1) (s .point .v)) (pairsUpTo ss ps i))) in-range
       ∙ two-more (pairsUpTo ss ps i) i (s .point .u) (s .point .v) room
       ∙ ap (λ (l : List Float). (l ++ s .point .u ∷ []) ++ s .point .v ∷ []) (pairs-first ps lp i (omega (arith, h)))
       ∙ sym (pairs-snoc (take i ss) s) ∙ ap pairsOf (sym (take-suc ss i nowhere h))
@@ -72,7 +71,7 @@ module _ (ss : List Sample) (few : length ss ≤ 65537) where
       let s : Sample = getD ss i nowhere in
       let room : i < length (marksUpTo ss ms i) = rw (marks-long ss ms i, lm) (omega (arith, h, few)) in
       let in-range : ltb i 65537 ≡ true = lt-ltb i 65537 (omega (arith, h, few)) in
-      ap (λ (b : Bool). take (suc i) (pick b (set (marksUpTo ss ms i) i (s .mark)) (marksUpTo ss ms i))) in-range
+      ap (λ (b : Bool). take (suc i) (cond b (set (marksUpTo ss ms i) i (s .mark)) (marksUpTo ss ms i))) in-range
       ∙ take-suc-set (marksUpTo ss ms i) i (s .mark) room
       ∙ ap (λ (l : List ℕ). l ++ s .mark ∷ []) (marks-first ms lm i (omega (arith, h)))
       ∙ sym (marks-snoc (take i ss) s) ∙ ap marksOf (sym (take-suc ss i nowhere h))

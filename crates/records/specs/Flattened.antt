@@ -1,11 +1,11 @@
 -- Records flattened in place, one after another, into two lists of fixed length. It serves inner contracts only. Assumes nothing.
+use mathlib.Core.Bool.{cond}
 use mathlib.Core.Path.{_≡_}
 use Prim.Native.Nat.{ℕ, zero, suc, _+_, _*_, _≤_}
 use mathlib.Core.List.{List}
 use lib.Ieee.{Float, nan}
 use lib.Dec.{ltb}
 use lib.ListN.{length, getD, set, take}
-use Rattle.edges.specs.Param.{pick}
 use Rattle.records.specs.declared.Sample.{Sample}
 use Rattle.records.specs.Records.{pairsOf, marksOf}
 
@@ -15,11 +15,11 @@ nowhere = record { mark = 0; point = record { u = nan; v = nan } }
 
 -- the u and v of record i are put at its places, if they are there
 abbrev pub putPair : List Float → ℕ → Sample → List Float
-putPair ps i s = pick (ltb i 65537) (set (set ps (2 * i) (s .point .u)) (2 * i + 1) (s .point .v)) ps
+putPair ps i s = cond (ltb i 65537) (set (set ps (2 * i) (s .point .u)) (2 * i + 1) (s .point .v)) ps
 
 -- its mark likewise
 abbrev pub putMark : List ℕ → ℕ → Sample → List ℕ
-putMark ms i s = pick (ltb i 65537) (set ms i (s .mark)) ms
+putMark ms i s = cond (ltb i 65537) (set ms i (s .mark)) ms
 
 -- the pairs of the first i records are put into ps
 abbrev pub pairsUpTo : List Sample → List Float → ℕ → List Float

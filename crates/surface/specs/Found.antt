@@ -1,6 +1,6 @@
 -- The surface of a grid: the seams that the search finds in it, the joined surface that they make, and demand 3 of its lists (01, "Joining and
 -- triangles", "Joinings that demand 3 covers"). Assumes nothing.
-use Prim.Native.Nat.{ℕ, _+_, _≤_}
+use Prim.Native.Nat.{ℕ, _+_}
 use mathlib.Core.Path.{_≡_}
 use mathlib.Core.Logic.{_⊎_}
 use mathlib.Core.List.{List}

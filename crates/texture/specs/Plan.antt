@@ -1,6 +1,6 @@
 -- "Here a texture is Grid, Swirl with spacing and twist, or Spiral with spacing and arms. A plan gives rays and samples per ray by `paths_swirl` or `paths_spiral` (arms are
 -- rays); Grid gives 0 and 0." Every formula in the Rust's order of operations, one rounding each. Assumes nothing.
-use mathlib.Core.Bool.{Bool, true, _&&_}
+use mathlib.Core.Bool.{Bool, true, _&&_, cond}
 use Prim.Native.Nat.{ℕ, max}
 use lib.Dec.{leb}
 use lib.Ieee.{Float, binary64, ofBits, lt, le, add, mul, div, toUnsigned}
@@ -14,7 +14,6 @@ use Rattle.refusal.specs.declared.Check.the-variants.{Passed}
 use Rattle.refusal.specs.declared.Refusal.the-variants as refusals
 use Rattle.refusal.specs.Refusals.{Answer, ok, refused, numberOf, unless, passing}
 use Rattle.grid.specs.Grid.{stepsFit}
-use Rattle.edges.specs.Param.{pick}
 use Rattle.texture.specs.declared.plan.ParametricSurfaceTexture.{ParametricSurfaceTexture}
 use Rattle.texture.specs.declared.plan.ParametricSurfaceTexture.the-variants.{Grid, Swirl, Spiral}
 use Rattle.texture.specs.declared.plan.PlanAnswer.{PlanAnswer}
@@ -42,7 +41,7 @@ textureRadius m n = mul binary64 (mul binary64 (larger (natFloat m) (natFloat n)
 
 -- "Non-finite spacing, or at most EPS, becomes 1.0"
 unfoldable pub textureSpacing : Float → Float
-textureSpacing x = pick (isFinite x && lt eps x) x one64
+textureSpacing x = cond (isFinite x && lt eps x) x one64
 
 -- ---- `radial_sample_count`, `spiral_sample_count`
 

@@ -2,7 +2,7 @@
 -- drawing moves its pending points. So the lists, zeroed past the counts, are those of `finished`. Assumes nothing.
 use mathlib.Core.Path.{_≡_, refl, sym, ap, _∙_}
 use mathlib.Core.Logic.{_⊎_, inl, inr}
-use mathlib.Core.Bool.{Bool, true, false, _&&_, true≢false}
+use mathlib.Core.Bool.{Bool, true, false, _&&_, true≢false, cond}
 use mathlib.Core.List.{List, [], _∷_, _++_, append-assoc, append-nil}
 use Prim.Native.Nat.{ℕ, suc, _+_, _-_, _*_, _/_, _≤_, _<_, min}
 use native.Mathlib.Numerals.{add-one}
@@ -18,7 +18,6 @@ use Rattle.lent.specs.Lent.{zeroFloat, filled, zeroedFrom}
 use Rattle.lent.proofs.Laws.{zeroed-filled}
 use Rattle.vector.specs.Vectors.{allClose}
 use Rattle.grid.specs.Grid.{pointAt}
-use Rattle.edges.specs.Param.{pick}
 use Rattle.edges.specs.Events.{sortedEdgeEvents}
 use Rattle.edges.specs.declared.event.EdgeEvent.{EdgeEvent}
 use Rattle.crossing.specs.declared.Crossing.{Crossing}
@@ -291,7 +290,7 @@ flush-ends : (room : Room) (d : Drawing) → NonePending (flushSegment room d)
 unfolding flushSegment
 flush-ends room d = go (leb 2 (length (d .segment))) (ltb (length (d .starts)) (room .lines))
   where
-    go : (a b : Bool) → NonePending (pick a (pick b (on (drawing (d .drawn ++ d .segment) (d .starts ++ (length (d .drawn) ∷ [])) [])) (off Full d)) (on (drawing (d .drawn) (d .starts) [])))
+    go : (a b : Bool) → NonePending (cond a (cond b (on (drawing (d .drawn ++ d .segment) (d .starts ++ (length (d .drawn) ∷ [])) [])) (off Full d)) (on (drawing (d .drawn) (d .starts) [])))
     go true true = refl
     go true false = tt
     go false b = refl

@@ -5,7 +5,7 @@ use lib.Dec.{eqb}
 use lib.Ieee.{Float}
 use Rattle.edges.specs.declared.point.ParamPoint.{ParamPoint}
 use Rattle.page.specs.Page.{Page, pushPage, flushPage}
-use Rattle.page.proofs.Fits.{Fitting, Fits, flush-fits, follow-fits, pick-fits}
+use Rattle.page.proofs.Fits.{Fitting, Fits, flush-fits, follow-fits, cond-fits}
 use Rattle.walk.proofs.Fits.{append-fits}
 use Rattle.trace.specs.declared.curve.Previous.{Previous}
 use Rattle.trace.specs.declared.curve.Previous.the-variants.{At, Nowhere}
@@ -18,7 +18,7 @@ module _ (g : List Float) (m n : ℕ) where
 
   pub sampled-fits : (p : Previous) (x : Sample) (s : Page) → Fitting s → Fits (sampled pushPage flushPage g m n p x s)
   unfolding sampled
-  sampled-fits p x s h = pick-fits (eqb (x .mark) 0) (flushPage s) (paired pushPage flushPage g m n p (x .point) s) (flush-fits s h) (paired-fits p (x .point) s h)
+  sampled-fits p x s h = cond-fits (eqb (x .mark) 0) (flushPage s) (paired pushPage flushPage g m n p (x .point) s) (flush-fits s h) (paired-fits p (x .point) s h)
 
   pub traced-fits : (xs : List Sample) (p : Previous) (s : Page) → Fitting s → Fits (traced pushPage flushPage g m n xs p s)
   unfolding traced

@@ -1,13 +1,13 @@
 -- Two walks over the same samples stay related, where each push and each flush keeps their states related: the walk does nothing else to a state. Assumes nothing.
 use mathlib.Core.Path.{_≡_, refl, sym}
-use mathlib.Core.Bool.{Bool, true, false, _||_, true≢false}
+use mathlib.Core.Bool.{Bool, true, false, _||_, true≢false, cond}
 use mathlib.Core.List.{List, [], _∷_}
 use Prim.Native.Nat.{ℕ}
 use lib.Dec.{eqb}
 use lib.Ieee.{Float}
 use Rattle.refusal.specs.declared.Refusal.{Refusal}
 use Rattle.float.specs.Consts.{zero64}
-use Rattle.edges.specs.Param.{pick, lerp, paramInBounds}
+use Rattle.edges.specs.Param.{lerp, paramInBounds}
 use Rattle.edges.specs.Events.{sortedEdgeEvents}
 use Rattle.edges.specs.declared.point.ParamPoint.{ParamPoint}
 use Rattle.edges.specs.declared.event.ParamEdge.{ParamEdge}
@@ -33,12 +33,12 @@ module _ {S T : Type 0} {R : S → T → Type 0} {Q : S → Type 0} where
   follow-related f h (both-on {s} {t} r) k = k s t r
   follow-related f h (both-off q) k = both-off q
 
-  pick-related : (b : Bool) {x x′ : Step S} {y y′ : Step T} → Related R Q x y → Related R Q x′ y′ → Related R Q (pick b x x′) (pick b y y′)
+  pick-related : (b : Bool) {x x′ : Step S} {y y′ : Step T} → Related R Q x y → Related R Q x′ y′ → Related R Q (cond b x x′) (cond b y y′)
   pick-related true p q = p
   pick-related false p q = q
 
   -- two tests that agree
-  pub test-related : (a b : Bool) {x x′ : Step S} {y y′ : Step T} → a ≡ b → (b ≡ true → Related R Q x y) → (b ≡ false → Related R Q x′ y′) → Related R Q (pick a x x′) (pick b y y′)
+  pub test-related : (a b : Bool) {x x′ : Step S} {y y′ : Step T} → a ≡ b → (b ≡ true → Related R Q x y) → (b ≡ false → Related R Q x′ y′) → Related R Q (cond a x x′) (cond b y y′)
   test-related true true e p q = p refl
   test-related false false e p q = q refl
   test-related true false e p q = absurd (true≢false e)

@@ -1,10 +1,11 @@
 -- The walk over the samples, under the name of the Rust's function, over what holds the lines: any state with a way to push a point and one to flush the pending line.
 -- Reference: `trace_parametric_edge_curve`. Assumes nothing.
+use mathlib.Core.Bool.{cond}
 use mathlib.Core.List.{List, [], _∷_}
 use Prim.Native.Nat.{ℕ}
 use lib.Dec.{eqb}
 use lib.Ieee.{Float}
-use Rattle.edges.specs.Param.{pick, param}
+use Rattle.edges.specs.Param.{param}
 use Rattle.edges.specs.declared.point.ParamPoint.{ParamPoint}
 use Rattle.crossing.specs.declared.Crossing.{Crossing}
 use Rattle.page.specs.Step.{Step, on, follow}
@@ -32,7 +33,7 @@ samplesOf (k ∷ ks) (u ∷ (v ∷ ps)) = sample k u v ∷ samplesOf ks ps
 
 -- what the next sample has before it
 abbrev pub afterSample : Sample → Previous
-afterSample x = pick (eqb (x .mark) 0) Nowhere (At (x .point))
+afterSample x = cond (eqb (x .mark) 0) Nowhere (At (x .point))
 
 module _ {S : Type 0} (push : Crossing → S → Step S) (flush : S → Step S) (g : List Float) (m n : ℕ) where
   abbrev pub paired : Previous → ParamPoint → S → Step S
@@ -41,7 +42,7 @@ module _ {S : Type 0} (push : Crossing → S → Step S) (flush : S → Step S) 
 
   -- one sample: a break ends the line, a point after a point is a step
   unfoldable pub sampled : Previous → Sample → S → Step S
-  sampled p x s = pick (eqb (x .mark) 0) (flush s) (paired p (x .point) s)
+  sampled p x s = cond (eqb (x .mark) 0) (flush s) (paired p (x .point) s)
 
   -- `trace_parametric_edge_curve`
   unfoldable pub traced : List Sample → Previous → S → Step S

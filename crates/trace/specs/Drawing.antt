@@ -1,5 +1,5 @@
 -- Lines as a trace draws them, and what lent lists can hold. References: `push_segment_point`, `flush_segment`, `Paths`. Assumes nothing.
-use mathlib.Core.Bool.{Bool, false}
+use mathlib.Core.Bool.{Bool, false, cond}
 use mathlib.Core.List.{List, [], _∷_, _++_}
 use Prim.Native.Nat.{ℕ, _+_, _/_, min}
 use lib.Dec.{ltb, leb}
@@ -7,7 +7,6 @@ use lib.ListN.{length}
 use lib.Ieee.{Float}
 use Rattle.refusal.specs.declared.Refusal.the-variants.{Full}
 use Rattle.vector.specs.Vectors.{allClose}
-use Rattle.edges.specs.Param.{pick}
 use Rattle.crossing.specs.declared.Crossing.{Crossing}
 use Rattle.page.specs.Step.{Step, on, off}
 
@@ -41,16 +40,16 @@ closeToLast (x ∷ (y ∷ ys)) c = closeToLast (y ∷ ys) c
 -- `push_segment_point`: a point close to the last one is left out; "12: a point pushed past what any of points, sides or fractions can hold, pending points counted"
 unfoldable pub pushSegmentPoint : Room → Crossing → Drawing → Step Drawing
 pushSegmentPoint room c d =
-    pick (closeToLast (d .segment) c) (on d)
-    (pick (ltb (length (d .drawn) + length (d .segment)) (room .points))
+    cond (closeToLast (d .segment) c) (on d)
+    (cond (ltb (length (d .drawn) + length (d .segment)) (room .points))
     (on (drawing (d .drawn) (d .starts) (d .segment ++ (c ∷ []))))
     (off Full d))
 
 -- `flush_segment`: a line of at least two points is kept; "or a kept line past the starts"
 unfoldable pub flushSegment : Room → Drawing → Step Drawing
 flushSegment room d =
-    pick (leb 2 (length (d .segment)))
-    (pick (ltb (length (d .starts)) (room .lines))
+    cond (leb 2 (length (d .segment)))
+    (cond (ltb (length (d .starts)) (room .lines))
     (on (drawing (d .drawn ++ d .segment) (d .starts ++ (length (d .drawn) ∷ [])) []))
     (off Full d))
     (on (drawing (d .drawn) (d .starts) []))

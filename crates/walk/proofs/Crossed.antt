@@ -1,13 +1,13 @@
 -- One event of the walk by the tests of the code, from what its calls gave. Assumes nothing.
 use mathlib.Core.Path.{_≡_, refl, _∙_}
-use mathlib.Core.Bool.{Bool, true, false, _||_}
+use mathlib.Core.Bool.{Bool, true, false, _||_, cond}
 use mathlib.Core.List.{List}
 use Prim.Native.Nat.{ℕ}
 use lib.Ieee.{Float, binary64, lt, add}
 use Rattle.refusal.specs.declared.Refusal.{Refusal}
 use Rattle.refusal.specs.declared.Refusal.the-variants as refusals
 use Rattle.float.specs.Consts.{eps}
-use Rattle.edges.specs.Param.{pick, lerp, paramInBounds}
+use Rattle.edges.specs.Param.{lerp, paramInBounds}
 use Rattle.edges.specs.declared.point.ParamPoint.{ParamPoint}
 use Rattle.edges.specs.declared.event.EdgeEvent.{EdgeEvent}
 use Rattle.crossing.specs.declared.Crossing.{Crossing}
@@ -54,7 +54,7 @@ module _ (g : List Float) (m n : ℕ) where
 
   -- ---- the event
 
-  pub unless-is : (b : Bool) (w : Page) → flushUnless pushPage flushPage g m n b w ≡ pick b (on w) (flushPage w)
+  pub unless-is : (b : Bool) (w : Page) → flushUnless pushPage flushPage g m n b w ≡ cond b (on w) (flushPage w)
   unless-is true w = refl
   unless-is false w = refl
 
@@ -65,19 +65,19 @@ module _ (g : List Float) (m n : ℕ) where
       point x = pushed pushPage flushPage g m n (edgePoint g m n (e .edge) x) w
 
       crossed-is : {t : Bool} {x : ParamPoint} → (before || after) ≡ t → x ≡ lerp a b (e .lambda) →
-          crossed pushPage flushPage g m n a b previous e next w ≡ follow (pick t (point x) (on w)) (flushUnless pushPage flushPage g m n after)
+          crossed pushPage flushPage g m n a b previous e next w ≡ follow (cond t (point x) (on w)) (flushUnless pushPage flushPage g m n after)
       unfolding crossed
       crossed-is h ex = rw (← h, ex, eb, ea)
 
       -- outside before and after
-      pub passes-by : {r : Penned} {p : List Float} {s d : List ℕ} {f : List Float} → (before || after) ≡ false → Pushed (pick after (on w) (flushPage w)) r p s d f →
+      pub passes-by : {r : Penned} {p : List Float} {s d : List ℕ} {f : List Float} → (before || after) ≡ false → Pushed (cond after (on w) (flushPage w)) r p s d f →
           Pushed (crossed pushPage flushPage g m n a b previous e next w) r p s d f
       passes-by h u = as-well (crossed-is h refl ∙ unless-is after w) u
 
       module _ (h : (before || after) ≡ true) {x : ParamPoint} (ex : x ≡ lerp a b (e .lambda)) {r : Penned} {p : List Float} {s d : List ℕ} {f : List Float} (u : Pushed (point x) r p s d f) where
         -- the point is pushed
         pub crosses : {pen : Pen} → r ≡ Down pen → {r' : Penned} {p' : List Float} {s' d' : List ℕ} {f' : List Float} →
-            Pushed (pick after (on (pageOf p s d f pen)) (flushPage (pageOf p s d f pen))) r' p' s' d' f' → Pushed (crossed pushPage flushPage g m n a b previous e next w) r' p' s' d' f'
+            Pushed (cond after (on (pageOf p s d f pen)) (flushPage (pageOf p s d f pen))) r' p' s' d' f' → Pushed (crossed pushPage flushPage g m n a b previous e next w) r' p' s' d' f'
         crosses {pen} er v = as-well (crossed-is h ex ∙ down (point x) (flushUnless pushPage flushPage g m n after) u pen er ∙ unless-is after (pageOf p s d f pen)) v
 
         -- it is refused

@@ -1,10 +1,10 @@
 -- `PenFits` holds after each event of a step and after the whole step, which do nothing to a page but push and flush. Assumes nothing.
 use Prim.Native.Nat.{ℕ}
-use mathlib.Core.Bool.{Bool, true, false, _||_}
+use mathlib.Core.Bool.{Bool, true, false, _||_, cond}
 use mathlib.Core.List.{List, [], _∷_}
 use lib.Ieee.{Float}
 use Rattle.float.specs.Consts.{zero64}
-use Rattle.edges.specs.Param.{pick, lerp, paramInBounds}
+use Rattle.edges.specs.Param.{lerp, paramInBounds}
 use Rattle.edges.specs.Events.{sortedEdgeEvents}
 use Rattle.edges.specs.declared.point.ParamPoint.{ParamPoint}
 use Rattle.edges.specs.declared.event.EdgeEvent.{EdgeEvent}
@@ -13,7 +13,7 @@ use Rattle.crossing.specs.declared.EdgePoint.the-variants.{On, NoStep}
 use Rattle.crossing.specs.Crossing.{edgePoint}
 use Rattle.page.specs.Step.{on}
 use Rattle.page.specs.Page.{Page, pushPage, flushPage}
-use Rattle.page.proofs.Fits.{Fitting, Fits, push-fits, flush-fits, follow-fits, pick-fits}
+use Rattle.page.proofs.Fits.{Fitting, Fits, push-fits, flush-fits, follow-fits, cond-fits}
 use Rattle.walk.specs.Walk.{beforeInside, afterInside, nextLambda, pushed, flushUnless, crossed, crossings, appendEdgeCrossings}
 
 module _ (g : List Float) (m n : ℕ) where
@@ -31,8 +31,8 @@ module _ (g : List Float) (m n : ℕ) where
       let before = beforeInside m n a b previous (e .lambda) in
       let after = afterInside m n a b (e .lambda) next in
       let point = pushed pushPage flushPage g m n (edgePoint g m n (e .edge) (lerp a b (e .lambda))) s in
-      follow-fits (pick (before || after) point (on s)) (flushUnless pushPage flushPage g m n after)
-      (pick-fits (before || after) point (on s) (pushed-fits (edgePoint g m n (e .edge) (lerp a b (e .lambda))) s h) h) (unless-fits after)
+      follow-fits (cond (before || after) point (on s)) (flushUnless pushPage flushPage g m n after)
+      (cond-fits (before || after) point (on s) (pushed-fits (edgePoint g m n (e .edge) (lerp a b (e .lambda))) s h) h) (unless-fits after)
 
   pub crossings-fits : (a b : ParamPoint) (previous : Float) (es : List EdgeEvent) (s : Page) → Fitting s → Fits (crossings pushPage flushPage g m n a b previous es s)
   unfolding crossings

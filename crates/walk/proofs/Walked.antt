@@ -1,6 +1,6 @@
 -- One turn of the walk over the events: the events from i on are the one at i and those after it. Assumes nothing.
 use mathlib.Core.Path.{_≡_, refl, sym, ap, _∙_, subst}
-use mathlib.Core.Bool.{Bool, true, false}
+use mathlib.Core.Bool.{Bool, true, false, cond}
 use mathlib.Core.List.{List, [], _∷_}
 use Prim.Native.Nat.{ℕ, _+_, _≤_, _<_}
 use native.Mathlib.Nat.{le-trans}
@@ -11,7 +11,7 @@ use lib.Ieee.{Float, nan}
 use borrow.Author.Tests.{ltb-true, ltb-false}
 use Rattle.refusal.specs.declared.Refusal.{Refusal}
 use Rattle.float.specs.Consts.{zero64, one64}
-use Rattle.edges.specs.Param.{pick, paramInBounds}
+use Rattle.edges.specs.Param.{paramInBounds}
 use Rattle.edges.specs.Events.{Each, OnGrid, sortedEdgeEvents}
 use Rattle.edges.specs.Scratch.{eventOf, eventsIn}
 use Rattle.edges.specs.declared.point.ParamPoint.{ParamPoint}
@@ -40,10 +40,10 @@ module _ (ls : List Float) (cs : List ℕ) (count i : ℕ) (h : count ≤ length
   ended k = let past : length (eventsIn ls cs count) ≤ i = omega (arith, events-length ls cs count s h) in drop-of-length-le (eventsIn ls cs count) past
 
   -- the lambda at i, or 1 past the last
-  next-is : {x : Float} → x ≡ pick (ltb i count) (getD ls i nan) one64 → nextLambda (drop i (eventsIn ls cs count)) ≡ x
+  next-is : {x : Float} → x ≡ cond (ltb i count) (getD ls i nan) one64 → nextLambda (drop i (eventsIn ls cs count)) ≡ x
   next-is e = go (ltb i count) refl e
     where
-      go : {x : Float} (t : Bool) → ltb i count ≡ t → x ≡ pick t (getD ls i nan) one64 → nextLambda (drop i (eventsIn ls cs count)) ≡ x
+      go : {x : Float} (t : Bool) → ltb i count ≡ t → x ≡ cond t (getD ls i nan) one64 → nextLambda (drop i (eventsIn ls cs count)) ≡ x
       go true p q = ap nextLambda (next-event ls cs count i s h (ltb-true i count p)) ∙ sym q
       go false p q = ap nextLambda (ended (ltb-false i count p)) ∙ sym q
 
@@ -53,7 +53,7 @@ module _ (g : List Float) (m n : ℕ) (a b : ParamPoint) (ls : List Float) (cs :
   walk-ends previous w k = ap (λ (es : List EdgeEvent). crossings pushPage flushPage g m n a b previous es w) (ended ls cs count i h s k)
 
   module _ (k : i < count) (previous : Float) (w : Page) {v : EdgeEvent} {x : Float}
-      (ev : v ≡ eventOf (getD ls i nan) (getD cs i 0)) (ex : x ≡ pick (ltb (i + 1) count) (getD ls (i + 1) nan) one64)
+      (ev : v ≡ eventOf (getD ls i nan) (getD cs i 0)) (ex : x ≡ cond (ltb (i + 1) count) (getD ls (i + 1) nan) one64)
     where
       turn : crossings pushPage flushPage g m n a b previous (drop i (eventsIn ls cs count)) w
           ≡ follow (crossed pushPage flushPage g m n a b previous v x w) (crossings pushPage flushPage g m n a b (v .lambda) (drop (i + 1) (eventsIn ls cs count)))
@@ -89,7 +89,7 @@ module _ (g : List Float) (m n : ℕ) (a b : ParamPoint) (w : Page) {es : List E
     step-is = rw ee
 
     pub step-goes : {pen : Pen} → r ≡ Down pen → {inside : Bool} → inside ≡ paramInBounds m n b → {r' : Penned} {p' : List Float} {t' d' : List ℕ} {f' : List Float} →
-        Pushed (pick inside (on (pageOf p t d f pen)) (flushPage (pageOf p t d f pen))) r' p' t' d' f' → Pushed (appendEdgeCrossings pushPage flushPage g m n a b w) r' p' t' d' f'
+        Pushed (cond inside (on (pageOf p t d f pen)) (flushPage (pageOf p t d f pen))) r' p' t' d' f' → Pushed (appendEdgeCrossings pushPage flushPage g m n a b w) r' p' t' d' f'
     step-goes {pen} er ei v =
         as-well (step-is ∙ down (crossings pushPage flushPage g m n a b zero64 es w) (flushUnless pushPage flushPage g m n (paramInBounds m n b)) u pen er ∙ unless-is g m n (paramInBounds m n b) (pageOf p t d f pen))
         (rw ei at v)

@@ -1,12 +1,12 @@
 -- The walk along a step from a sample a to the next, b: "`append_edge_crossings` fixes which events become points". It is over what holds the lines: any state with a way
 -- to push a point and one to flush the pending line. Reference: `append_edge_crossings`. Assumes nothing.
-use mathlib.Core.Bool.{Bool, true, false, _||_}
+use mathlib.Core.Bool.{Bool, true, false, _||_, cond}
 use mathlib.Core.List.{List, [], _∷_}
 use Prim.Native.Nat.{ℕ}
 use lib.Ieee.{Float, binary64, ofBits, lt, add, mul}
 use Rattle.refusal.specs.declared.Refusal.the-variants as refusals
 use Rattle.float.specs.Consts.{eps, zero64, one64}
-use Rattle.edges.specs.Param.{pick, lerp, paramInBounds}
+use Rattle.edges.specs.Param.{lerp, paramInBounds}
 use Rattle.edges.specs.Events.{sortedEdgeEvents}
 use Rattle.edges.specs.declared.point.ParamPoint.{ParamPoint}
 use Rattle.edges.specs.declared.event.EdgeEvent.{EdgeEvent}
@@ -26,12 +26,12 @@ middle x y = mul binary64 (add binary64 x y) half
 -- whether the step is inside the grid before an event at l, the event before it at `previous`
 unfoldable pub beforeInside : ℕ → ℕ → ParamPoint → ParamPoint → Float → Float → Bool
 beforeInside m n a b previous l =
-    pick (lt (add binary64 previous eps) l) (paramInBounds m n (lerp a b (middle previous l))) (paramInBounds m n (lerp a b l))
+    cond (lt (add binary64 previous eps) l) (paramInBounds m n (lerp a b (middle previous l))) (paramInBounds m n (lerp a b l))
 
 -- and after it, the next event at `next`
 unfoldable pub afterInside : ℕ → ℕ → ParamPoint → ParamPoint → Float → Float → Bool
 afterInside m n a b l next =
-    pick (lt (add binary64 l eps) next) (paramInBounds m n (lerp a b (middle l next))) (paramInBounds m n b)
+    cond (lt (add binary64 l eps) next) (paramInBounds m n (lerp a b (middle l next))) (paramInBounds m n b)
 
 -- the lambda of the next event, or 1
 abbrev pub nextLambda : List EdgeEvent → Float
@@ -54,7 +54,7 @@ module _ {S : Type 0} (push : Crossing → S → Step S) (flush : S → Step S) 
   crossed a b previous e next s =
       let before = beforeInside m n a b previous (e .lambda) in
       let after = afterInside m n a b (e .lambda) next in
-      follow (pick (before || after) (pushed (edgePoint g m n (e .edge) (lerp a b (e .lambda))) s) (on s)) (flushUnless after)
+      follow (cond (before || after) (pushed (edgePoint g m n (e .edge) (lerp a b (e .lambda))) s) (on s)) (flushUnless after)
 
   -- the events in order, after one at `previous`
   unfoldable pub crossings : ParamPoint → ParamPoint → Float → List EdgeEvent → S → Step S

@@ -13,6 +13,7 @@ use page::Penned;
 use page::flush_segment;
 use page::push_segment_point;
 use refusal::Refusal;
+ghost use mathlib.Core.Bool.{cond};
 ghost use mathlib.Core.Path.{_≡_};
 ghost use mathlib.Core.List.{List};
 ghost use Prim.Native.Nat.{ℕ, _≤_};
@@ -20,7 +21,6 @@ ghost use lib.Dec.{ltb};
 ghost use lib.ListN.{length, getD};
 ghost use lib.Ieee.{Float, nan};
 ghost use Rattle.float.specs.Consts.{zero64, one64};
-ghost use Rattle.edges.specs.Param.{pick};
 ghost use Rattle.edges.specs.Events.{Inside, Each, OnGrid};
 ghost use Rattle.edges.specs.Scratch.{eventsIn};
 ghost use Rattle.crossing.specs.Crossing.{edgePoint, GridFits};
@@ -59,7 +59,7 @@ fn after_inside(m: usize, n: usize, a: ParamPoint, b: ParamPoint, lambda: f64, n
 fn flush_unless(inside: bool, starts: &mut [usize], pen: Pen) -> Penned
     requires { ⌜ pen .start ≤ pen .count ⌝ }
     ensures { λ r. ⌜ ((points : List Float) (sides : List ℕ) (fractions : List Float) →
-        Pushed (pick inside (on (pageOf points (now (starts .entry)) sides fractions pen)) (flushPage (pageOf points (now (starts .entry)) sides fractions pen))) r
+        Pushed (cond inside (on (pageOf points (now (starts .entry)) sides fractions pen)) (flushPage (pageOf points (now (starts .entry)) sides fractions pen))) r
         points (now (starts .exit)) sides fractions) ⌝ }
 {
     if inside {
@@ -143,7 +143,7 @@ fn cross_event(
 // The lambda of event i of `count`, or 1 past the last.
 fn lambda_or_one(lambdas: &[f64], count: usize, i: usize) -> f64
     requires { ⌜ count ≤ length (now lambdas) ⌝ }
-    ensures { λ r. ⌜ r ≡ pick (ltb i count) (getD (now (lambdas .entry)) i nan) one64 ⌝ }
+    ensures { λ r. ⌜ r ≡ cond (ltb i count) (getD (now (lambdas .entry)) i nan) one64 ⌝ }
 {
     if i < count {
         return lambdas[i];

@@ -28,15 +28,6 @@ cell-v c =
 side-diagonal : (c : tie.After-edge3) → (c .edge3 .given .0 .0 < c .before .before .before .args .m) × (c .edge3 .given .0 .1 .0 < c .before .before .before .args .n)
 side-diagonal c = inside-diagonal _ _ (c .before .before .before .pre .1) (c .edge3 .given .1)
 
-enum-known-edge : tie.Need-enum-known-edge
-enum-known-edge c = search needs
-
-step-index-requires : tie.Need-step-index-requires
-step-index-requires c κs = search needs
-
-enum-known-v : tie.Need-enum-known-v
-enum-known-v c = search needs
-
 add-between : tie.Need-add-between
 add-between c = omega (arith, cell-u (c .before))
 
@@ -46,18 +37,6 @@ between-requires c κs =
     let v = cell-u (c .before) in
     sides-stand (now (s .args .grid)) (s .args .m) _ _ _ _ _ (s .pre .0 .0) (s .pre .0 .1) (s .pre .0 .2) (side-u (c .before .before .before .before .before)) (omega arith) (side-u (c .before .before .before .before .before)) (omega arith)
 
-enum-told : tie.Need-enum-told
-enum-told c = search needs
-
-enum-known-edge-2 : tie.Need-enum-known-edge-2
-enum-known-edge-2 c = search needs
-
-step-index-requires-2 : tie.Need-step-index-requires-2
-step-index-requires-2 c κs = search needs
-
-enum-known-u : tie.Need-enum-known-u
-enum-known-u c = search needs
-
 add-between-2 : tie.Need-add-between-2
 add-between-2 c = omega (arith, cell-v (c .before))
 
@@ -66,18 +45,6 @@ between-requires-2 c κs =
     let s = c .before .before .before .before .before .before .before .before in
     let u = cell-v (c .before) in
     sides-stand (now (s .args .grid)) (s .args .m) _ _ _ _ _ (s .pre .0 .0) (s .pre .0 .1) (s .pre .0 .2) (omega arith) (side-v (c .before .before .before .before .before)) (omega arith) (side-v (c .before .before .before .before .before))
-
-enum-told-2 : tie.Need-enum-told-2
-enum-told-2 c = search needs
-
-enum-known-edge-3 : tie.Need-enum-known-edge-3
-enum-known-edge-3 c = search needs
-
-to-f64-requires : tie.Need-to-f64-requires
-to-f64-requires c κs = search needs
-
-clamp-requires : tie.Need-clamp-requires
-clamp-requires c κs = search needs
 
 add-between-3 : tie.Need-add-between-3
 add-between-3 c = omega (arith, side-diagonal (c .before .before .before .before))
@@ -123,21 +90,21 @@ pub edge-point-spec : {M : Type 1} → statement M
 edge-point-spec =
     tie.close
     (tie.spec
-    enum-known-edge
-    step-index-requires
-    enum-known-v
+    (λ c. search needs)
+    (λ c κs. search needs)
+    (λ c. search needs)
     add-between
     between-requires
-    enum-told
-    enum-known-edge-2
-    step-index-requires-2
-    enum-known-u
+    (λ c. search needs)
+    (λ c. search needs)
+    (λ c κs. search needs)
+    (λ c. search needs)
     add-between-2
     between-requires-2
-    enum-told-2
-    enum-known-edge-3
-    to-f64-requires
-    clamp-requires
+    (λ c. search needs)
+    (λ c. search needs)
+    (λ c κs. search needs)
+    (λ c κs. search needs)
     add-between-3
     add-between-4
     between-requires-3

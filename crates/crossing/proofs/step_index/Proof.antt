@@ -8,24 +8,9 @@ use Rattle.crossing.proofs.step_index.Tie as tie
 returns : tie.Need-returns
 returns c = step-none-zero _ _ (c .if1 .taken)
 
-to-f64-requires : tie.Need-to-f64-requires
-to-f64-requires c κs = search needs
-
 returns-2 : tie.Need-returns-2
 unfolding eps
 returns-2 c = step-none _ _ (c .before .before .if1 .left) (rw (c .before .to-f64 .ensures) at (c .if2 .taken))
-
-clamp-requires : tie.Need-clamp-requires
-clamp-requires c κs = search needs
-
-abs-requires : tie.Need-abs-requires
-abs-requires c κs = search needs
-
-sub-i : tie.Need-sub-i
-sub-i c = search needs
-
-to-f64-requires-2 : tie.Need-to-f64-requires-2
-to-f64-requires-2 c κs = search needs
 
 returns-3 : tie.Need-returns-3
 unfolding eps
@@ -34,17 +19,11 @@ returns-3 c =
     let o = a .before .before in
     index-close _ _ (o .before .before .if1 .left) (o .before .to-f64 .ensures) (o .if2 .left) (a .before .clamp .ensures) (a .abs .ensures) (c .before .if3 .taken) (c .to-f642 .ensures)
 
-floor-i64-requires : tie.Need-floor-i64-requires
-floor-i64-requires c κs = search needs
-
 cast-i : tie.Need-cast-i
 cast-i c =
     let a = c .before .before in
     let o = a .before .before in
     floor-casts _ _ (o .before .to-f64 .ensures) (a .before .clamp .ensures) (c .floor-i64 .ensures) (record { sfits = c .floor-i64 .ok })
-
-to-f64-requires-3 : tie.Need-to-f64-requires-3
-to-f64-requires-3 c κs = search needs
 
 returns-4 : tie.Need-returns-4
 unfolding eps
@@ -60,14 +39,14 @@ step-index-spec =
     tie.close
     (tie.spec
     returns
-    to-f64-requires
+    (λ c κs. search needs)
     returns-2
-    clamp-requires
-    abs-requires
-    sub-i
-    to-f64-requires-2
+    (λ c κs. search needs)
+    (λ c κs. search needs)
+    (λ c. search needs)
+    (λ c κs. search needs)
     returns-3
-    floor-i64-requires
+    (λ c κs. search needs)
     cast-i
-    to-f64-requires-3
+    (λ c κs. search needs)
     returns-4)

@@ -4,26 +4,11 @@ use borrow.Author.Needs.{needs}
 use Rattle.page.proofs.flush_segment.Statement.{statement}
 use Rattle.page.proofs.flush_segment.Tie as tie
 
-sub-if1 : tie.Need-sub-if1
-sub-if1 c = search needs
-
 returns : tie.Need-returns
 returns c p d f = flush-drops p _ d f _ (c .before .pre) (c .if1 .taken)
 
 returns-2 : tie.Need-returns-2
 returns-2 c p d f = flush-full p _ d f _ (c .before .before .pre) (c .before .if1 .left) (c .if2 .taken)
-
-mul-starts : tie.Need-mul-starts
-mul-starts c = search needs
-
-slice-write-starts : tie.Need-slice-write-starts
-slice-write-starts c = search needs
-
-add-t6 : tie.Need-add-t6
-add-t6 c = search needs
-
-same-length : tie.Need-same-length
-same-length c = search needs
 
 returns-3 : tie.Need-returns-3
 returns-3 c p d f = flush-keeps p _ d f _ (c .before .before .pre) (c .before .if1 .left) (c .if2 .left)
@@ -31,4 +16,4 @@ returns-3 c p d f = flush-keeps p _ d f _ (c .before .before .pre) (c .before .i
 pub flush-segment-spec : {M : Type 1} → statement M
 flush-segment-spec =
     tie.close
-    (tie.spec sub-if1 returns returns-2 mul-starts slice-write-starts add-t6 same-length returns-3)
+    (tie.spec (λ c. search needs) returns returns-2 (λ c. search needs) (λ c. search needs) (λ c. search needs) (λ c. search needs) returns-3)

@@ -22,18 +22,6 @@ far j s =
     (λ w. none-pending (a .c) (now (a .points)) s (now (a .sides)) (now (a .fractions)) (a .pen) (w .left))
     (j .if1 .came)
 
-sub-point-at : tie.Need-sub-point-at
-sub-point-at c = search needs
-
-point-at-requires : tie.Need-point-at-requires
-point-at-requires c κs = search needs
-
-all-close-requires : tie.Need-all-close-requires
-all-close-requires c κs = search needs
-
-same-length : tie.Need-same-length
-same-length c = search needs
-
 returns : tie.Need-returns
 returns c s =
     let a = c .before in
@@ -48,21 +36,6 @@ returns-3 c s = sides-full _ _ s _ _ _ (far (c .before .before) s) (c .before .i
 returns-4 : tie.Need-returns-4
 returns-4 c s = fractions-full _ _ s _ _ _ (far (c .before .before .before) s) (c .before .before .if3 .left) (c .before .if4 .left) (c .if5 .taken)
 
-write-crossing-requires : tie.Need-write-crossing-requires
-write-crossing-requires c κs = search needs
-
-add-t14 : tie.Need-add-t14
-add-t14 c = search needs
-
-same-length-2 : tie.Need-same-length-2
-same-length-2 c = search needs
-
-same-length-3 : tie.Need-same-length-3
-same-length-3 c = search needs
-
-same-length-4 : tie.Need-same-length-4
-same-length-4 c = search needs
-
 returns-5 : tie.Need-returns-5
 returns-5 c s =
     let w = c .before .before .before .before .before .before in
@@ -74,17 +47,17 @@ pub push-segment-point-spec : {M : Type 1} → statement M
 push-segment-point-spec =
     tie.close
     (tie.spec
-    sub-point-at
-    point-at-requires
-    all-close-requires
-    same-length
+    (λ c. search needs)
+    (λ c κs. search needs)
+    (λ c κs. search needs)
+    (λ c. search needs)
     returns
     returns-2
     returns-3
     returns-4
-    write-crossing-requires
-    add-t14
-    same-length-2
-    same-length-3
-    same-length-4
+    (λ c κs. search needs)
+    (λ c. search needs)
+    (λ c. search needs)
+    (λ c. search needs)
+    (λ c. search needs)
     returns-5)

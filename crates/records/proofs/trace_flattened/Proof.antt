@@ -1,13 +1,10 @@
 -- `records::trace_flattened` meets its contract: proofs/Refused.antt has the answer for too many samples, and what is flattened is what the flat trace takes. Assumes nothing.
-use mathlib.Core.Path.{_∙_, sym, ap}
-use mathlib.Core.List.{List}
-use Prim.Native.Nat.{_*_, _≤_}
+use mathlib.Core.Path.{sym}
+use Prim.Native.Nat.{_*_}
 use native.Mathlib.Omega.{arith}
 use denote.Ref.{now}
-use lib.ListN.{length}
 use lib.Seq.{length-take-le}
 use Rattle.trace.specs.Trace.{lists}
-use Rattle.records.specs.declared.Sample.{Sample}
 use Rattle.records.specs.Records.{pairsOf, marksOf}
 use Rattle.records.proofs.Laid.{marks-count}
 use Rattle.records.proofs.Refused.{steps-refused, length-refused}

@@ -5,18 +5,9 @@ use borrow.Author.Needs.{needs}
 use Rattle.walk.proofs.after_inside.Statement.{statement}
 use Rattle.walk.proofs.after_inside.Tie as tie
 
-lerp-requires : tie.Need-lerp-requires
-lerp-requires c κs = search needs
-
-param-in-bounds-requires : tie.Need-param-in-bounds-requires
-param-in-bounds-requires c κs = search needs
-
 returns : tie.Need-returns
 unfolding eps
 returns c = after-far _ _ _ _ _ _ (c .before .before .if1 .taken) (c .before .lerp .ensures) (c .param-in-bounds .ensures)
-
-param-in-bounds-requires-2 : tie.Need-param-in-bounds-requires-2
-param-in-bounds-requires-2 c κs = search needs
 
 returns-2 : tie.Need-returns-2
 unfolding eps
@@ -25,4 +16,4 @@ returns-2 c = after-near _ _ _ _ _ _ (c .before .if1 .left) (c .param-in-bounds2
 pub after-inside-spec : {M : Type 1} → statement M
 after-inside-spec =
     tie.close
-    (tie.spec lerp-requires param-in-bounds-requires returns param-in-bounds-requires-2 returns-2)
+    (tie.spec (λ c κs. search needs) (λ c κs. search needs) returns (λ c κs. search needs) returns-2)

@@ -7,9 +7,6 @@ use borrow.Author.Needs.{needs}
 use Rattle.walk.proofs.append_edge_crossings.Statement.{statement}
 use Rattle.walk.proofs.append_edge_crossings.Tie as tie
 
-sorted-edge-events-requires : tie.Need-sorted-edge-events-requires
-sorted-edge-events-requires c κs = search needs
-
 cross-events-requires : tie.Need-cross-events-requires
 cross-events-requires c κs =
     let e = c .before .before .before .before .before .before .before .before .before .before in
@@ -23,61 +20,16 @@ cross-events-requires c κs =
       ),
     )
 
-enum-known-crossed : tie.Need-enum-known-crossed
-enum-known-crossed c = search needs
-
-param-in-bounds-requires : tie.Need-param-in-bounds-requires
-param-in-bounds-requires c κs = search needs
-
 flush-unless-requires : tie.Need-flush-unless-requires
 flush-unless-requires c κs =
     let t = c .before .before .before .before .before .before .before .before .before .before .before .before .before in
     fits-down (t .cross-events .ensures) (c .before .before .before .crossed .given .1) (crossings-fits _ _ _ _ _ _ _ _ (t .before .before .before .before .before .before .before .before .before .before .before .before .before .before .before .before .before .before .before .before .before .pre .1 .1)) .0
-
-enum-known-refusal : tie.Need-enum-known-refusal
-enum-known-refusal c = search needs
-
-same-length : tie.Need-same-length
-same-length c = search needs
-
-same-length-2 : tie.Need-same-length-2
-same-length-2 c = search needs
-
-same-length-3 : tie.Need-same-length-3
-same-length-3 c = search needs
-
-same-length-4 : tie.Need-same-length-4
-same-length-4 c = search needs
-
-same-length-5 : tie.Need-same-length-5
-same-length-5 c = search needs
-
-same-length-6 : tie.Need-same-length-6
-same-length-6 c = search needs
 
 returns : tie.Need-returns
 returns c =
     let t = c .before .before .before .before .before .before .before .before .before .before .before .before .before .before .before .before in
     step-goes _ _ _ _ _ _ (t .before .before .before .before .before .before .before .before .before .before .before .sorted-edge-events .ensures .1) (t .cross-events .ensures) (c .before .before .before .before .before .before .crossed .given .1)
     (c .before .before .before .before .param-in-bounds .ensures) (c .before .before .flush-unless .ensures _ _ _)
-
-same-length-7 : tie.Need-same-length-7
-same-length-7 c = search needs
-
-same-length-8 : tie.Need-same-length-8
-same-length-8 c = search needs
-
-same-length-9 : tie.Need-same-length-9
-same-length-9 c = search needs
-
-same-length-10 : tie.Need-same-length-10
-same-length-10 c = search needs
-
-same-length-11 : tie.Need-same-length-11
-same-length-11 c = search needs
-
-same-length-12 : tie.Need-same-length-12
-same-length-12 c = search needs
 
 returns-2 : tie.Need-returns-2
 returns-2 c =
@@ -88,23 +40,23 @@ pub append-edge-crossings-spec : {M : Type 1} → statement M
 append-edge-crossings-spec =
     tie.close
     (tie.spec
-    sorted-edge-events-requires
+    (λ c κs. search needs)
     cross-events-requires
-    enum-known-crossed
-    param-in-bounds-requires
+    (λ c. search needs)
+    (λ c κs. search needs)
     flush-unless-requires
-    enum-known-refusal
-    same-length
-    same-length-2
-    same-length-3
-    same-length-4
-    same-length-5
-    same-length-6
+    (λ c. search needs)
+    (λ c. search needs)
+    (λ c. search needs)
+    (λ c. search needs)
+    (λ c. search needs)
+    (λ c. search needs)
+    (λ c. search needs)
     returns
-    same-length-7
-    same-length-8
-    same-length-9
-    same-length-10
-    same-length-11
-    same-length-12
+    (λ c. search needs)
+    (λ c. search needs)
+    (λ c. search needs)
+    (λ c. search needs)
+    (λ c. search needs)
+    (λ c. search needs)
     returns-2)

@@ -5,21 +5,9 @@ use borrow.Author.Needs.{needs}
 use Rattle.walk.proofs.before_inside.Statement.{statement}
 use Rattle.walk.proofs.before_inside.Tie as tie
 
-lerp-requires : tie.Need-lerp-requires
-lerp-requires c κs = search needs
-
-param-in-bounds-requires : tie.Need-param-in-bounds-requires
-param-in-bounds-requires c κs = search needs
-
 returns : tie.Need-returns
 unfolding eps
 returns c = before-far _ _ _ _ _ _ (c .before .before .if1 .taken) (c .before .lerp .ensures) (c .param-in-bounds .ensures)
-
-lerp-requires-2 : tie.Need-lerp-requires-2
-lerp-requires-2 c κs = search needs
-
-param-in-bounds-requires-2 : tie.Need-param-in-bounds-requires-2
-param-in-bounds-requires-2 c κs = search needs
 
 returns-2 : tie.Need-returns-2
 unfolding eps
@@ -29,9 +17,9 @@ pub before-inside-spec : {M : Type 1} → statement M
 before-inside-spec =
     tie.close
     (tie.spec
-    lerp-requires
-    param-in-bounds-requires
+    (λ c κs. search needs)
+    (λ c κs. search needs)
     returns
-    lerp-requires-2
-    param-in-bounds-requires-2
+    (λ c κs. search needs)
+    (λ c κs. search needs)
     returns-2)

@@ -25,18 +25,6 @@ Inv-loop grid m n lambdas codes count points₀ starts₀ sides₀ fractions₀ 
 abbrev μ-loop : tie.MeasureT-loop
 μ-loop grid m n lambdas codes count points₀ starts₀ sides₀ fractions₀ a b pen₀ previous₀ i₀ points starts sides fractions pen previous i = count - i
 
-loop-holds : tie.Need-loop-holds Inv-loop μ-loop
-loop-holds c = search needs
-
-event-at-requires : tie.Need-event-at-requires Inv-loop μ-loop
-event-at-requires c κs = search needs
-
-add-lambda-or-one : tie.Need-add-lambda-or-one Inv-loop μ-loop
-add-lambda-or-one c = search needs
-
-lambda-or-one-requires : tie.Need-lambda-or-one-requires Inv-loop μ-loop
-lambda-or-one-requires c κs = search needs
-
 cross-event-requires : tie.Need-cross-event-requires Inv-loop μ-loop
 cross-event-requires c κs =
     let e = c .before .before .before .before .before in
@@ -44,24 +32,6 @@ cross-event-requires c κs =
     let s = l .before .before .before .before .before .before .before .before in
     let side = event-inside (now (s .args .lambdas)) (now (s .args .codes)) (s .args .count) (l .loop .i) (s .pre .1 .0 .0) (s .pre .1 .0 .1) (s .args .m) (s .args .n) (s .pre .1 .1 .0) (e .before .loop-test .taken) (e .event-at .ensures) in
     (s .pre .0, (side, l .loop .inv .5))
-
-enum-known-crossed : tie.Need-enum-known-crossed Inv-loop μ-loop
-enum-known-crossed c = search needs
-
-enum-known-refusal : tie.Need-enum-known-refusal Inv-loop μ-loop
-enum-known-refusal c = search needs
-
-same-length : tie.Need-same-length Inv-loop μ-loop
-same-length c = search needs
-
-same-length-2 : tie.Need-same-length-2 Inv-loop μ-loop
-same-length-2 c = search needs
-
-same-length-3 : tie.Need-same-length-3 Inv-loop μ-loop
-same-length-3 c = search needs
-
-same-length-4 : tie.Need-same-length-4 Inv-loop μ-loop
-same-length-4 c = search needs
 
 returns : tie.Need-returns Inv-loop μ-loop
 returns c =
@@ -75,9 +45,6 @@ add-i : tie.Need-add-i Inv-loop μ-loop
 add-i c =
     let o = c .before .before .before .before .before .before .before .before .before .before .before .before .before .before .before .before .before .before in
     omega (arith, o .loop-test .taken, o .before .before .before .before .before .before .before .before .before .fits .count)
-
-loop-less : tie.Need-loop-less Inv-loop μ-loop
-loop-less c = search needs
 
 loop-again : tie.Need-loop-again Inv-loop μ-loop
 loop-again c =
@@ -94,18 +61,6 @@ loop-again c =
           (t .before .before .before .before .before .before .before .loop-test .taken) _ _ (t .before .before .before .before .before .before .event-at .ensures) (t .before .before .before .before .before .lambda-or-one .ensures) (l .loop .inv .6) (t .cross-event .ensures) (c .before .crossed .given .1),
     )
 
-same-length-5 : tie.Need-same-length-5 Inv-loop μ-loop
-same-length-5 c = search needs
-
-same-length-6 : tie.Need-same-length-6 Inv-loop μ-loop
-same-length-6 c = search needs
-
-same-length-7 : tie.Need-same-length-7 Inv-loop μ-loop
-same-length-7 c = search needs
-
-same-length-8 : tie.Need-same-length-8 Inv-loop μ-loop
-same-length-8 c = search needs
-
 returns-2 : tie.Need-returns-2 Inv-loop μ-loop
 returns-2 c =
     let s = c .before .before .before .before .before .before .before .before .before in
@@ -117,23 +72,23 @@ cross-events-spec =
     (tie.spec
     Inv-loop
     μ-loop
-    loop-holds
-    event-at-requires
-    add-lambda-or-one
-    lambda-or-one-requires
+    (λ c. search needs)
+    (λ c κs. search needs)
+    (λ c. search needs)
+    (λ c κs. search needs)
     cross-event-requires
-    enum-known-crossed
-    enum-known-refusal
-    same-length
-    same-length-2
-    same-length-3
-    same-length-4
+    (λ c. search needs)
+    (λ c. search needs)
+    (λ c. search needs)
+    (λ c. search needs)
+    (λ c. search needs)
+    (λ c. search needs)
     returns
     add-i
-    loop-less
+    (λ c. search needs)
     loop-again
-    same-length-5
-    same-length-6
-    same-length-7
-    same-length-8
+    (λ c. search needs)
+    (λ c. search needs)
+    (λ c. search needs)
+    (λ c. search needs)
     returns-2)

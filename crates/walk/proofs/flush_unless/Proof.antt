@@ -7,14 +7,8 @@ use Rattle.walk.proofs.flush_unless.Tie as tie
 returns : tie.Need-returns
 returns c p d f = picks-still _ p _ d f _ _ (c .if1 .taken)
 
-flush-segment-requires : tie.Need-flush-segment-requires
-flush-segment-requires c κs = search needs
-
-same-length : tie.Need-same-length
-same-length c = search needs
-
 returns-2 : tie.Need-returns-2
 returns-2 c p d f = picks-other _ _ (c .before .before .before .before .if1 .left) (c .before .before .flush-segment .ensures p d f)
 
 pub flush-unless-spec : {M : Type 1} → statement M
-flush-unless-spec = tie.close (tie.spec returns flush-segment-requires same-length returns-2)
+flush-unless-spec = tie.close (tie.spec returns (λ c κs. search needs) (λ c. search needs) returns-2)

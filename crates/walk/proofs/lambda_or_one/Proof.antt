@@ -4,12 +4,6 @@ use borrow.Author.Needs.{needs}
 use Rattle.walk.proofs.lambda_or_one.Statement.{statement}
 use Rattle.walk.proofs.lambda_or_one.Tie as tie
 
-mul-result : tie.Need-mul-result
-mul-result c = search needs
-
-shared-slice-read-result : tie.Need-shared-slice-read-result
-shared-slice-read-result c = search needs
-
 returns : tie.Need-returns
 returns c = simp (lt-ltb _ _ (c .before .if1 .taken))
 
@@ -17,4 +11,4 @@ returns-2 : tie.Need-returns-2
 returns-2 c = simp (le-ltb _ _ (c .if1 .left))
 
 pub lambda-or-one-spec : {M : Type 1} → statement M
-lambda-or-one-spec = tie.close (tie.spec mul-result shared-slice-read-result returns returns-2)
+lambda-or-one-spec = tie.close (tie.spec (λ c. search needs) (λ c. search needs) returns returns-2)

@@ -5,27 +5,6 @@ use borrow.Author.Needs.{needs}
 use Rattle.walk.proofs.push_edge_point.Statement.{statement}
 use Rattle.walk.proofs.push_edge_point.Tie as tie
 
-edge-point-requires : tie.Need-edge-point-requires
-edge-point-requires c κs = search needs
-
-enum-known-c : tie.Need-enum-known-c
-enum-known-c c = search needs
-
-push-segment-point-requires : tie.Need-push-segment-point-requires
-push-segment-point-requires c κs = search needs
-
-enum-told : tie.Need-enum-told
-enum-told c = search needs
-
-same-length : tie.Need-same-length
-same-length c = search needs
-
-same-length-2 : tie.Need-same-length-2
-same-length-2 c = search needs
-
-same-length-3 : tie.Need-same-length-3
-same-length-3 c = search needs
-
 returns : tie.Need-returns
 returns c s =
     let p = c .before .before .before .before .before .before in
@@ -42,12 +21,12 @@ pub push-edge-point-spec : {M : Type 1} → statement M
 push-edge-point-spec =
     tie.close
     (tie.spec
-    edge-point-requires
-    enum-known-c
-    push-segment-point-requires
-    enum-told
-    same-length
-    same-length-2
-    same-length-3
+    (λ c κs. search needs)
+    (λ c. search needs)
+    (λ c κs. search needs)
+    (λ c. search needs)
+    (λ c. search needs)
+    (λ c. search needs)
+    (λ c. search needs)
     returns
     returns-2)

@@ -39,33 +39,6 @@ before-none c =
     ⊎-elim (λ w. (sym (w .1 .ensures) ∙ w .3 .given .1, sym (w .4 .ensures) ∙ w .6 .given .1))
     (λ w. let out = sym (c .before .is-in-cell .ensures) ∙ w .left in (not-in-u p u0 (k .before .index-before2 .result) out, not-in-u p u0 (k .index-of2 .result) out)) (c .if1 .came)
 
-floor-i64-requires : tie.Need-floor-i64-requires
-floor-i64-requires c κs = search needs
-
-floor-i64-requires-2 : tie.Need-floor-i64-requires-2
-floor-i64-requires-2 c κs = search needs
-
-index-before-requires : tie.Need-index-before-requires
-index-before-requires c κs = search needs
-
-index-of-requires : tie.Need-index-of-requires
-index-of-requires c κs = search needs
-
-index-before-requires-2 : tie.Need-index-before-requires-2
-index-before-requires-2 c κs = search needs
-
-index-of-requires-2 : tie.Need-index-of-requires-2
-index-of-requires-2 c κs = search needs
-
-is-in-cell-requires : tie.Need-is-in-cell-requires
-is-in-cell-requires c κs = search needs
-
-try-cell-requires : tie.Need-try-cell-requires
-try-cell-requires c κs = search needs
-
-enum-known-u : tie.Need-enum-known-u
-enum-known-u c = search needs
-
 returns : tie.Need-returns
 returns c =
     let k = c .before .before .before .before .before .before in
@@ -75,15 +48,6 @@ returns c =
     let v0 = k .before .index-before2 .result in
     let v1 = k .index-of2 .result in
     first-fits (a .point) u0 u1 v0 v1 (cells k) (sym (c .before .before .before .try-cell .ensures) ∙ c .before .u .given .1)
-
-enum-told : tie.Need-enum-told
-enum-told c = search needs
-
-try-cell-requires-2 : tie.Need-try-cell-requires-2
-try-cell-requires-2 c κs = search needs
-
-enum-known-u-2 : tie.Need-enum-known-u-2
-enum-known-u-2 c = search needs
 
 returns-2 : tie.Need-returns-2
 returns-2 c =
@@ -95,18 +59,6 @@ returns-2 c =
     let v1 = k .index-of2 .result in
     second-fits (a .point) u0 u1 v0 v1 (cells k) (sym (c .before .before .before .before .before .before .try-cell .ensures) ∙ c .before .before .before .before .enum-told .given .1) (sym (c .before .before .before .try-cell2 .ensures) ∙ c .before .u2 .given .1)
 
-enum-told-2 : tie.Need-enum-told-2
-enum-told-2 c = search needs
-
-is-in-cell-requires-2 : tie.Need-is-in-cell-requires-2
-is-in-cell-requires-2 c κs = search needs
-
-try-cell-requires-3 : tie.Need-try-cell-requires-3
-try-cell-requires-3 c κs = search needs
-
-enum-known-u-3 : tie.Need-enum-known-u-3
-enum-known-u-3 c = search needs
-
 returns-3 : tie.Need-returns-3
 returns-3 c =
     let k = c .before .before .before .before .before .before .before .before in
@@ -116,12 +68,6 @@ returns-3 c =
     let v0 = k .before .index-before2 .result in
     let v1 = k .index-of2 .result in
     third-fits (a .point) u0 u1 v0 v1 (cells k) (before-none (c .before .before .before .before .before .before)) (sym (c .before .before .before .try-cell3 .ensures) ∙ c .before .u3 .given .1)
-
-enum-told-3 : tie.Need-enum-told-3
-enum-told-3 c = search needs
-
-try-cell-requires-4 : tie.Need-try-cell-requires-4
-try-cell-requires-4 c κs = search needs
 
 returns-4 : tie.Need-returns-4
 returns-4 c =
@@ -138,25 +84,25 @@ pub diagonal-cell-at-spec : {M : Type 1} → statement M
 diagonal-cell-at-spec =
     tie.close
     (tie.spec
-    floor-i64-requires
-    floor-i64-requires-2
-    index-before-requires
-    index-of-requires
-    index-before-requires-2
-    index-of-requires-2
-    is-in-cell-requires
-    try-cell-requires
-    enum-known-u
+    (λ c κs. search needs)
+    (λ c κs. search needs)
+    (λ c κs. search needs)
+    (λ c κs. search needs)
+    (λ c κs. search needs)
+    (λ c κs. search needs)
+    (λ c κs. search needs)
+    (λ c κs. search needs)
+    (λ c. search needs)
     returns
-    enum-told
-    try-cell-requires-2
-    enum-known-u-2
+    (λ c. search needs)
+    (λ c κs. search needs)
+    (λ c. search needs)
     returns-2
-    enum-told-2
-    is-in-cell-requires-2
-    try-cell-requires-3
-    enum-known-u-3
+    (λ c. search needs)
+    (λ c κs. search needs)
+    (λ c κs. search needs)
+    (λ c. search needs)
     returns-3
-    enum-told-3
-    try-cell-requires-4
+    (λ c. search needs)
+    (λ c κs. search needs)
     returns-4)

@@ -17,9 +17,6 @@ back c = toZ-ofZ w64 (c .args .z) (c .fits .z)
 sub-index-of : tie.Need-sub-index-of
 sub-index-of c = subst (λ (z : ℤ). SFits w64 (z -ℤ pos 1)) (sym (back (c .before))) (before-fits (c .before .args .z) (ap (leZ (pos 1)) (sym (back (c .before))) ∙ c .if1 .taken) (c .before .fits .z))
 
-index-of-requires : tie.Need-index-of-requires
-index-of-requires c κs = search needs
-
 returns : tie.Need-returns
 returns c =
     let s = c .before .before in
@@ -29,4 +26,4 @@ returns-2 : tie.Need-returns-2
 returns-2 c = before-out (c .before .args .z) (c .before .args .n) (ap (leZ (pos 1)) (sym (back (c .before))) ∙ c .if1 .left)
 
 pub index-before-spec : {M : Type 1} → statement M
-index-before-spec = tie.close (tie.spec sub-index-of index-of-requires returns returns-2)
+index-before-spec = tie.close (tie.spec sub-index-of (λ c κs. search needs) returns returns-2)

@@ -6,21 +6,6 @@ use borrow.Author.Needs.{needs}
 use Rattle.edges.proofs.cell.try_cell.Statement.{statement}
 use Rattle.edges.proofs.cell.try_cell.Tie as tie
 
-enum-known-i : tie.Need-enum-known-i
-enum-known-i c = search needs
-
-enum-known-j : tie.Need-enum-known-j
-enum-known-j c = search needs
-
-on-diagonal-requires : tie.Need-on-diagonal-requires
-on-diagonal-requires c κs = search needs
-
-enum-told : tie.Need-enum-told
-enum-told c = search needs
-
-enum-told-2 : tie.Need-enum-told-2
-enum-told-2 c = search needs
-
 returns : tie.Need-returns
 returns c =
     try-yes (c .before .before .before .before .before .before .before .before .args .point) (c .before .before .before .before .before .before .i .given .1) (c .before .before .before .j .given .1)
@@ -43,11 +28,11 @@ pub try-cell-spec : {M : Type 1} → statement M
 try-cell-spec =
     tie.close
     (tie.spec
-    enum-known-i
-    enum-known-j
-    on-diagonal-requires
-    enum-told
-    enum-told-2
+    (λ c. search needs)
+    (λ c. search needs)
+    (λ c κs. search needs)
+    (λ c. search needs)
+    (λ c. search needs)
     returns
     returns-2
     returns-3

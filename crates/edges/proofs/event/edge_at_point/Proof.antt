@@ -19,17 +19,8 @@ no-u c = sym (c .before .before .integer-step .ensures) ∙ c .enum-told .given 
 no-v : (c : tie.After-enum-told2) → let a = c .before .before .before .before .before .before .before .before .args in integerStep (a .point .v) (a .n) ≡ Between
 no-v c = sym (c .before .before .integer-step2 .ensures) ∙ c .enum-told2 .given .1
 
-param-in-bounds-requires : tie.Need-param-in-bounds-requires
-param-in-bounds-requires c κs = search needs
-
 returns : tie.Need-returns
 returns c = let a = c .before .before .args in edge-out (a .m) (a .n) (a .point) (sym (c .before .param-in-bounds .ensures) ∙ not-true _ (c .if1 .taken))
-
-integer-step-requires : tie.Need-integer-step-requires
-integer-step-requires c κs = search needs
-
-enum-known-u : tie.Need-enum-known-u
-enum-known-u c = search needs
 
 returns-2 : tie.Need-returns-2
 returns-2 c =
@@ -37,29 +28,11 @@ returns-2 c =
     let a = s .before .before .before .args in
     edge-u (a .m) (a .n) (a .point) (inside (s .before)) (sym (s .integer-step .ensures) ∙ c .before .u .given .1)
 
-enum-told : tie.Need-enum-told
-enum-told c = search needs
-
-integer-step-requires-2 : tie.Need-integer-step-requires-2
-integer-step-requires-2 c κs = search needs
-
-enum-known-v : tie.Need-enum-known-v
-enum-known-v c = search needs
-
 returns-3 : tie.Need-returns-3
 returns-3 c =
     let s = c .before .before .before in
     let a = s .before .before .before .before .before .before .args in
     edge-v (a .m) (a .n) (a .point) (inside (s .before .before .before .before)) (no-u (s .before)) (sym (s .integer-step2 .ensures) ∙ c .before .v .given .1)
-
-enum-told-2 : tie.Need-enum-told-2
-enum-told-2 c = search needs
-
-diagonal-cell-at-requires : tie.Need-diagonal-cell-at-requires
-diagonal-cell-at-requires c κs = search needs
-
-enum-known-u-2 : tie.Need-enum-known-u-2
-enum-known-u-2 c = search needs
 
 returns-4 : tie.Need-returns-4
 returns-4 c =
@@ -67,9 +40,6 @@ returns-4 c =
     let a = s .before .before .before .before .before .before .before .before .before .args in
     edge-diagonal (a .m) (a .n) (a .point) (inside (s .before .before .before .before .before .before .before)) (no-u (s .before .before .before .before)) (no-v (s .before))
     (sym (s .diagonal-cell-at .ensures) ∙ c .before .u2 .given .1)
-
-enum-told-3 : tie.Need-enum-told-3
-enum-told-3 c = search needs
 
 returns-5 : tie.Need-returns-5
 returns-5 c =
@@ -82,18 +52,18 @@ pub edge-at-point-spec : {M : Type 1} → statement M
 edge-at-point-spec =
     tie.close
     (tie.spec
-    param-in-bounds-requires
+    (λ c κs. search needs)
     returns
-    integer-step-requires
-    enum-known-u
+    (λ c κs. search needs)
+    (λ c. search needs)
     returns-2
-    enum-told
-    integer-step-requires-2
-    enum-known-v
+    (λ c. search needs)
+    (λ c κs. search needs)
+    (λ c. search needs)
     returns-3
-    enum-told-2
-    diagonal-cell-at-requires
-    enum-known-u-2
+    (λ c. search needs)
+    (λ c κs. search needs)
+    (λ c. search needs)
     returns-4
-    enum-told-3
+    (λ c. search needs)
     returns-5)

@@ -7,21 +7,6 @@ use borrow.Author.Needs.{needs}
 use Rattle.edges.proofs.event.line_candidate.Statement.{statement}
 use Rattle.edges.proofs.event.line_candidate.Tie as tie
 
-along-requires : tie.Need-along-requires
-along-requires c κs = search needs
-
-along-requires-2 : tie.Need-along-requires-2
-along-requires-2 c κs = search needs
-
-lambda-at-requires : tie.Need-lambda-at-requires
-lambda-at-requires c κs = search needs
-
-enum-known-lambda : tie.Need-enum-known-lambda
-enum-known-lambda c = search needs
-
-enum-told : tie.Need-enum-told
-enum-told c = search needs
-
 -- the lambda that was found is the line's
 found : (c : tie.After-lambda-at) → let a = c .before .before .before .args in c .lambda-at .result ≡ lambdaAt (a .step) (along (a .axis) (a .a)) (change (a .axis) (a .a) (a .b))
 found c =
@@ -33,18 +18,6 @@ returns c =
     let l = c .before .before in
     let a = l .before .before .before .args in
     line-off (a .a) (a .b) (found l) (a .axis) (a .steps) (a .step) (c .enum-told .given .1)
-
-lerp-requires : tie.Need-lerp-requires
-lerp-requires c κs = search needs
-
-across-requires : tie.Need-across-requires
-across-requires c κs = search needs
-
-line-at-requires : tie.Need-line-at-requires
-line-at-requires c κs = search needs
-
-on-line-requires : tie.Need-on-line-requires
-on-line-requires c κs = search needs
 
 returns-2 : tie.Need-returns-2
 returns-2 c =
@@ -58,14 +31,14 @@ pub line-candidate-spec : {M : Type 1} → statement M
 line-candidate-spec =
     tie.close
     (tie.spec
-    along-requires
-    along-requires-2
-    lambda-at-requires
-    enum-known-lambda
-    enum-told
+    (λ c κs. search needs)
+    (λ c κs. search needs)
+    (λ c κs. search needs)
+    (λ c. search needs)
+    (λ c. search needs)
     returns
-    lerp-requires
-    across-requires
-    line-at-requires
-    on-line-requires
+    (λ c κs. search needs)
+    (λ c κs. search needs)
+    (λ c κs. search needs)
+    (λ c κs. search needs)
     returns-2)

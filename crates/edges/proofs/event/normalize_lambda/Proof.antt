@@ -6,12 +6,6 @@ use borrow.Author.Needs.{needs}
 use Rattle.edges.proofs.event.normalize_lambda.Statement.{statement}
 use Rattle.edges.proofs.event.normalize_lambda.Tie as tie
 
-is-within-requires : tie.Need-is-within-requires
-is-within-requires c κs = search needs
-
-clamp-requires : tie.Need-clamp-requires
-clamp-requires c κs = search needs
-
 returns : tie.Need-returns
 unfolding normalizeLambda
 returns c = simp (sym (c .before .before .is-within .ensures) ∙ c .before .if1 .taken) (ap Lambda (c .clamp .ensures))
@@ -21,4 +15,4 @@ unfolding normalizeLambda
 returns-2 c = simp (sym (c .before .is-within .ensures) ∙ c .if1 .left)
 
 pub normalize-lambda-spec : {M : Type 1} → statement M
-normalize-lambda-spec = tie.close (tie.spec is-within-requires clamp-requires returns returns-2)
+normalize-lambda-spec = tie.close (tie.spec (λ c κs. search needs) (λ c κs. search needs) returns returns-2)

@@ -9,12 +9,6 @@ use Rattle.edges.proofs.event.on_line.Tie as tie
 test : (c : tie.After-is-within) → within (c .before .before .args .x) (natFloat (c .before .before .args .steps)) ≡ c .is-within .result
 test c = ap (within (c .before .before .args .x)) (sym (c .before .to-f64 .ensures)) ∙ sym (c .is-within .ensures)
 
-to-f64-requires : tie.Need-to-f64-requires
-to-f64-requires c κs = search needs
-
-is-within-requires : tie.Need-is-within-requires
-is-within-requires c κs = search needs
-
 returns : tie.Need-returns
 returns c = simp (test (c .before) ∙ c .if1 .taken)
 
@@ -22,4 +16,4 @@ returns-2 : tie.Need-returns-2
 returns-2 c = simp (test (c .before) ∙ c .if1 .left)
 
 pub on-line-spec : {M : Type 1} → statement M
-on-line-spec = tie.close (tie.spec to-f64-requires is-within-requires returns returns-2)
+on-line-spec = tie.close (tie.spec (λ c κs. search needs) (λ c κs. search needs) returns returns-2)

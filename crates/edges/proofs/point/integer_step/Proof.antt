@@ -18,18 +18,6 @@ tests : (c : tie.After-to-f64) →
     && (le zero64 (rounded (c .before .before .before .args .value)) && le (rounded (c .before .before .before .args .value)) (natFloat (c .before .before .before .args .steps)))
 tests c = cc
 
-round-requires : tie.Need-round-requires
-round-requires c κs = search needs
-
-abs-requires : tie.Need-abs-requires
-abs-requires c κs = search needs
-
-to-f64-requires : tie.Need-to-f64-requires
-to-f64-requires c κs = search needs
-
-to-usize-requires : tie.Need-to-usize-requires
-to-usize-requires c κs = search needs
-
 returns : tie.Need-returns
 unfolding integerStep eps
 returns c =
@@ -42,4 +30,4 @@ returns-2 c = simp (sym (tests (c .before)) ∙ c .if1 .left)
 pub integer-step-spec : {M : Type 1} → statement M
 integer-step-spec =
     tie.close
-    (tie.spec round-requires abs-requires to-f64-requires to-usize-requires returns returns-2)
+    (tie.spec (λ c κs. search needs) (λ c κs. search needs) (λ c κs. search needs) (λ c κs. search needs) returns returns-2)

@@ -7,23 +7,14 @@ use borrow.Author.Needs.{needs}
 use Rattle.edges.proofs.scratch.code_of.Statement.{statement}
 use Rattle.edges.proofs.scratch.code_of.Tie as tie
 
-enum-known-edge : tie.Need-enum-known-edge
-enum-known-edge c = search needs
-
 cast-result : tie.Need-cast-result
 cast-result c = omega (arith, inside-u 255 255 (c .before .edge .given .1) (c .before .before .before .pre))
-
-enum-known-edge-2 : tie.Need-enum-known-edge-2
-enum-known-edge-2 c = search needs
 
 cast-result-2 : tie.Need-cast-result-2
 cast-result-2 c = omega (arith, inside-v 255 255 (c .before .edge2 .given .1) (c .before .before .before .pre))
 
 add-result : tie.Need-add-result
 add-result c = omega (arith, inside-v 255 255 (c .before .edge2 .given .1) (c .before .before .before .pre))
-
-enum-known-edge-3 : tie.Need-enum-known-edge-3
-enum-known-edge-3 c = search needs
 
 cast-result-3 : tie.Need-cast-result-3
 cast-result-3 c = let h = inside-diagonal 255 255 (c .before .edge3 .given .1) (c .before .before .before .pre) in omega arith
@@ -56,12 +47,12 @@ pub code-of-spec : {M : Type 1} → statement M
 code-of-spec =
     tie.close
     (tie.spec
-    enum-known-edge
+    (λ c. search needs)
     cast-result
-    enum-known-edge-2
+    (λ c. search needs)
     cast-result-2
     add-result
-    enum-known-edge-3
+    (λ c. search needs)
     cast-result-3
     mul-result
     add-result-2

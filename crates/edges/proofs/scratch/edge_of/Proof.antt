@@ -9,22 +9,13 @@ returns : tie.Need-returns
 unfolding edgeOf
 returns c = simp (lt-ltb _ _ (c .if1 .taken))
 
-cast-t6 : tie.Need-cast-t6
-cast-t6 c = search needs
-
 returns-2 : tie.Need-returns-2
 unfolding edgeOf
 returns-2 c = simp (le-ltb _ _ (c .before .if1 .left), lt-ltb _ _ (c .if2 .taken))
-
-cast-t8 : tie.Need-cast-t8
-cast-t8 c = search needs
-
-cast-t10 : tie.Need-cast-t10
-cast-t10 c = search needs
 
 returns-3 : tie.Need-returns-3
 unfolding edgeOf
 returns-3 c = simp (le-ltb _ _ (c .before .if1 .left), le-ltb _ _ (c .if2 .left))
 
 pub edge-of-spec : {M : Type 1} → statement M
-edge-of-spec = tie.close (tie.spec returns cast-t6 returns-2 cast-t8 cast-t10 returns-3)
+edge-of-spec = tie.close (tie.spec returns (λ c. search needs) returns-2 (λ c. search needs) (λ c. search needs) returns-3)

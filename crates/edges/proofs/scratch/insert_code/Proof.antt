@@ -18,27 +18,6 @@ abbrev μ-loop : tie.MeasureT-loop
 loop-holds : tie.Need-loop-holds Inv-loop μ-loop
 loop-holds c = (search needs, search needs, search needs, moved-none (c .args .codes .now) (c .args .count) (c .pre .1))
 
-sub-codes : tie.Need-sub-codes Inv-loop μ-loop
-sub-codes c = search needs
-
-mul-codes : tie.Need-mul-codes Inv-loop μ-loop
-mul-codes c = search needs
-
-slice-read-codes : tie.Need-slice-read-codes Inv-loop μ-loop
-slice-read-codes c = search needs
-
-mul-codes-2 : tie.Need-mul-codes-2 Inv-loop μ-loop
-mul-codes-2 c = search needs
-
-slice-write-codes : tie.Need-slice-write-codes Inv-loop μ-loop
-slice-write-codes c = search needs
-
-sub-i : tie.Need-sub-i Inv-loop μ-loop
-sub-i c = search needs
-
-loop-less : tie.Need-loop-less Inv-loop μ-loop
-loop-less c = search needs
-
 loop-again : tie.Need-loop-again Inv-loop μ-loop
 loop-again c =
     let s = c .before .before .before in
@@ -46,15 +25,6 @@ loop-again c =
     let t : s .args .place < l .i = c .before .loop-test .taken in
     let h : s .args .count < length (l .codes) = omega (arith, l .inv .2, s .pre .1) in
     (search needs, search needs, search needs, moved-on (s .args .codes .now) (s .args .count) (l .codes) h (l .i) (l .i - 1) 0 (s .pre .1) (omega arith) (l .inv .1) (l .inv .3))
-
-mul-codes-3 : tie.Need-mul-codes-3 Inv-loop μ-loop
-mul-codes-3 c = search needs
-
-slice-write-codes-2 : tie.Need-slice-write-codes-2 Inv-loop μ-loop
-slice-write-codes-2 c = search needs
-
-same-length : tie.Need-same-length Inv-loop μ-loop
-same-length c = search needs
 
 returns : tie.Need-returns Inv-loop μ-loop
 returns c =
@@ -71,15 +41,15 @@ insert-code-spec =
     Inv-loop
     μ-loop
     loop-holds
-    sub-codes
-    mul-codes
-    slice-read-codes
-    mul-codes-2
-    slice-write-codes
-    sub-i
-    loop-less
+    (λ c. search needs)
+    (λ c. search needs)
+    (λ c. search needs)
+    (λ c. search needs)
+    (λ c. search needs)
+    (λ c. search needs)
+    (λ c. search needs)
     loop-again
-    mul-codes-3
-    slice-write-codes-2
-    same-length
+    (λ c. search needs)
+    (λ c. search needs)
+    (λ c. search needs)
     returns)

@@ -12,24 +12,6 @@ use borrow.Author.Needs.{needs}
 use Rattle.edges.proofs.scratch.insert_event.Statement.{statement}
 use Rattle.edges.proofs.scratch.insert_event.Tie as tie
 
-place-of-requires : tie.Need-place-of-requires
-place-of-requires c κs = search needs
-
-insert-lambda-requires : tie.Need-insert-lambda-requires
-insert-lambda-requires c κs = search needs
-
-code-of-requires : tie.Need-code-of-requires
-code-of-requires c κs = search needs
-
-insert-code-requires : tie.Need-insert-code-requires
-insert-code-requires c κs = search needs
-
-same-length : tie.Need-same-length
-same-length c = search needs
-
-same-length-2 : tie.Need-same-length-2
-same-length-2 c = search needs
-
 returns : tie.Need-returns
 returns c =
     let x = c .before .before in
@@ -52,10 +34,10 @@ pub insert-event-spec : {M : Type 1} → statement M
 insert-event-spec =
     tie.close
     (tie.spec
-    place-of-requires
-    insert-lambda-requires
-    code-of-requires
-    insert-code-requires
-    same-length
-    same-length-2
+    (λ c κs. search needs)
+    (λ c κs. search needs)
+    (λ c κs. search needs)
+    (λ c κs. search needs)
+    (λ c. search needs)
+    (λ c. search needs)
     returns)

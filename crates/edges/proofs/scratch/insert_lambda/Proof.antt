@@ -19,27 +19,6 @@ abbrev μ-loop : tie.MeasureT-loop
 loop-holds : tie.Need-loop-holds Inv-loop μ-loop
 loop-holds c = (search needs, search needs, search needs, moved-none (c .args .lambdas .now) (c .args .count) (c .pre .1))
 
-sub-lambdas : tie.Need-sub-lambdas Inv-loop μ-loop
-sub-lambdas c = search needs
-
-mul-lambdas : tie.Need-mul-lambdas Inv-loop μ-loop
-mul-lambdas c = search needs
-
-slice-read-lambdas : tie.Need-slice-read-lambdas Inv-loop μ-loop
-slice-read-lambdas c = search needs
-
-mul-lambdas-2 : tie.Need-mul-lambdas-2 Inv-loop μ-loop
-mul-lambdas-2 c = search needs
-
-slice-write-lambdas : tie.Need-slice-write-lambdas Inv-loop μ-loop
-slice-write-lambdas c = search needs
-
-sub-i : tie.Need-sub-i Inv-loop μ-loop
-sub-i c = search needs
-
-loop-less : tie.Need-loop-less Inv-loop μ-loop
-loop-less c = search needs
-
 loop-again : tie.Need-loop-again Inv-loop μ-loop
 loop-again c =
     let s = c .before .before .before in
@@ -47,15 +26,6 @@ loop-again c =
     let t : s .args .place < l .i = c .before .loop-test .taken in
     let h : s .args .count < length (l .lambdas) = omega (arith, l .inv .2, s .pre .1) in
     (search needs, search needs, search needs, moved-on (s .args .lambdas .now) (s .args .count) (l .lambdas) h (l .i) (l .i - 1) nan (s .pre .1) (omega arith) (l .inv .1) (l .inv .3))
-
-mul-lambdas-3 : tie.Need-mul-lambdas-3 Inv-loop μ-loop
-mul-lambdas-3 c = search needs
-
-slice-write-lambdas-2 : tie.Need-slice-write-lambdas-2 Inv-loop μ-loop
-slice-write-lambdas-2 c = search needs
-
-same-length : tie.Need-same-length Inv-loop μ-loop
-same-length c = search needs
 
 returns : tie.Need-returns Inv-loop μ-loop
 returns c =
@@ -72,15 +42,15 @@ insert-lambda-spec =
     Inv-loop
     μ-loop
     loop-holds
-    sub-lambdas
-    mul-lambdas
-    slice-read-lambdas
-    mul-lambdas-2
-    slice-write-lambdas
-    sub-i
-    loop-less
+    (λ c. search needs)
+    (λ c. search needs)
+    (λ c. search needs)
+    (λ c. search needs)
+    (λ c. search needs)
+    (λ c. search needs)
+    (λ c. search needs)
     loop-again
-    mul-lambdas-3
-    slice-write-lambdas-2
-    same-length
+    (λ c. search needs)
+    (λ c. search needs)
+    (λ c. search needs)
     returns)

@@ -25,18 +25,6 @@ returns c =
     let a = c .before .before .args in
     record { most = search needs; after = after-none (a .lambda) (a .lambdas .now); before = λ h. absurd (omega arith) }
 
-sub-high : tie.Need-sub-high Inv-loop μ-loop
-sub-high c = search needs
-
-mul-precedes : tie.Need-mul-precedes Inv-loop μ-loop
-mul-precedes c = search needs
-
-shared-slice-read-precedes : tie.Need-shared-slice-read-precedes Inv-loop μ-loop
-shared-slice-read-precedes c = search needs
-
-precedes-requires : tie.Need-precedes-requires Inv-loop μ-loop
-precedes-requires c κs = search needs
-
 returns-2 : tie.Need-returns-2 Inv-loop μ-loop
 returns-2 c =
     let a = c .before .before .before .before .before .args in
@@ -51,32 +39,8 @@ loop-holds c =
     let a = c .before .before .before .before .before .args in
     (search needs, search needs, after-none (a .lambda) (a .lambdas .now), sym (c .before .precedes .ensures) ∙ not-false _ (c .if2 .left))
 
-sub-middle : tie.Need-sub-middle Inv-loop μ-loop
-sub-middle c = search needs
-
-add-middle : tie.Need-add-middle Inv-loop μ-loop
-add-middle c = search needs
-
-mul-precedes-2 : tie.Need-mul-precedes-2 Inv-loop μ-loop
-mul-precedes-2 c = search needs
-
-shared-slice-read-precedes-2 : tie.Need-shared-slice-read-precedes-2 Inv-loop μ-loop
-shared-slice-read-precedes-2 c = search needs
-
-precedes-requires-2 : tie.Need-precedes-requires-2 Inv-loop μ-loop
-precedes-requires-2 c κs = search needs
-
-loop-less : tie.Need-loop-less Inv-loop μ-loop
-loop-less c = search needs
-
 loop-again : tie.Need-loop-again Inv-loop μ-loop
 loop-again c = (search needs, search needs, c .before .before .before .before .loop .inv .2, sym (c .before .precedes2 .ensures) ∙ c .if3 .taken)
-
-add-low : tie.Need-add-low Inv-loop μ-loop
-add-low c = search needs
-
-loop-less-2 : tie.Need-loop-less-2 Inv-loop μ-loop
-loop-less-2 c = search needs
 
 loop-again-2 : tie.Need-loop-again-2 Inv-loop μ-loop
 loop-again-2 c =
@@ -101,20 +65,20 @@ place-of-spec =
     Inv-loop
     μ-loop
     returns
-    sub-high
-    mul-precedes
-    shared-slice-read-precedes
-    precedes-requires
+    (λ c. search needs)
+    (λ c. search needs)
+    (λ c. search needs)
+    (λ c κs. search needs)
     returns-2
     loop-holds
-    sub-middle
-    add-middle
-    mul-precedes-2
-    shared-slice-read-precedes-2
-    precedes-requires-2
-    loop-less
+    (λ c. search needs)
+    (λ c. search needs)
+    (λ c. search needs)
+    (λ c. search needs)
+    (λ c κs. search needs)
+    (λ c. search needs)
     loop-again
-    add-low
-    loop-less-2
+    (λ c. search needs)
+    (λ c. search needs)
     loop-again-2
     returns-3)

@@ -5,18 +5,6 @@ use borrow.Author.Needs.{needs}
 use Rattle.edges.proofs.scratch.precedes.Statement.{statement}
 use Rattle.edges.proofs.scratch.precedes.Tie as tie
 
-total-cmp-requires : tie.Need-total-cmp-requires
-total-cmp-requires c κs = search needs
-
-enum-told : tie.Need-enum-told
-enum-told c = search needs
-
-enum-told-2 : tie.Need-enum-told-2
-enum-told-2 c = search needs
-
-enum-told-3 : tie.Need-enum-told-3
-enum-told-3 c = search needs
-
 returns : tie.Need-returns
 returns c = ap precedes (sym (c .enum-told .given .1) ∙ c .before .before .total-cmp .ensures)
 
@@ -29,4 +17,4 @@ returns-3 c = ap precedes (sym (c .enum-told3 .given .1) ∙ c .before .before .
 pub precedes-spec : {M : Type 1} → statement M
 precedes-spec =
     tie.close
-    (tie.spec total-cmp-requires enum-told enum-told-2 enum-told-3 returns returns-2 returns-3)
+    (tie.spec (λ c κs. search needs) (λ c. search needs) (λ c. search needs) (λ c. search needs) returns returns-2 returns-3)

@@ -23,28 +23,10 @@ abbrev μ-loop : tie.MeasureT-loop
 returns : tie.Need-returns Inv-loop μ-loop
 returns c = (search needs, keeping-none _ _ (c .if1 .taken))
 
-slice-read-last : tie.Need-slice-read-last Inv-loop μ-loop
-slice-read-last c = search needs
-
 loop-holds : tie.Need-loop-holds Inv-loop μ-loop
 loop-holds c =
     let s = c .before .before .before .before in
     (search needs, search needs, search needs, search needs, search needs, keeping-starts (s .args .lambdas .now) (s .args .codes .now) (s .args .count) (s .pre .1) (s .pre .0) (search needs))
-
-mul-lambda : tie.Need-mul-lambda Inv-loop μ-loop
-mul-lambda c = search needs
-
-slice-read-lambda : tie.Need-slice-read-lambda Inv-loop μ-loop
-slice-read-lambda c = search needs
-
-abs-requires : tie.Need-abs-requires Inv-loop μ-loop
-abs-requires c κs = search needs
-
-add-i : tie.Need-add-i Inv-loop μ-loop
-add-i c = search needs
-
-loop-less : tie.Need-loop-less Inv-loop μ-loop
-loop-less c = search needs
 
 loop-again : tie.Need-loop-again Inv-loop μ-loop
 unfolding eps
@@ -61,33 +43,6 @@ loop-again c =
           (ap (λ (y : Float). lt y eps) (sym (c .before .abs .ensures)) ∙ c .if2 .taken),
     )
 
-mul-lambdas : tie.Need-mul-lambdas Inv-loop μ-loop
-mul-lambdas c = search needs
-
-slice-write-lambdas : tie.Need-slice-write-lambdas Inv-loop μ-loop
-slice-write-lambdas c = search needs
-
-mul-codes : tie.Need-mul-codes Inv-loop μ-loop
-mul-codes c = search needs
-
-slice-read-codes : tie.Need-slice-read-codes Inv-loop μ-loop
-slice-read-codes c = search needs
-
-mul-codes-2 : tie.Need-mul-codes-2 Inv-loop μ-loop
-mul-codes-2 c = search needs
-
-slice-write-codes : tie.Need-slice-write-codes Inv-loop μ-loop
-slice-write-codes c = search needs
-
-add-kept : tie.Need-add-kept Inv-loop μ-loop
-add-kept c = search needs
-
-add-i-2 : tie.Need-add-i-2 Inv-loop μ-loop
-add-i-2 c = search needs
-
-loop-less-2 : tie.Need-loop-less-2 Inv-loop μ-loop
-loop-less-2 c = search needs
-
 loop-again-2 : tie.Need-loop-again-2 Inv-loop μ-loop
 unfolding eps
 loop-again-2 c =
@@ -103,12 +58,6 @@ loop-again-2 c =
           (l .inv .1) (ap (λ (y : Float). lt y eps) (sym (c .before .before .abs .ensures)) ∙ c .before .if2 .left),
     )
 
-same-length : tie.Need-same-length Inv-loop μ-loop
-same-length c = search needs
-
-same-length-2 : tie.Need-same-length-2 Inv-loop μ-loop
-same-length-2 c = search needs
-
 returns-2 : tie.Need-returns-2 Inv-loop μ-loop
 returns-2 c =
     let l = c .before .loop in
@@ -122,24 +71,24 @@ unique-spec =
     Inv-loop
     μ-loop
     returns
-    slice-read-last
+    (λ c. search needs)
     loop-holds
-    mul-lambda
-    slice-read-lambda
-    abs-requires
-    add-i
-    loop-less
+    (λ c. search needs)
+    (λ c. search needs)
+    (λ c κs. search needs)
+    (λ c. search needs)
+    (λ c. search needs)
     loop-again
-    mul-lambdas
-    slice-write-lambdas
-    mul-codes
-    slice-read-codes
-    mul-codes-2
-    slice-write-codes
-    add-kept
-    add-i-2
-    loop-less-2
+    (λ c. search needs)
+    (λ c. search needs)
+    (λ c. search needs)
+    (λ c. search needs)
+    (λ c. search needs)
+    (λ c. search needs)
+    (λ c. search needs)
+    (λ c. search needs)
+    (λ c. search needs)
     loop-again-2
-    same-length
-    same-length-2
+    (λ c. search needs)
+    (λ c. search needs)
     returns-2)

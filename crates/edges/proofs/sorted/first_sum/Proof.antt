@@ -15,15 +15,6 @@ reached c =
     let z = c .before in
     c .count-of .ensures .0 ∙ ap count (toZ-ofZ w64 (z .ceil-i64 .result) (record { sfits = z .ceil-i64 .ok }) ∙ z .ceil-i64 .ensures ∙ ap ceilZ (z .before .low-sum .ensures))
 
-low-sum-requires : tie.Need-low-sum-requires
-low-sum-requires c κs = search needs
-
-ceil-i64-requires : tie.Need-ceil-i64-requires
-ceil-i64-requires c κs = search needs
-
-count-of-requires : tie.Need-count-of-requires
-count-of-requires c κs = search needs
-
 returns : tie.Need-returns
 returns c = let a = c .before .before .before .before .args in at-least-one (count (ceilZ (lowSum (a .a) (a .b)))) (reached (c .before)) (c .if1 .taken)
 
@@ -32,4 +23,4 @@ returns-2 c = let a = c .before .before .before .before .args in above-one (coun
 
 pub first-sum-spec : {M : Type 1} → statement M
 first-sum-spec =
-    tie.close (tie.spec low-sum-requires ceil-i64-requires count-of-requires returns returns-2)
+    tie.close (tie.spec (λ c κs. search needs) (λ c κs. search needs) (λ c κs. search needs) returns returns-2)

@@ -17,24 +17,6 @@ reached c =
     let z = c .before in
     c .count-of .ensures .0 ∙ ap count (toZ-ofZ w64 (z .floor-i64 .result) (record { sfits = z .floor-i64 .ok }) ∙ z .floor-i64 .ensures ∙ ap floorZ (z .before .high-sum .ensures))
 
-high-sum-requires : tie.Need-high-sum-requires
-high-sum-requires c κs = search needs
-
-floor-i64-requires : tie.Need-floor-i64-requires
-floor-i64-requires c κs = search needs
-
-count-of-requires : tie.Need-count-of-requires
-count-of-requires c κs = search needs
-
-add-past : tie.Need-add-past
-add-past c = search needs
-
-add-if1 : tie.Need-add-if1
-add-if1 c = search needs
-
-add-result : tie.Need-add-result
-add-result c = search needs
-
 returns : tie.Need-returns
 returns c = let a = c .before .before .before .before .args in below-top (a .m + a .n) (count (floorZ (highSum (a .a) (a .b)))) (reached (c .before)) (c .if1 .taken)
 
@@ -45,11 +27,11 @@ pub past-sum-spec : {M : Type 1} → statement M
 past-sum-spec =
     tie.close
     (tie.spec
-    high-sum-requires
-    floor-i64-requires
-    count-of-requires
-    add-past
-    add-if1
-    add-result
+    (λ c κs. search needs)
+    (λ c κs. search needs)
+    (λ c κs. search needs)
+    (λ c. search needs)
+    (λ c. search needs)
+    (λ c. search needs)
     returns
     returns-2)

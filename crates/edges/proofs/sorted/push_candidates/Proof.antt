@@ -18,9 +18,6 @@ few c =
     sum : (m n : ℕ) {e u v d : ℕ} → m ≤ 255 → n ≤ 255 → e ≤ 2 → u ≤ e + (m + 1) → v ≤ u + (n + 1) → d ≤ v + (m + n - 1) → d ≤ 1023
     sum m n hm hn he hu hv hd = omega arith
 
-push-ends-requires : tie.Need-push-ends-requires
-push-ends-requires c κs = search needs
-
 push-lines-requires : tie.Need-push-lines-requires
 push-lines-requires c κs = (search needs, c .before .before .before .before .before .before .push-ends .ensures .2)
 
@@ -29,12 +26,6 @@ push-lines-requires-2 c κs = (search needs, c .before .before .before .before .
 
 push-diagonals-requires : tie.Need-push-diagonals-requires
 push-diagonals-requires c κs = (search needs, c .before .before .before .before .before .before .push-lines2 .ensures .2)
-
-same-length : tie.Need-same-length
-same-length c = search needs
-
-same-length-2 : tie.Need-same-length-2
-same-length-2 c = search needs
 
 returns : tie.Need-returns
 returns c =
@@ -46,10 +37,10 @@ pub push-candidates-spec : {M : Type 1} → statement M
 push-candidates-spec =
     tie.close
     (tie.spec
-    push-ends-requires
+    (λ c κs. search needs)
     push-lines-requires
     push-lines-requires-2
     push-diagonals-requires
-    same-length
-    same-length-2
+    (λ c. search needs)
+    (λ c. search needs)
     returns)

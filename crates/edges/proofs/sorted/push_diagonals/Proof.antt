@@ -22,20 +22,11 @@ Inv-loop lambdas₀ codes₀ count m n a b total₀ first past sum₀ lambdas co
 abbrev μ-loop : tie.MeasureT-loop
 μ-loop lambdas₀ codes₀ count m n a b total₀ first past sum₀ lambdas codes total sum = past - sum
 
-abs-requires : tie.Need-abs-requires Inv-loop μ-loop
-abs-requires c κs = search needs
-
 returns : tie.Need-returns Inv-loop μ-loop
 unfolding eps
 returns c =
     let a = c .before .before .before .before .before .before .before .before .args in
     (search needs, diagonals-none (a .m) (a .n) (a .a) (a .b) (eventsIn (a .lambdas .now) (a .codes .now) (a .count)) (ap (lt eps) (sym (c .before .abs .ensures)) ∙ not-true _ (c .if1 .taken)))
-
-first-sum-requires : tie.Need-first-sum-requires Inv-loop μ-loop
-first-sum-requires c κs = search needs
-
-past-sum-requires : tie.Need-past-sum-requires Inv-loop μ-loop
-past-sum-requires c κs = search needs
 
 loop-holds : tie.Need-loop-holds Inv-loop μ-loop
 unfolding eps
@@ -55,17 +46,11 @@ loop-holds c =
       c .before .before .before .before .before .before .before .before .before .before .pre .1,
     )
 
-diagonal-candidate-requires : tie.Need-diagonal-candidate-requires Inv-loop μ-loop
-diagonal-candidate-requires c κs = search needs
-
 push-candidate-requires : tie.Need-push-candidate-requires Inv-loop μ-loop
 push-candidate-requires c κs =
     let s = c .before .before .before .before .before .before .before .before .before .before .before .before .before .before .before in
     let l = c .before .before .before .before .loop in
     (search needs, search needs, diagonal-storable (s .args .m) (s .args .n) (s .pre .0 .u-steps) (s .pre .0 .v-steps) (s .args .a) (s .args .b) (l .sum) (c .diagonal-candidate .ensures), l .inv .8)
-
-add-sum : tie.Need-add-sum Inv-loop μ-loop
-add-sum c = search needs
 
 loop-less : tie.Need-loop-less Inv-loop μ-loop
 loop-less c = shorter (c .before .before .before .before .before .before .before .before .before .before .past-sum .result) (c .before .before .before .before .before .before .before .before .before .loop .sum) (c .before .before .before .before .before .before .before .before .loop-test .taken)
@@ -86,12 +71,6 @@ loop-again c =
       c .before .before .before .before .push-candidate .ensures .2,
     )
 
-same-length : tie.Need-same-length Inv-loop μ-loop
-same-length c = search needs
-
-same-length-2 : tie.Need-same-length-2 Inv-loop μ-loop
-same-length-2 c = search needs
-
 returns-2 : tie.Need-returns-2 Inv-loop μ-loop
 returns-2 c =
     let s = c .before .before .before .before .before .before .before .before .before .before .before .before in
@@ -104,16 +83,16 @@ push-diagonals-spec =
     (tie.spec
     Inv-loop
     μ-loop
-    abs-requires
+    (λ c κs. search needs)
     returns
-    first-sum-requires
-    past-sum-requires
+    (λ c κs. search needs)
+    (λ c κs. search needs)
     loop-holds
-    diagonal-candidate-requires
+    (λ c κs. search needs)
     push-candidate-requires
-    add-sum
+    (λ c. search needs)
     loop-less
     loop-again
-    same-length
-    same-length-2
+    (λ c. search needs)
+    (λ c. search needs)
     returns-2)

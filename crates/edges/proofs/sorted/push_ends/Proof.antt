@@ -10,18 +10,6 @@ use borrow.Author.Needs.{needs}
 use Rattle.edges.proofs.sorted.push_ends.Statement.{statement}
 use Rattle.edges.proofs.sorted.push_ends.Tie as tie
 
-edge-at-point-requires : tie.Need-edge-at-point-requires
-edge-at-point-requires c κs = search needs
-
-end-candidate-requires : tie.Need-end-candidate-requires
-end-candidate-requires c κs = search needs
-
-edge-at-point-requires-2 : tie.Need-edge-at-point-requires-2
-edge-at-point-requires-2 c κs = search needs
-
-end-candidate-requires-2 : tie.Need-end-candidate-requires-2
-end-candidate-requires-2 c κs = search needs
-
 push-candidate-requires : tie.Need-push-candidate-requires
 push-candidate-requires c κs =
     let s = c .before .before .before .before .before .before .before .before in
@@ -31,12 +19,6 @@ push-candidate-requires-2 : tie.Need-push-candidate-requires-2
 push-candidate-requires-2 c κs =
     let s = c .before .before .before .before .before .before .before .before .before .before .before .before .before .before .before in
     (search needs, search needs, end-storable (s .args .m) (s .args .n) (s .pre .u-steps) (s .pre .v-steps) one64 (s .args .b) one-on-step (c .before .before .before .before .before .before .before .before .before .before .edge-at-point2 .ensures) (c .before .before .before .before .before .before .before .before .before .end-candidate2 .ensures), c .before .before .before .before .before .before .push-candidate .ensures .2)
-
-same-length : tie.Need-same-length
-same-length c = search needs
-
-same-length-2 : tie.Need-same-length-2
-same-length-2 c = search needs
 
 returns : tie.Need-returns
 returns c =
@@ -56,12 +38,12 @@ pub push-ends-spec : {M : Type 1} → statement M
 push-ends-spec =
     tie.close
     (tie.spec
-    edge-at-point-requires
-    end-candidate-requires
-    edge-at-point-requires-2
-    end-candidate-requires-2
+    (λ c κs. search needs)
+    (λ c κs. search needs)
+    (λ c κs. search needs)
+    (λ c κs. search needs)
     push-candidate-requires
     push-candidate-requires-2
-    same-length
-    same-length-2
+    (λ c. search needs)
+    (λ c. search needs)
     returns)

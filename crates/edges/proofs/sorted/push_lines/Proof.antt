@@ -22,15 +22,6 @@ Inv-loop lambdas₀ codes₀ count axis along across a b total₀ step₀ step-e
 abbrev μ-loop : tie.MeasureT-loop
 μ-loop lambdas₀ codes₀ count axis along across a b total₀ step₀ step-end lambdas codes total step = step-end - step
 
-along-requires : tie.Need-along-requires Inv-loop μ-loop
-along-requires c κs = search needs
-
-along-requires-2 : tie.Need-along-requires-2 Inv-loop μ-loop
-along-requires-2 c κs = search needs
-
-abs-requires : tie.Need-abs-requires Inv-loop μ-loop
-abs-requires c κs = search needs
-
 -- by how much the axis changes, as it was found
 changed : (c : tie.After-abs Inv-loop μ-loop) → let a = c .before .before .before .before .before .args in sub binary64 (c .before .before .along .result) (c .before .along2 .result) ≡ change (a .axis) (a .a) (a .b)
 changed c = let a = c .before .before .before .before .before .args in changes (a .axis) (a .a) (a .b) (c .before .before .along .ensures) (c .before .along2 .ensures)
@@ -41,29 +32,11 @@ returns c =
     let a = c .before .before .before .before .before .before .args in
     (search needs, lines-none (a .axis) (a .along) (a .across) (a .a) (a .b) (eventsIn (a .lambdas .now) (a .codes .now) (a .count)) (changed (c .before)) (ap (lt eps) (sym (c .before .abs .ensures)) ∙ not-true _ (c .if1 .taken)), c .before .before .before .before .before .before .pre .1)
 
-add-step-end : tie.Need-add-step-end Inv-loop μ-loop
-add-step-end c = search needs
-
 loop-holds : tie.Need-loop-holds Inv-loop μ-loop
 unfolding eps
 loop-holds c =
     let a = c .before .before .before .before .before .before .args in
     (search needs, search needs, search needs, search needs, lines-start (a .axis) (a .along) (a .across) (a .a) (a .b) (eventsIn (a .lambdas .now) (a .codes .now) (a .count)) (changed (c .before)) (ap (lt eps) (sym (c .before .abs .ensures)) ∙ not-false _ (c .if1 .left)), c .before .before .before .before .before .before .pre .1)
-
-line-candidate-requires : tie.Need-line-candidate-requires Inv-loop μ-loop
-line-candidate-requires c κs = search needs
-
-enum-known-event : tie.Need-enum-known-event Inv-loop μ-loop
-enum-known-event c = search needs
-
-enum-told : tie.Need-enum-told Inv-loop μ-loop
-enum-told c = search needs
-
-add-step : tie.Need-add-step Inv-loop μ-loop
-add-step c = search needs
-
-loop-less : tie.Need-loop-less Inv-loop μ-loop
-loop-less c = search needs
 
 loop-again : tie.Need-loop-again Inv-loop μ-loop
 loop-again c =
@@ -91,15 +64,6 @@ insert-event-requires c κs =
       t .before .loop .inv .5,
     )
 
-add-total : tie.Need-add-total Inv-loop μ-loop
-add-total c = search needs
-
-add-step-2 : tie.Need-add-step-2 Inv-loop μ-loop
-add-step-2 c = search needs
-
-loop-less-2 : tie.Need-loop-less-2 Inv-loop μ-loop
-loop-less-2 c = search needs
-
 loop-again-2 : tie.Need-loop-again-2 Inv-loop μ-loop
 loop-again-2 c =
     let e = c .before .before .before .before .before .before .before .before in
@@ -115,12 +79,6 @@ loop-again-2 c =
       c .before .before .before .before .insert-event .ensures .1,
     )
 
-same-length : tie.Need-same-length Inv-loop μ-loop
-same-length c = search needs
-
-same-length-2 : tie.Need-same-length-2 Inv-loop μ-loop
-same-length-2 c = search needs
-
 returns-2 : tie.Need-returns-2 Inv-loop μ-loop
 returns-2 c =
     let l = c .before .loop in
@@ -133,23 +91,23 @@ push-lines-spec =
     (tie.spec
     Inv-loop
     μ-loop
-    along-requires
-    along-requires-2
-    abs-requires
+    (λ c κs. search needs)
+    (λ c κs. search needs)
+    (λ c κs. search needs)
     returns
-    add-step-end
+    (λ c. search needs)
     loop-holds
-    line-candidate-requires
-    enum-known-event
-    enum-told
-    add-step
-    loop-less
+    (λ c κs. search needs)
+    (λ c. search needs)
+    (λ c. search needs)
+    (λ c. search needs)
+    (λ c. search needs)
     loop-again
     insert-event-requires
-    add-total
-    add-step-2
-    loop-less-2
+    (λ c. search needs)
+    (λ c. search needs)
+    (λ c. search needs)
     loop-again-2
-    same-length
-    same-length-2
+    (λ c. search needs)
+    (λ c. search needs)
     returns-2)

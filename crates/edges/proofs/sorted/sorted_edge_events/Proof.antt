@@ -7,18 +7,6 @@ use Rattle.edges.specs.Events.{unique, sortedEdgeEvents}
 use Rattle.edges.proofs.sorted.sorted_edge_events.Statement.{statement}
 use Rattle.edges.proofs.sorted.sorted_edge_events.Tie as tie
 
-push-candidates-requires : tie.Need-push-candidates-requires
-push-candidates-requires c κs = search needs
-
-unique-requires : tie.Need-unique-requires
-unique-requires c κs = search needs
-
-same-length : tie.Need-same-length
-same-length c = search needs
-
-same-length-2 : tie.Need-same-length-2
-same-length-2 c = search needs
-
 returns : tie.Need-returns
 unfolding sortedEdgeEvents
 returns c =
@@ -28,4 +16,4 @@ returns c =
     (omega (arith, few, all .ensures .0), kept .ensures .1 ∙ ap unique (all .ensures .1))
 
 pub sorted-edge-events-spec : {M : Type 1} → statement M
-sorted-edge-events-spec = tie.close (tie.spec push-candidates-requires unique-requires same-length same-length-2 returns)
+sorted-edge-events-spec = tie.close (tie.spec (λ c κs. search needs) (λ c κs. search needs) (λ c. search needs) (λ c. search needs) returns)

@@ -25,43 +25,10 @@ Inv-loop grid m n pairs marks points₀ starts₀ sides₀ fractions₀ lambdas�
 abbrev μ-loop : tie.MeasureT-loop
 μ-loop grid m n pairs marks points₀ starts₀ sides₀ fractions₀ lambdas₀ codes₀ pen₀ previous₀ i₀ points starts sides fractions lambdas codes pen previous i = length marks - i
 
-loop-holds : tie.Need-loop-holds Inv-loop μ-loop
-loop-holds c = search needs
-
-shared-slice-read-mark : tie.Need-shared-slice-read-mark Inv-loop μ-loop
-shared-slice-read-mark c = search needs
-
-point-of-requires : tie.Need-point-of-requires Inv-loop μ-loop
-point-of-requires c κs = search needs
-
-slice-aggregate-trace-sample : tie.Need-slice-aggregate-trace-sample Inv-loop μ-loop
-slice-aggregate-trace-sample c = search needs
-
-slice-aggregate-trace-sample-2 : tie.Need-slice-aggregate-trace-sample-2 Inv-loop μ-loop
-slice-aggregate-trace-sample-2 c = search needs
-
 trace-sample-requires : tie.Need-trace-sample-requires Inv-loop μ-loop
 trace-sample-requires c κs =
     let l = c .before .before .before .before .before .before .before .before .before in
     ((search needs, search needs), (l .before .before .before .before .before .before .before .before .pre .0, l .loop .inv .7))
-
-enum-known-traced : tie.Need-enum-known-traced Inv-loop μ-loop
-enum-known-traced c = search needs
-
-enum-known-refusal : tie.Need-enum-known-refusal Inv-loop μ-loop
-enum-known-refusal c = search needs
-
-same-length : tie.Need-same-length Inv-loop μ-loop
-same-length c = search needs
-
-same-length-2 : tie.Need-same-length-2 Inv-loop μ-loop
-same-length-2 c = search needs
-
-same-length-3 : tie.Need-same-length-3 Inv-loop μ-loop
-same-length-3 c = search needs
-
-same-length-4 : tie.Need-same-length-4 Inv-loop μ-loop
-same-length-4 c = search needs
 
 returns : tie.Need-returns Inv-loop μ-loop
 returns c =
@@ -70,16 +37,10 @@ returns c =
     let s = l .before .before .before .before .before .before .before .before in
     trace-stops _ _ _ (now (s .args .marks)) (now (s .args .pairs)) (l .loop .i) (s .pre .1 .0) _ _ (t .before .before .before .before .before .before .before .before .before .loop-test .taken) (t .before .before .before .before .before .before .before .point-of .ensures) (l .loop .inv .8) (t .trace-sample .ensures) (c .before .refusal .given .1)
 
-after-sample-requires : tie.Need-after-sample-requires Inv-loop μ-loop
-after-sample-requires c κs = search needs
-
 add-i : tie.Need-add-i Inv-loop μ-loop
 add-i c =
     let l = c .before .before .before .before .before .before .before .before .before .before .before .before .before .before .before .before .before .before .before .before .before .before .before .before in
     omega (arith, c .before .before .before .before .before .before .before .before .before .before .before .before .before .before .before .before .before .before .before .before .before .before .before .loop-test .taken, l .before .before .before .before .before .before .before .before .pre .1 .1)
-
-loop-less : tie.Need-loop-less Inv-loop μ-loop
-loop-less c = search needs
 
 loop-again : tie.Need-loop-again Inv-loop μ-loop
 loop-again c =
@@ -100,18 +61,6 @@ loop-again c =
 flush-segment-requires : tie.Need-flush-segment-requires Inv-loop μ-loop
 flush-segment-requires c κs = c .before .before .loop .inv .7 .0
 
-same-length-5 : tie.Need-same-length-5 Inv-loop μ-loop
-same-length-5 c = search needs
-
-same-length-6 : tie.Need-same-length-6 Inv-loop μ-loop
-same-length-6 c = search needs
-
-same-length-7 : tie.Need-same-length-7 Inv-loop μ-loop
-same-length-7 c = search needs
-
-same-length-8 : tie.Need-same-length-8 Inv-loop μ-loop
-same-length-8 c = search needs
-
 returns-2 : tie.Need-returns-2 Inv-loop μ-loop
 returns-2 c =
     let s = c .before .before .before .before .before .before .before .before .before .before .before .before .before in
@@ -123,26 +72,26 @@ trace-parametric-edge-curve-spec =
     (tie.spec
     Inv-loop
     μ-loop
-    loop-holds
-    shared-slice-read-mark
-    point-of-requires
-    slice-aggregate-trace-sample
-    slice-aggregate-trace-sample-2
+    (λ c. search needs)
+    (λ c. search needs)
+    (λ c κs. search needs)
+    (λ c. search needs)
+    (λ c. search needs)
     trace-sample-requires
-    enum-known-traced
-    enum-known-refusal
-    same-length
-    same-length-2
-    same-length-3
-    same-length-4
+    (λ c. search needs)
+    (λ c. search needs)
+    (λ c. search needs)
+    (λ c. search needs)
+    (λ c. search needs)
+    (λ c. search needs)
     returns
-    after-sample-requires
+    (λ c κs. search needs)
     add-i
-    loop-less
+    (λ c. search needs)
     loop-again
     flush-segment-requires
-    same-length-5
-    same-length-6
-    same-length-7
-    same-length-8
+    (λ c. search needs)
+    (λ c. search needs)
+    (λ c. search needs)
+    (λ c. search needs)
     returns-2)

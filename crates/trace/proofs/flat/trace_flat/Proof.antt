@@ -7,20 +7,11 @@ use borrow.Author.Needs.{needs}
 use Rattle.trace.proofs.flat.trace_flat.Statement.{statement}
 use Rattle.trace.proofs.flat.trace_flat.Tie as tie
 
-check-trace-requires : tie.Need-check-trace-requires
-check-trace-requires c κs = search needs
-
-enum-known-refusal : tie.Need-enum-known-refusal
-enum-known-refusal c = search needs
-
 returns : tie.Need-returns
 returns c =
     let k = c .before .before .before in
     let a = k .before .before .before .before .before .before .before .before .args in
     (refused-before (now (a .grid)) (a .m) (a .n) (now (a .pairs)) (now (a .marks)) (lists (now (a .points)) (now (a .starts)) (now (a .sides)) (now (a .fractions))) (k .check-trace .ensures) (c .before .refusal .given .1), demand3 _ _ _)
-
-enum-told : tie.Need-enum-told
-enum-told c = search needs
 
 trace-parametric-edge-curve-requires : tie.Need-trace-parametric-edge-curve-requires
 trace-parametric-edge-curve-requires c κs =
@@ -28,32 +19,11 @@ trace-parametric-edge-curve-requires c κs =
     let a = k .before .before .before .before .before .before .before .before .args in
     passes (now (a .grid)) (a .m) (a .n) (now (a .pairs)) (now (a .marks)) (k .check-trace .ensures) (c .before .before .before .before .enum-told .given .1)
 
-enum-known-pen : tie.Need-enum-known-pen
-enum-known-pen c = search needs
-
 zero-past-requires : tie.Need-zero-past-requires
 zero-past-requires c κs =
     let t = c .before .before .before .before .before .before .before .before .before .before .before .before .before .before .before in
     let a = t .before .before .before .before .before .before .before .before .before .before .before .before .before .before .before .args in
     counted (now (a .grid)) (a .m) (a .n) (now (a .pairs)) (now (a .marks)) (lists (now (a .points)) (now (a .starts)) (now (a .sides)) (now (a .fractions))) (t .trace-parametric-edge-curve .ensures) (c .before .before .before .before .before .pen .given .1)
-
-enum-known-refusal-2 : tie.Need-enum-known-refusal-2
-enum-known-refusal-2 c = search needs
-
-zero-past-requires-2 : tie.Need-zero-past-requires-2
-zero-past-requires-2 c κs = search needs
-
-same-length : tie.Need-same-length
-same-length c = search needs
-
-same-length-2 : tie.Need-same-length-2
-same-length-2 c = search needs
-
-same-length-3 : tie.Need-same-length-3
-same-length-3 c = search needs
-
-same-length-4 : tie.Need-same-length-4
-same-length-4 c = search needs
 
 returns-2 : tie.Need-returns-2
 returns-2 c =
@@ -65,18 +35,6 @@ returns-2 c =
           (t .trace-parametric-edge-curve .ensures) (k .check-trace .ensures) (t .before .before .before .before .before .enum-told .given .1) (c .before .before .before .before .before .before .before .before .before .before .before .before .before .before .pen .given .1) (z .0) (z .1) (z .2) (z .3),
       demand3 _ _ _,
     )
-
-same-length-5 : tie.Need-same-length-5
-same-length-5 c = search needs
-
-same-length-6 : tie.Need-same-length-6
-same-length-6 c = search needs
-
-same-length-7 : tie.Need-same-length-7
-same-length-7 c = search needs
-
-same-length-8 : tie.Need-same-length-8
-same-length-8 c = search needs
 
 returns-3 : tie.Need-returns-3
 returns-3 c =
@@ -93,22 +51,22 @@ pub trace-flat-spec : {M : Type 1} → statement M
 trace-flat-spec =
     tie.close
     (tie.spec
-    check-trace-requires
-    enum-known-refusal
+    (λ c κs. search needs)
+    (λ c. search needs)
     returns
-    enum-told
+    (λ c. search needs)
     trace-parametric-edge-curve-requires
-    enum-known-pen
+    (λ c. search needs)
     zero-past-requires
-    enum-known-refusal-2
-    zero-past-requires-2
-    same-length
-    same-length-2
-    same-length-3
-    same-length-4
+    (λ c. search needs)
+    (λ c κs. search needs)
+    (λ c. search needs)
+    (λ c. search needs)
+    (λ c. search needs)
+    (λ c. search needs)
     returns-2
-    same-length-5
-    same-length-6
-    same-length-7
-    same-length-8
+    (λ c. search needs)
+    (λ c. search needs)
+    (λ c. search needs)
+    (λ c. search needs)
     returns-3)

@@ -7,9 +7,6 @@ use Rattle.trace.proofs.samples.check_lengths.Tie as tie
 returns : tie.Need-returns
 returns c = marks-long (c .before .args .pairs .now) (c .before .args .marks .now) (c .if1 .taken)
 
-mul-if2 : tie.Need-mul-if2
-mul-if2 c = search needs
-
 returns-2 : tie.Need-returns-2
 returns-2 c = pairs-other (c .before .before .args .pairs .now) (c .before .before .args .marks .now) (c .if2 .taken)
 
@@ -17,4 +14,4 @@ returns-3 : tie.Need-returns-3
 returns-3 c = lengths-fit (c .before .before .args .pairs .now) (c .before .before .args .marks .now) (c .before .if1 .left) (c .if2 .left)
 
 pub check-lengths-spec : {M : Type 1} → statement M
-check-lengths-spec = tie.close (tie.spec returns mul-if2 returns-2 returns-3)
+check-lengths-spec = tie.close (tie.spec returns (λ c. search needs) returns-2 returns-3)

@@ -6,25 +6,10 @@ use borrow.Author.Needs.{needs}
 use Rattle.trace.proofs.samples.check_trace.Statement.{statement}
 use Rattle.trace.proofs.samples.check_trace.Tie as tie
 
-check-lengths-requires : tie.Need-check-lengths-requires
-check-lengths-requires c κs = search needs
-
-check-grid-requires : tie.Need-check-grid-requires
-check-grid-requires c κs = search needs
-
-enum-known-refusal : tie.Need-enum-known-refusal
-enum-known-refusal c = search needs
-
 returns : tie.Need-returns
 returns c =
     let g = c .before .before .before in
     grid-refused _ _ _ _ _ (g .before .check-lengths .ensures) (g .check-grid .ensures) (c .before .refusal .given .1)
-
-enum-told : tie.Need-enum-told
-enum-told c = search needs
-
-marks-fit-requires : tie.Need-marks-fit-requires
-marks-fit-requires c κs = search needs
 
 returns-2 : tie.Need-returns-2
 returns-2 c =
@@ -59,12 +44,12 @@ pub check-trace-spec : {M : Type 1} → statement M
 check-trace-spec =
     tie.close
     (tie.spec
-    check-lengths-requires
-    check-grid-requires
-    enum-known-refusal
+    (λ c κs. search needs)
+    (λ c κs. search needs)
+    (λ c. search needs)
     returns
-    enum-told
-    marks-fit-requires
+    (λ c. search needs)
+    (λ c κs. search needs)
     returns-2
     pairs-fit-requires
     returns-3

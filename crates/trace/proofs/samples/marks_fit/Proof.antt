@@ -14,20 +14,8 @@ Inv-loop marks i₀ i = (i ≤ length marks) × (marksFit marks ≡ marksFit (dr
 abbrev μ-loop : tie.MeasureT-loop
 μ-loop marks i₀ i = length marks - i
 
-loop-holds : tie.Need-loop-holds Inv-loop μ-loop
-loop-holds c = search needs
-
-shared-slice-read-mark : tie.Need-shared-slice-read-mark Inv-loop μ-loop
-shared-slice-read-mark c = search needs
-
 returns : tie.Need-returns Inv-loop μ-loop
 returns c = sym (c .before .before .before .loop .inv .1 ∙ mark-wrong _ _ (c .before .before .loop-test .taken) (c .if1 .taken))
-
-add-i : tie.Need-add-i Inv-loop μ-loop
-add-i c = search needs
-
-loop-less : tie.Need-loop-less Inv-loop μ-loop
-loop-less c = search needs
 
 loop-again : tie.Need-loop-again Inv-loop μ-loop
 loop-again c = (search needs, c .before .before .before .loop .inv .1 ∙ mark-fits _ _ (c .before .before .loop-test .taken) (c .if1 .left))
@@ -41,10 +29,10 @@ marks-fit-spec =
     (tie.spec
     Inv-loop
     μ-loop
-    loop-holds
-    shared-slice-read-mark
+    (λ c. search needs)
+    (λ c. search needs)
     returns
-    add-i
-    loop-less
+    (λ c. search needs)
+    (λ c. search needs)
     loop-again
     returns-2)
