@@ -118,8 +118,11 @@ fn descend(depth: usize, above: usize, call: &mut dyn FnMut() -> bool) -> usize 
     frame
 }
 
+/// A call, and whether it was not refused.
+type Call = Box<dyn FnMut() -> bool + Send>;
+
 /// A call on its largest inputs, by its name.
-fn named(name: &str) -> Option<Box<dyn FnMut() -> bool + Send>> {
+fn named(name: &str) -> Option<Call> {
     let mapping = Mapping::Reverse {
         offset: 65_534,
         steps: 65_535,
@@ -136,35 +139,9 @@ fn named(name: &str) -> Option<Box<dyn FnMut() -> bool + Send>> {
         }
         "map_index" => Box::new(move || mapping.map_index(65_535).is_ok()),
         "map_index_inv" => Box::new(move || mapping.map_index_inv(65_535).is_ok()),
-        "triangulate_grid" => {
-            let (grid, mut triangles) = (klein(), vec![0; 6 * STEPS * STEPS]);
-            let mut flipped = vec![0; 4 * STEPS];
-            Box::new(move || {
-                triangulate_grid(&grid, STEPS, STEPS, &mut triangles, &mut flipped).is_ok()
-            })
-        }
-        "grid_paths" => {
-            let points = 2 * (STEPS + 1) * (STEPS + 1);
-            let (grid, mut points) = (klein(), vec![0.0; 3 * points]);
-            let mut starts = vec![0; 2 * STEPS + 2];
-            Box::new(move || grid_paths(&grid, STEPS, STEPS, &mut points, &mut starts).is_ok())
-        }
-        "line_span and get" => {
-            let (points, starts) = (klein(), [0, 100]);
-            Box::new(move || {
-                let (points, starts) = (&points[..], &starts[..]);
-                let drawn = Drawn {
-                    points: points.len() / 3,
-                    lines: 2,
-                };
-                let lines = Lines {
-                    points,
-                    starts,
-                    drawn,
-                };
-                lines.line_span(1).is_ok() && !lines.get(1).is_empty()
-            })
-        }
+        "triangulate_grid" => triangulation(),
+        "grid_paths" => grid_lines(),
+        "line_span and get" => line(),
         "trace_flat" => {
             let (pairs, marks) = (across(), vec![1; 100]);
             drawing(move |grid, lists| {
@@ -185,6 +162,36 @@ fn named(name: &str) -> Option<Box<dyn FnMut() -> bool + Send>> {
             point.is_ok()
         }),
         _ => return None,
+    })
+}
+
+fn triangulation() -> Call {
+    let (grid, mut triangles) = (klein(), vec![0; 6 * STEPS * STEPS]);
+    let mut flipped = vec![0; 4 * STEPS];
+    Box::new(move || triangulate_grid(&grid, STEPS, STEPS, &mut triangles, &mut flipped).is_ok())
+}
+
+fn grid_lines() -> Call {
+    let points = 2 * (STEPS + 1) * (STEPS + 1);
+    let (grid, mut points) = (klein(), vec![0.0; 3 * points]);
+    let mut starts = vec![0; 2 * STEPS + 2];
+    Box::new(move || grid_paths(&grid, STEPS, STEPS, &mut points, &mut starts).is_ok())
+}
+
+fn line() -> Call {
+    let (points, starts) = (klein(), [0, 100]);
+    Box::new(move || {
+        let (points, starts) = (&points[..], &starts[..]);
+        let drawn = Drawn {
+            points: points.len() / 3,
+            lines: 2,
+        };
+        let lines = Lines {
+            points,
+            starts,
+            drawn,
+        };
+        lines.line_span(1).is_ok() && !lines.get(1).is_empty()
     })
 }
 

@@ -67,6 +67,11 @@ fn bits(point: &[f64; 3]) -> [u64; 3] {
 }
 
 pub fn compare(driver: &mut Driver) -> Compared {
+    compare_mappings(driver)?;
+    compare_searches(driver)
+}
+
+fn compare_mappings(driver: &mut Driver) -> Compared {
     for direction in [Direction::AToB, Direction::BToA] {
         let name = direction.name();
         let small = (0..=12).flat_map(|steps| (0..=13).map(move |offset| (steps, offset)));
@@ -95,7 +100,10 @@ pub fn compare(driver: &mut Driver) -> Compared {
         |random| any_mapping(random).0,
         |mapping| mapping.is_reverse(),
         |&mapping| to_original(mapping).is_reverse(),
-    )?;
+    )
+}
+
+fn compare_searches(driver: &mut Driver) -> Compared {
     let letters = [[0.0, 0.0, 0.0], [1.0, 0.0, 0.0], [0.0, -2.0, 3.0]];
     search(
         driver,

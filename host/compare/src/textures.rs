@@ -265,18 +265,7 @@ pub fn record(record: &mut Record) {
     }
     let all: Vec<_> = edges().collect();
     for _ in 0..4_000 {
-        let input = match random.below(4) {
-            0 => any_input(&mut random),
-            1 => {
-                let Scene { texture, grid } = any_scene(&mut random);
-                let (m, n) = (grid.u_steps, grid.v_steps);
-                Input { texture, m, n }
-            }
-            _ => {
-                let Input { texture, m, n } = all[random.below(all.len() as u64) as usize];
-                Input { texture, m, n }
-            }
-        };
+        let input = recorded_input(&mut random, &all);
         let plan = original_plan(&radii, &input);
         record.offer(input.planned(plan));
         for _ in 0..2 {
@@ -287,18 +276,39 @@ pub fn record(record: &mut Record) {
                 ),
                 Err(_) => (0, 0),
             };
-            let direction = match random.below(4) {
-                0 => random.of(&[
-                    [1.0, 0.0],
-                    [-0.0, -1.0],
-                    [1f64.next_up(), 0.0],
-                    [0.0, f64::NAN],
-                ]),
-                _ => [2.0 * random.unit() - 1.0, 2.0 * random.unit() - 1.0],
-            };
+            let direction = recorded_direction(&mut random);
             record.offer(input.turned(&radii, plan, ray, sample));
             record.offer(input.placed(&radii, plan, ray, sample, direction));
         }
+    }
+}
+
+/// Any texture, one that is drawn whole, or one at the edges.
+fn recorded_input(random: &mut Random, edges: &[Input]) -> Input {
+    match random.below(4) {
+        0 => any_input(random),
+        1 => {
+            let Scene { texture, grid } = any_scene(random);
+            let (m, n) = (grid.u_steps, grid.v_steps);
+            Input { texture, m, n }
+        }
+        _ => {
+            let Input { texture, m, n } = edges[random.below(edges.len() as u64) as usize];
+            Input { texture, m, n }
+        }
+    }
+}
+
+/// A cosine and a sine, some of them refused.
+fn recorded_direction(random: &mut Random) -> [f64; 2] {
+    match random.below(4) {
+        0 => random.of(&[
+            [1.0, 0.0],
+            [-0.0, -1.0],
+            [1f64.next_up(), 0.0],
+            [0.0, f64::NAN],
+        ]),
+        _ => [2.0 * random.unit() - 1.0, 2.0 * random.unit() - 1.0],
     }
 }
 

@@ -13,7 +13,7 @@ use crate::text::{Text, Words};
 use crate::value::{Show, Value};
 use crate::walks::{Need, replay};
 use merlontrispa::{Drawn, Refusal, TraceLists, trace_flat};
-use original::{Made, Sample, Surface, Vector};
+use original::{Made, Paths, Sample, Side, Surface, Vector};
 use std::rc::Rc;
 
 /// The largest magnitude of a sample's coordinate.
@@ -263,6 +263,22 @@ impl Output {
         self.sides.fill(0);
         self.fractions.fill(0.0);
     }
+
+    /// The lists after the original drew these paths, its points on these sides.
+    fn draw(&mut self, paths: &Paths<Vector>, sides: &[Side]) {
+        self.told = Ok(Drawn {
+            points: paths.total_len(),
+            lines: paths.len(),
+        });
+        self.remade = paths.iter_paths().flat_map(coordinates).collect();
+        fill(&mut self.points, self.remade.iter().copied());
+        fill(&mut self.starts, firsts(paths));
+        fill(
+            &mut self.sides,
+            sides.iter().flat_map(|side| [side.p, side.q]),
+        );
+        fill(&mut self.fractions, sides.iter().map(|side| side.t));
+    }
 }
 
 impl Show for Output {
@@ -356,21 +372,7 @@ pub fn original(input: &Input) -> Output {
             output.told = Err(refusal);
             output.clear();
         }
-        Ok(sides) => {
-            let paths = paths.expect("the walk has come to its end");
-            output.told = Ok(Drawn {
-                points: paths.total_len(),
-                lines: paths.len(),
-            });
-            output.remade = paths.iter_paths().flat_map(coordinates).collect();
-            fill(&mut output.points, output.remade.iter().copied());
-            fill(&mut output.starts, firsts(&paths));
-            fill(
-                &mut output.sides,
-                sides.iter().flat_map(|side| [side.p, side.q]),
-            );
-            fill(&mut output.fractions, sides.iter().map(|side| side.t));
-        }
+        Ok(sides) => output.draw(&paths.expect("the walk has come to its end"), &sides),
     }
     output
 }
