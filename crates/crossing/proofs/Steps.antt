@@ -5,7 +5,7 @@ use Prim.Native.Nat.{ℕ, zero, suc, _-_, _^_, _≤_, _<_}
 use native.Mathlib.Nat.{zero-lt-suc}
 use native.Mathlib.Omega.{arith}
 use lib.Dec.{T, eqb}
-use lib.IntN.{ℤ, pos, negsuc, natAbs}
+use lib.IntN.{ℤ, natAbs}
 use lib.Signed.{nonNeg}
 use lib.Ieee.{Float, binary64, neg, lt, add, sub}
 use mir.Syntax.{w64}
@@ -18,6 +18,7 @@ use Rattle.float.specs.Order.{clamped}
 use Rattle.float.specs.Whole.{floorZ}
 use Rattle.float.specs.Cast.{natFloat, count}
 use Rattle.float.proofs.Bounds.{floor-count, floor-nonneg, clamped-nonneg, abs-count}
+use Rattle.edges.proofs.Index.{abs-fits}
 use Rattle.crossing.specs.declared.StepIndex.{StepIndex}
 use Rattle.crossing.specs.declared.StepIndex.the-variants.{At, Nothing}
 use Rattle.crossing.specs.Crossing.{closeTo, cellOf, offAxis, inCell, stepIndex}
@@ -52,16 +53,6 @@ module _ (x : Float) (n : ℕ) (z : n ≡ 0 → ⊥) where
     index-far h ei ek = rw (ek, ei, ey, et) (step-far (rw et at inside) (rw (ea, ey, et) at h))
 
 -- the floor that the code casts is a count
-abs-fits : (z : ℤ) → SFits w64 z → Fits w64 (natAbs z)
-abs-fits (pos n) s = record { fits = wide n (s .sfits) }
-  where
-    wide : (k : ℕ) → k < 9223372036854775808 → k < 18446744073709551616
-    wide k h = omega arith
-abs-fits (negsuc n) s = record { fits = wide n (s .sfits) }
-  where
-    wide : (k : ℕ) → k < 9223372036854775808 → suc k < 18446744073709551616
-    wide k h = omega arith
-
 module _ (x : Float) (n : ℕ) {top y : Float} {z : ℤ} (et : top ≡ natFloat n) (ey : y ≡ clamped x zero64 top) (ez : z ≡ floorZ y) (s : SFits w64 z) where
   held : z ≡ floorZ (clamped x zero64 (natFloat n))
   held = rw (ez, ey, et)
@@ -77,15 +68,12 @@ module _ (x : Float) (n : ℕ) {top y : Float} {z : ℤ} (et : top ≡ natFloat 
 
 -- ---- the law
 
-one-less : (n : ℕ) → 0 < n → n - 1 < n
-one-less n h = omega arith
-
 cell-below : (x : Float) (n : ℕ) → 0 < n → n ≤ 2 ^ 53 → cellOf (clamped x zero64 (natFloat n)) n < n
 unfolding cellOf closeTo
 cell-below x n N h = go (closeTo (clamped x zero64 (natFloat n)) n) refl
   where
     go : (t : Bool) → closeTo (clamped x zero64 (natFloat n)) n ≡ t → cond t (n - 1) (count (floorZ (clamped x zero64 (natFloat n)))) < n
-    go true p = one-less n N
+    go true p = omega arith
     go false p = floor-count x n N h p
 
 abbrev Below : StepIndex → ℕ → Type 0

@@ -5,30 +5,6 @@ use borrow.Author.Needs.{needs}
 use Rattle.records.proofs.put_sample.Statement.{statement}
 use Rattle.records.proofs.put_sample.Tie as tie
 
-mul-pairs : tie.Need-mul-pairs
-mul-pairs c = search needs
-
-mul-pairs-2 : tie.Need-mul-pairs-2
-mul-pairs-2 c = search needs
-
-element-write-pairs : tie.Need-element-write-pairs
-element-write-pairs c = search needs
-
-mul-pairs-3 : tie.Need-mul-pairs-3
-mul-pairs-3 c = search needs
-
-add-pairs : tie.Need-add-pairs
-add-pairs c = search needs
-
-mul-pairs-4 : tie.Need-mul-pairs-4
-mul-pairs-4 c = search needs
-
-element-write-pairs-2 : tie.Need-element-write-pairs-2
-element-write-pairs-2 c = search needs
-
-element-write-marks : tie.Need-element-write-marks
-element-write-marks c = search needs
-
 returns : tie.Need-returns
 returns c =
     let h = c .before .if1 .taken in
@@ -45,13 +21,13 @@ pub put-sample-spec : {M : Type 1} → statement M
 put-sample-spec =
     tie.close
     (tie.spec
-    mul-pairs
-    mul-pairs-2
-    element-write-pairs
-    mul-pairs-3
-    add-pairs
-    mul-pairs-4
-    element-write-pairs-2
-    element-write-marks
+    (λ c. search needs)
+    (λ c. search needs)
+    (λ c. search needs)
+    (λ c. search needs)
+    (λ c. search needs)
+    (λ c. search needs)
+    (λ c. search needs)
+    (λ c. search needs)
     returns
     returns-2)

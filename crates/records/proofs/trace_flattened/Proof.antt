@@ -12,9 +12,6 @@ use borrow.Author.Needs.{needs}
 use Rattle.records.proofs.trace_flattened.Statement.{statement}
 use Rattle.records.proofs.trace_flattened.Tie as tie
 
-steps-fit-requires : tie.Need-steps-fit-requires
-steps-fit-requires c κs = search needs
-
 returns : tie.Need-returns
 returns c ss e _ =
     let a = c .before .before .before .before .before .before .before .before .args in
@@ -25,29 +22,11 @@ returns-2 c ss _ _ =
     let a = c .before .before .before .before .before .before .before .before .args in
     steps-refused (now (a .grid)) (a .m) (a .n) (pairsOf ss) (marksOf ss) (lists (now (a .points)) (now (a .starts)) (now (a .sides)) (now (a .fractions))) (c .before .steps-fit .ensures) (c .if2 .left)
 
-mul-end : tie.Need-mul-end
-mul-end c = search needs
-
 slice-aggregate-used-pairs : tie.Need-slice-aggregate-used-pairs
 slice-aggregate-used-pairs c = let a = c .before .before .before .before .before .before .before .before .before .args in sym (length-take-le (2 * a .count) (now (a .pairs)) (omega arith))
 
 slice-aggregate-used-marks : tie.Need-slice-aggregate-used-marks
 slice-aggregate-used-marks c = let a = c .before .before .before .before .before .before .before .before .before .before .args in sym (length-take-le (a .count) (now (a .marks)) (omega arith))
-
-trace-flat-requires : tie.Need-trace-flat-requires
-trace-flat-requires c κs = search needs
-
-same-length : tie.Need-same-length
-same-length c = search needs
-
-same-length-2 : tie.Need-same-length-2
-same-length-2 c = search needs
-
-same-length-3 : tie.Need-same-length-3
-same-length-3 c = search needs
-
-same-length-4 : tie.Need-same-length-4
-same-length-4 c = search needs
 
 returns-3 : tie.Need-returns-3
 returns-3 c ss e h =
@@ -59,15 +38,15 @@ pub trace-flattened-spec : {M : Type 1} → statement M
 trace-flattened-spec =
     tie.close
     (tie.spec
-    steps-fit-requires
+    (λ c κs. search needs)
     returns
     returns-2
-    mul-end
+    (λ c. search needs)
     slice-aggregate-used-pairs
     slice-aggregate-used-marks
-    trace-flat-requires
-    same-length
-    same-length-2
-    same-length-3
-    same-length-4
+    (λ c κs. search needs)
+    (λ c. search needs)
+    (λ c. search needs)
+    (λ c. search needs)
+    (λ c. search needs)
     returns-3)
