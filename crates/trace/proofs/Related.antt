@@ -8,7 +8,7 @@ use lib.Ieee.{Float}
 use Rattle.refusal.specs.declared.Refusal.{Refusal}
 use Rattle.float.specs.Consts.{zero64}
 use Rattle.edges.specs.Param.{lerp, paramInBounds}
-use Rattle.edges.specs.Events.{sortedEdgeEvents}
+use Rattle.edges.specs.Events.{Each, sortedEdgeEvents}
 use Rattle.edges.specs.declared.point.ParamPoint.{ParamPoint}
 use Rattle.edges.specs.declared.event.ParamEdge.{ParamEdge}
 use Rattle.edges.specs.declared.event.EdgeEvent.{EdgeEvent}
@@ -44,13 +44,22 @@ module _ {S T : Type 0} {R : S → T → Type 0} {Q : S → Type 0} where
   test-related true false e p q = absurd (true≢false e)
   test-related false true e p q = absurd (true≢false (sym e))
 
--- each event's points on its side are good
+-- whatever point `edge_point` makes on a side is good
 abbrev pub GoodEdge : List Float → ℕ → ℕ → (Crossing → Type 0) → ParamEdge → Type 0
 GoodEdge g m n Good e = (x : ParamPoint) (c : Crossing) → edgePoint g m n e x ≡ On c → Good c
 
+-- so it is on the side of each event
 abbrev pub GoodEvents : List Float → ℕ → ℕ → (Crossing → Type 0) → List EdgeEvent → Type 0
-GoodEvents g m n Good [] = Unit {0}
-GoodEvents g m n Good (e ∷ es) = GoodEdge g m n Good (e .edge) × GoodEvents g m n Good es
+GoodEvents g m n Good = Each (λ (e : EdgeEvent). GoodEdge g m n Good (e .edge))
+
+-- where nothing is asked of a point, every event will do
+pub AnyCrossing : Crossing → Type 0
+AnyCrossing c = Unit {0}
+
+pub any-events : (g : List Float) (m n : ℕ) (es : List EdgeEvent) → GoodEvents g m n AnyCrossing es
+unfolding AnyCrossing
+any-events g m n [] = tt
+any-events g m n (e ∷ es) = ((λ x c q. tt), any-events g m n es)
 
 module _ {S T : Type 0} (R : S → T → Type 0) (Q : S → Type 0) (Good : Crossing → Type 0)
     (push : Crossing → S → Step S) (flush : S → Step S) (push′ : Crossing → T → Step T) (flush′ : T → Step T)

@@ -1,7 +1,7 @@
 -- Points one after another in a list, w places each: the front of the list is unmoved by a drop, and grows by one point with a write. Over the width w. Assumes nothing.
 use mathlib.Core.Path.{_≡_, refl, sym, ap, _∙_}
 use mathlib.Core.List.{List, [], _∷_, _++_, append-assoc, append-nil}
-use Prim.Native.Nat.{ℕ, zero, suc, _+_, _-_, _*_, _≤_, _<_}
+use Prim.Native.Nat.{ℕ, zero, suc, _+_, _*_, _≤_, _<_}
 use native.Mathlib.Nat.{mul-suc, mul-zero, mul-le-mul-left}
 use native.Mathlib.Numerals.{add-one}
 use native.Mathlib.Omega.{arith}
@@ -21,7 +21,7 @@ unfolding inTurn
 turn-one f c = append-nil (f c)
 
 -- `sets` from a place on, and no further
-pub take-sets : {A : Type 0} (vs l : List A) (i : ℕ) → i + length vs ≤ length l → take (i + length vs) (sets l i vs) ≡ take i l ++ vs
+take-sets : {A : Type 0} (vs l : List A) (i : ℕ) → i + length vs ≤ length l → take (i + length vs) (sets l i vs) ≡ take i l ++ vs
 take-sets vs l i h =
     ap (take (i + length vs)) (sets-eq vs l i h) ∙ take-at (take i l ++ vs) (drop (i + length vs) l) (i + length vs) front
   where
