@@ -85,6 +85,7 @@ fn trace_sample(
     }
 }
 
+// All samples in order, from a pen at the start of the lists; what is pending after the last one is flushed.
 // The scratch lists for a step's events are made once: clearing them for each step would cost more than the walk.
 pub fn trace_parametric_edge_curve(
     grid: &[f64],
