@@ -16,6 +16,13 @@ ghost use mathlib.Core.Path.{_≡_};
 ghost use Prim.Native.Nat.{max};
 ghost use Rattle.texture.specs.Plan.{textureRadius, textureSpacing, upFrom, stepsAlong, swirlRays, radialSampleCount, spiralTurns, spiralSampleCount, raysOf, samplesPerRay, textureFits, plan, statedPlan};
 
+// The largest magnitude of a twist, and the most arms.
+const MAX_TWIST: f64 = 64.0;
+const MAX_ARMS: usize = 64;
+
+// The most rays, and the most samples per ray.
+const MAX_COUNT: f64 = 65536.0;
+
 pub enum ParametricSurfaceTexture {
     Grid,
     Swirl { spacing: f64, twist: f64 },
@@ -124,8 +131,8 @@ fn texture_fits(texture: ParametricSurfaceTexture) -> bool
 {
     match texture {
         ParametricSurfaceTexture::Grid => true,
-        ParametricSurfaceTexture::Swirl { spacing: _, twist } => at_most(twist, 64.0),
-        ParametricSurfaceTexture::Spiral { spacing: _, arms } => arms <= 64,
+        ParametricSurfaceTexture::Swirl { spacing: _, twist } => at_most(twist, MAX_TWIST),
+        ParametricSurfaceTexture::Spiral { spacing: _, arms } => arms <= MAX_ARMS,
     }
 }
 
@@ -141,7 +148,7 @@ pub fn plan(texture: ParametricSurfaceTexture, m: usize, n: usize) -> PlanAnswer
     }
     let ray_count = rays(texture, m, n);
     let sample_count = samples_per_ray(texture, m, n);
-    if (ray_count <= 65536.0) & (sample_count <= 65536.0) {
+    if (ray_count <= MAX_COUNT) & (sample_count <= MAX_COUNT) {
         return PlanAnswer::Plan(to_usize(ray_count), to_usize(sample_count));
     }
     PlanAnswer::Refused(Refusal::Count)
