@@ -1,5 +1,5 @@
 -- `raysOf`, `samplesPerRay` and `plan` by the cases of the code, from what the calls gave. Assumes nothing.
-use mathlib.Core.Path.{_≡_, refl, sym, ap, _∙_}
+use mathlib.Core.Path.{_≡_, refl, sym}
 use mathlib.Core.Bool.{Bool, true, false, _&&_}
 use Prim.Native.Nat.{ℕ, max}
 use native.Mathlib.Omega.{arith}
@@ -16,16 +16,16 @@ use Rattle.texture.specs.Plan.{textureSpacing, swirlRays, radialSampleCo
 
 module _ (m n : ℕ) {t : ParametricSurfaceTexture} {s : Float} where
   pub rays-swirl : {w x r : Float} → t ≡ Swirl s w → x ≡ textureSpacing s → r ≡ swirlRays m n x → r ≡ raysOf m n t
-  rays-swirl e p q = q ∙ ap (swirlRays m n) p ∙ ap (raysOf m n) (sym e)
+  rays-swirl e p q = rw (e, q, p)
 
   pub rays-spiral : {a k : ℕ} {r : Float} → t ≡ Spiral s a → k ≡ max a 1 → r ≡ natFloat k → r ≡ raysOf m n t
-  rays-spiral e p q = q ∙ ap natFloat p ∙ ap (raysOf m n) (sym e)
+  rays-spiral e p q = rw (e, q, p)
 
   pub samples-swirl : {w x r : Float} → t ≡ Swirl s w → x ≡ textureSpacing s → r ≡ radialSampleCount m n x w → r ≡ samplesPerRay m n t
-  samples-swirl {w} e p q = q ∙ ap (λ (y : Float). radialSampleCount m n y w) p ∙ ap (samplesPerRay m n) (sym e)
+  samples-swirl e p q = rw (e, q, p)
 
   pub samples-spiral : {a : ℕ} {x r : Float} → t ≡ Spiral s a → x ≡ textureSpacing s → r ≡ spiralSampleCount m n x → r ≡ samplesPerRay m n t
-  samples-spiral e p q = q ∙ ap (spiralSampleCount m n) p ∙ ap (samplesPerRay m n) (sym e)
+  samples-spiral e p q = rw (e, q, p)
 
 -- the tests in their order, b and f being the code's
 module _ (t : ParametricSurfaceTexture) (m n : ℕ) {b : Bool} (eb : b ≡ stepsFit m n) where

@@ -18,6 +18,7 @@ ghost use Rattle.texture.specs.Plan.{textureRadius, textureSpacing, upFr
 
 // The largest magnitude of a twist, and the most arms.
 const MAX_TWIST: f64 = 64.0;
+
 const MAX_ARMS: usize = 64;
 
 // The most rays, and the most samples per ray.
