@@ -1,6 +1,6 @@
 -- Laws of samples: the first sample of a swirl and the last of a spiral are +0 away from the centre, and so at the centre bit for bit. The radius is finite and above 0, since it lies between that of 1 step
 -- and that of 255; a finite value times 0 is a zero, and a value that is k / 2 stays when a zero is added (Zeros.antt). Assumes nothing.
-use mathlib.Core.Path.{_≡_, refl, sym, ap, _∙_}
+use mathlib.Core.Path.{_≡_, refl, sym, _∙_}
 use mathlib.Core.Bool.{Bool, true, false}
 use Prim.Native.Nat.{ℕ, _*_, _^_, _≤_, _<_}
 use native.Mathlib.Nat.{le-refl, le-trans, mul-one, mul-assoc, mul-lt-mul-of-pos-right, lt-of-lt-of-le}
@@ -158,6 +158,6 @@ module _ (s : Float) (m n ray : ℕ) (cosine sine : Float) {q : ParamPoint} wher
       let k = sampled (Spiral s a) m n ray (p .samples) cosine sine e in
       let c = p .samples in
       let b = spiral-counts s a m n h in
-      let same = sym (ap (λ (r : Plan). r .samples) (plan-passed (Spiral s a) m n Passed (sym h) .1)) in
+      let same : planOf (Spiral s a) m n .samples ≡ c = cc (plan-passed (Spiral s a) m n Passed (sym h) .1) in
       (rw same at (k .3))
       ∙ at-centre (Spiral s a) m n c c cosine sine (k .0) (k .2) (spiral-last s m n c (k .0) (le-trans (lit≤ tt) (b .samples-least)) (le-trans (b .samples-most) (lit≤ tt)) a)

@@ -1,8 +1,9 @@
 -- Demand 3, whole. The sides and the flipped pairs are the surface's theorem. A traced point was made from the ends of a grid edge (each event's side is one, and Drawn.antt has that no other point is drawn), and
 -- the surface's theorem says that J takes the ends of a grid edge to the ends of a side. Assumes nothing.
-use mathlib.Core.Path.{_≡_, refl, ap, _∙_}
+use mathlib.Core.Path.{_≡_, refl, _∙_}
 use mathlib.Core.List.{List}
 use Prim.Native.Nat.{ℕ, _+_, _*_, _≤_, _<_}
+use native.Mathlib.Nat.{add-zero}
 use native.Mathlib.Omega.{arith}
 use lib.ListN.{length, getD, List·getD-append}
 use lib.Ieee.{Float, nan}
@@ -102,7 +103,7 @@ module _ (g : List Float) (m n : ℕ) (hm : m ≤ 255) (hn : n ≤ 255) where
   finished-on-sides meets l (off k d) good i h = absurd (omega arith)
   finished-on-sides meets l (on d) good i h =
       let c = getD (d .drawn) i noCrossing in
-      let p : getD (finished (on d) l .after .sides) (2 * i) 0 ≡ c .p = ap (λ (k : ℕ). getD (finished (on d) l .after .sides) k 0) (omega arith) ∙ side-at l d i 0 noCrossing h (omega arith) in
+      let p : getD (finished (on d) l .after .sides) (2 * i) 0 ≡ c .p = simp add-zero at (side-at l d i 0 noCrossing h (omega arith)) in
       let q : getD (finished (on d) l .after .sides) (2 * i + 1) 0 ≡ c .q = side-at l d i 1 noCrossing h (omega arith) in
       rw (p, q) (surface.traced s meets (c .p) (c .q) (all-at FromEdge (d .drawn) i noCrossing (good .drawn) h))
 

@@ -5,6 +5,7 @@ use mathlib.Core.Logic.{_⊎_, inl, inr}
 use mathlib.Core.Bool.{Bool, true, false, _&&_}
 use mathlib.Core.List.{List, [], _∷_, _++_, append-assoc, append-nil}
 use Prim.Native.Nat.{ℕ, suc, _+_, _-_, _*_, _/_, _≤_, _<_, min}
+use native.Mathlib.Nat.{add-zero}
 use native.Mathlib.Numerals.{add-one}
 use native.Mathlib.Omega.{arith}
 use lib.Dec.{ltb, leb}
@@ -126,7 +127,7 @@ close-last (a ∷ (b ∷ ys)) y c = close-last (b ∷ ys) y c
 last-point : (l : List Float) (cs : List Crossing) (c : Crossing) → Holds 3 pointOf l (cs ++ (c ∷ [])) → pointAt l (length cs) ≡ c .point
 unfolding pointAt
 last-point l cs c h =
-    let x : getD l (3 * length cs) nan ≡ c .point .x = ap (λ (k : ℕ). getD l k nan) (omega arith) ∙ last-at 3 pointOf (λ c. refl) l cs c 0 nan (omega arith) h in
+    let x : getD l (3 * length cs) nan ≡ c .point .x = simp add-zero at (last-at 3 pointOf (λ c. refl) l cs c 0 nan (omega arith) h) in
     let y : getD l (3 * length cs + 1) nan ≡ c .point .y = last-at 3 pointOf (λ c. refl) l cs c 1 nan (omega arith) h in
     let z : getD l (3 * length cs + 2) nan ≡ c .point .z = last-at 3 pointOf (λ c. refl) l cs c 2 nan (omega arith) h in
     rw (x, y, z)
