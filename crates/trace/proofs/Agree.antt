@@ -32,6 +32,7 @@ use Rattle.trace.proofs.Keeps.{Holding}
 abbrev pub firstPage : Lists → Page
 firstPage l = pageOf (l .points) (l .starts) (l .sides) (l .fractions) (penAt 0 0 0)
 
+-- before the first sample nothing is shown
 first-shows : (l : Lists) → Shows l (firstPage l) nothingDrawn
 unfolding inTurn
 first-shows l =
@@ -46,6 +47,7 @@ first-shows l =
       starts = refl;
     }
 
+-- both walks, from the first sample to the last
 traces-related : (l : Lists) (g : List Float) (m n : ℕ) (xs : List Sample)
     → Related (Shows l) (Sized l) (traced pushPage flushPage g m n xs Nowhere (firstPage l)) (traced (pushSegmentPoint (roomOf l)) (flushSegment (roomOf l)) g m n xs Nowhere nothingDrawn)
 traces-related l g m n xs =
@@ -108,6 +110,7 @@ zeroed-turn z w f wide l lent cs k s h e =
     let n : length (inTurn f cs) ≡ w * length cs = length-turn w f wide cs in
     rw (e, ← n) (zeroed-filled z (inTurn f cs) l lent s (rw n h))
 
+-- what the walk in place leaves, where the page shows a drawing in which nothing is pending
 ended : (l : Lists) {x : Step Page} {y : Step Drawing} → Related (Shows l) (Sized l) x y → NonePending y
     → Ends (finished y l) (pennedIn x) (pageIn x .points) (pageIn x .starts) (pageIn x .sides) (pageIn x .fractions)
 ended l (both-on {s = g} {t = d} h) e =

@@ -10,7 +10,7 @@ use native.Mathlib.Numerals.{add-one}
 use native.Mathlib.Omega.{arith}
 use lib.Dec.{ltb, leb}
 use lib.ListN.{length, take, getD, set, length-append, length-set}
-use lib.Seq.{take-suc-set, sets, length-sets}
+use lib.Seq.{take-suc-set, sets}
 use lib.Ieee.{Float, nan}
 use borrow.Author.Tests.{ltb-true, ltb-false, lt-ltb, le-ltb, leb-true, leb-false, le-leb, lt-leb}
 use Rattle.float.proofs.Tests.{and-both}
@@ -66,6 +66,7 @@ start-more ss l x {i} {y} h p q k =
     rw (p, q, length-append, add-one, take-suc-set l (length ss) x, h)
 
 module _ (l : Lists) (g : Page) (d : Drawing) (h : Shows l g d) where
+  -- the pending points stand past the count
   dropped-shows : Shows l (dropped g) (drawing (d .drawn) (d .starts) [])
   unfolding dropped
   dropped-shows =
@@ -80,11 +81,12 @@ module _ (l : Lists) (g : Page) (d : Drawing) (h : Shows l g d) where
         starts = h .starts;
       }
 
+  -- the pending points are kept where they stand
   kept-shows : g .pen .lines < length (g .starts) → Shows l (kept g) (drawing (all d) (d .starts ++ (length (d .drawn) ∷ [])) [])
   unfolding kept
   kept-shows k =
       record {
-        sized = record { points = h .sized .points; starts = length-set (g .starts) (g .pen .lines) (g .pen .start) ∙ h .sized .starts; sides = h .sized .sides; fractions = h .sized .fractions };
+        sized = record { points = h .sized .points; starts = simp length-set (h .sized .starts); sides = h .sized .sides; fractions = h .sized .fractions };
         start = h .count ∙ sym (length-append (d .drawn) (d .segment));
         count = h .count ∙ sym (simp length-append (omega arith));
         lines = rw length-append (omega (arith, h .lines));
@@ -118,6 +120,7 @@ last-view (c ∷ cs) = go (last-view cs)
     go (inl e) = inr ([], c, rw e)
     go (inr w) = inr (c ∷ w .0, w .1, rw (w .2))
 
+-- closeness to the last point, where that is known
 close-last : (ys : List Crossing) (y c : Crossing) → closeToLast (ys ++ (y ∷ [])) c ≡ allClose (y .point) (c .point)
 close-last [] y c = refl
 close-last (a ∷ []) y c = refl
@@ -132,6 +135,7 @@ last-point l cs c h =
     let z : getD l (3 * length cs + 2) nan ≡ c .point .z = last-at 3 pointOf (λ c. refl) l cs c 2 nan (omega arith) h in
     rw (x, y, z)
 
+-- below the smaller is below both
 ltb-min : (c a b : ℕ) → ltb c (min a b) ≡ ltb c a && ltb c b
 ltb-min c a b = go (ltb c a) (ltb c b) refl refl
   where
@@ -165,6 +169,7 @@ write-fraction : (l : List Float) (c : Crossing) {i k : ℕ} → i ≡ k → set
 write-fraction l c {i} {k} e = let e0 : i ≡ 1 * k = omega arith in rw e0
 
 module _ (l : Lists) (g : Page) (d : Drawing) (h : Shows l g d) (c : Crossing) where
+  -- closeness to the last pending point, by the list and by the drawing
   close-same : closeToPending c g ≡ closeToLast (d .segment) c
   close-same = go (last-view (d .segment))
     where
@@ -183,26 +188,16 @@ module _ (l : Lists) (g : Page) (d : Drawing) (h : Shows l g d) (c : Crossing) w
 
   -- room for one point more, in each list
   room-same : hasRoom g ≡ ltb (length (d .drawn) + length (d .segment)) (roomOf l .points)
-  room-same =
-      let k = length (d .drawn) + length (d .segment) in
-      let p : ltb (g .pen .count) (length (g .points) / 3) ≡ ltb k (length (l .points) / 3) = rw (h .count, h .sized .points) in
-      let q : ltb (g .pen .count) (length (g .sides) / 2) ≡ ltb k (length (l .sides) / 2) = rw (h .count, h .sized .sides) in
-      let r : ltb (g .pen .count) (length (g .fractions)) ≡ ltb k (length (l .fractions)) = rw (h .count, h .sized .fractions) in
-      rw (p, q, r, ltb-min k (length (l .points) / 3) (min (length (l .sides) / 2) (length (l .fractions))), ltb-min k (length (l .sides) / 2) (length (l .fractions)))
+  room-same = rw (h .count, h .sized .points, h .sized .sides, h .sized .fractions, ltb-min, ltb-min)
 
+  -- one point more, after the others
   written-shows : hasRoom g ≡ true → Shows l (written c g) (drawing (d .drawn) (d .starts) (d .segment ++ (c ∷ [])))
   unfolding written
   written-shows r =
       let n : g .pen .count ≡ length (all d) = h .count ∙ sym (length-append (d .drawn) (d .segment)) in
       let fits = room-means (g .pen .count) (length (g .points)) (length (g .sides)) (length (g .fractions)) r in
       record {
-        sized =
-            record {
-              points = ap length (write-point (g .points) c n) ∙ length-sets (g .points) (3 * length (all d)) (pointOf c) ∙ h .sized .points;
-              starts = h .sized .starts;
-              sides = ap length (write-side (g .sides) c n) ∙ length-sets (g .sides) (2 * length (all d)) (sideOf c) ∙ h .sized .sides;
-              fractions = length-set (g .fractions) (g .pen .count) (c .t) ∙ h .sized .fractions;
-            };
+        sized = record { points = simp length-set (h .sized .points); starts = h .sized .starts; sides = simp length-set (h .sized .sides); fractions = simp length-set (h .sized .fractions) };
         start = h .start;
         count = rw length-append (omega (arith, h .count));
         lines = h .lines;
