@@ -19,10 +19,9 @@ use Rattle.float.specs.Cast.{natFloat}
 use Rattle.float.proofs.Tests.{cond-keeps}
 use Rattle.float.proofs.Bounds.{nat-value, nat-le, at-most-finite}
 use Rattle.float.proofs.Differences.{sub-self}
-use Rattle.refusal.specs.declared.Check.{Check}
-use Rattle.refusal.specs.declared.Check.the-variants.{Passed, Failed}
+use Rattle.refusal.specs.declared.Check.the-variants.{Passed}
 use Rattle.refusal.specs.declared.Refusal.the-variants.{Direction, NotThere}
-use Rattle.refusal.specs.Refusals.{ok, unless, passing}
+use Rattle.refusal.specs.Refusals.{ok, unless}
 use Rattle.grid.proofs.Laws.{Stepped, steps-known, and-both, unless-passed}
 use Rattle.edges.specs.Param.{param}
 use Rattle.edges.specs.declared.point.ParamPoint.{ParamPoint}
@@ -30,8 +29,8 @@ use Rattle.texture.specs.declared.plan.ParametricSurfaceTexture.{Paramet
 use Rattle.texture.specs.declared.plan.ParametricSurfaceTexture.the-variants.{Swirl, Spiral}
 use Rattle.texture.specs.Plan.{half, centre, textureRadius, planCheck, Plan, planOf, plan}
 use Rattle.texture.specs.Sample.{distanceOf, directionFits, pointOf, isThere, samplePoint}
-use Rattle.texture.proofs.Plans.{never, plan-passed, plan-ok}
-use Rattle.texture.proofs.Laws.{checks, swirl-counts, spiral-counts}
+use Rattle.texture.proofs.Plans.{answered, checks, plan-passed, plan-ok}
+use Rattle.texture.proofs.Laws.{swirl-counts, spiral-counts}
 use Rattle.texture.proofs.Zeros.{times-zero, positive-times-zero, zero-over, over-self, plus-zero}
 
 -- ---- counts, the centre, and the radius, of 1 to 255 steps
@@ -124,10 +123,6 @@ at-centre t m n c i cosine sine k f h =
     rw (axis m cosine (k .m-least) (k .m-most) x h, axis n sine (k .n-least) (k .n-most) y h)
 
 -- ---- the call
-answered : {A : Type 0} (k : Check) {a b : A} → passing k (ok a) ≡ ok b → (k ≡ Passed) × (b ≡ a)
-answered Passed e = (refl, cc)
-answered (Failed r) e = never (sym e)
-
 -- what a sample point passed
 sampled : (t : ParametricSurfaceTexture) (m n ray i : ℕ) (cosine sine : Float) {q : ParamPoint} → samplePoint t m n ray i cosine sine ≡ ok q
     → Stepped m n × (plan t m n ≡ ok (planOf t m n)) × (directionFits cosine sine ≡ true) × (q ≡ pointOf t m n (planOf t m n .samples) i cosine sine)

@@ -16,16 +16,13 @@ use Rattle.float.specs.Cast.{natFloat, count}
 use Rattle.float.proofs.Less.{le-of-not-lt, le-reflexive, le-transitive}
 use Rattle.float.proofs.Bounds.{nat-not-nan, nat-nonneg, nat-le, floor-at-least}
 use Rattle.float.proofs.Range.{counted}
-use Rattle.refusal.specs.declared.Check.{Check}
 use Rattle.refusal.specs.declared.Check.the-variants.{Passed}
-use Rattle.refusal.specs.declared.Refusal.the-variants.{Steps, Texture, Count}
-use Rattle.refusal.specs.Refusals.{ok, unless}
-use Rattle.grid.specs.Grid.{stepsFit}
-use Rattle.grid.proofs.Laws.{and-both, unless-passed}
+use Rattle.refusal.specs.Refusals.{ok}
+use Rattle.grid.proofs.Laws.{and-both}
 use Rattle.texture.specs.declared.plan.ParametricSurfaceTexture.{ParametricSurfaceTexture}
 use Rattle.texture.specs.declared.plan.ParametricSurfaceTexture.the-variants.{Grid, Swirl, Spiral}
-use Rattle.texture.specs.Plan.{two, swirlRays, radialSampleCount, spiralSampleCount, stepsAlong, raysOf, samplesPerRay, textureFits, maxCount, countsFit, planCheck, Plan, planOf, plan}
-use Rattle.texture.proofs.Plans.{plan-passed}
+use Rattle.texture.specs.Plan.{two, swirlRays, radialSampleCount, spiralSampleCount, stepsAlong, raysOf, samplesPerRay, textureFits, maxCount, Plan, planOf, plan}
+use Rattle.texture.proofs.Plans.{checks, plan-passed}
 
 -- ---- the larger of two is at least the second
 at-least : (x y : Float) → isNan x ≡ false → isNan y ≡ false → (t : Bool) → lt x y ≡ t → le y (cond t y x) ≡ true
@@ -61,16 +58,6 @@ cut-between x k n hk hn lo hi =
     (le-trans (floor-at-least x k lo hk) (floor-cut x), counted x n hn (le-transitive zero64 (natFloat k) x from-zero lo) hi .1)
 
 -- ---- what a plan passed
-pub checks : (t : ParametricSurfaceTexture) (m n : ℕ) (after : Check) → planCheck t m n after ≡ Passed
-    → (stepsFit m n ≡ true) × (textureFits t ≡ true) × (countsFit (raysOf m n t) (samplesPerRay m n t) ≡ true) × (after ≡ Passed)
-unfolding planCheck
-checks t m n after h =
-    let counts = countsFit (raysOf m n t) (samplesPerRay m n t) in
-    let a = unless-passed (stepsFit m n) Steps (unless (textureFits t) Texture (unless counts Count after)) h in
-    let b = unless-passed (textureFits t) Texture (unless counts Count after) (a .1) in
-    let c = unless-passed counts Count after (b .1) in
-    (a .0, b .0, c .0, c .1)
-
 passes : (t : ParametricSurfaceTexture) (m n : ℕ) {p : Plan} → plan t m n ≡ ok p
     → (textureFits t ≡ true) × (le (raysOf m n t) maxCount ≡ true) × (le (samplesPerRay m n t) maxCount ≡ true) × (p ≡ planOf t m n)
 passes t m n e =
