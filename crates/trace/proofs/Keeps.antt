@@ -32,6 +32,7 @@ module _ (P : Drawing → Type 0) (Good : Crossing → Type 0)
     abbrev Same : Drawing → Drawing → Type 0
     Same d e = (d ≡ e) × P d
 
+    -- nothing is asked of what a refused walk drew
     abbrev Ended : Drawing → Type 0
     Ended d = Unit {0}
 

@@ -53,11 +53,10 @@ abbrev pub GoodEvents : List Float → ℕ → ℕ → (Crossing → Type 0) →
 GoodEvents g m n Good = Each (λ (e : EdgeEvent). GoodEdge g m n Good (e .edge))
 
 -- where nothing is asked of a point, every event will do
-pub AnyCrossing : Crossing → Type 0
+abbrev pub AnyCrossing : Crossing → Type 0
 AnyCrossing c = Unit {0}
 
 pub any-events : (g : List Float) (m n : ℕ) (es : List EdgeEvent) → GoodEvents g m n AnyCrossing es
-unfolding AnyCrossing
 any-events g m n [] = tt
 any-events g m n (e ∷ es) = ((λ x c q. tt), any-events g m n es)
 
