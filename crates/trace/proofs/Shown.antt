@@ -52,8 +52,8 @@ roomOf l = roomIn (l .points) (l .starts) (l .sides) (l .fractions)
 -- ---- flush
 
 -- two pending points or more, by the pen's counts and by the drawing's
-same-test : (s c a b : ℕ) → s ≡ a → c ≡ a + b → leb (s + 2) c ≡ leb 2 b
-same-test s c a b p q = go (leb 2 b) refl
+two-same : (s c a b : ℕ) → s ≡ a → c ≡ a + b → leb (s + 2) c ≡ leb 2 b
+two-same s c a b p q = go (leb 2 b) refl
   where
     go : (t : Bool) → leb 2 b ≡ t → leb (s + 2) c ≡ t
     go true e = le-leb (s + 2) c (omega (arith, leb-true 2 b e))
@@ -100,7 +100,7 @@ module _ (l : Lists) (g : Page) (d : Drawing) (h : Shows l g d) where
   unfolding flushPage flushSegment
   flush-related =
       test-related (leb (g .pen .start + 2) (g .pen .count)) (leb 2 (length (d .segment)))
-      (same-test (g .pen .start) (g .pen .count) (length (d .drawn)) (length (d .segment)) (h .start) (h .count))
+      (two-same (g .pen .start) (g .pen .count) (length (d .drawn)) (length (d .segment)) (h .start) (h .count))
       (λ p. test-related (ltb (g .pen .lines) (length (g .starts))) (ltb (length (d .starts)) (length (l .starts))) (rw (h .lines, h .sized .starts))
       (λ q. both-on (kept-shows (omega (arith, h .lines, h .sized .starts, ltb-true (length (d .starts)) (length (l .starts)) q))))
       (λ q. both-off (h .sized)))

@@ -1,4 +1,4 @@
--- One turn of the walk over the events: the events from i on are the one at i and those after it. Assumes nothing.
+-- One turn of the walk over the events: the events from i on are the one at i and those after it. The whole step is the walk over its events, which are on the grid, and what follows it. Assumes nothing.
 use mathlib.Core.Path.{_≡_, refl, sym, ap, _∙_}
 use mathlib.Core.Bool.{Bool, true, false, cond}
 use mathlib.Core.List.{List, [], _∷_}
