@@ -25,12 +25,6 @@ loop-holds c = (refl, refl, refl, refl)
 less : (t : tie.In-loop Inv-loop μ-loop) → Fewer 1 (t .before .loop .left) (t .before .before .before .before .args .step)
 less t = fewer 1 _ _ (t .loop-test .taken)
 
-point-at-requires : tie.Need-point-at-requires Inv-loop μ-loop
-point-at-requires c κs = omega (arith, less (c .before))
-
-add-number : tie.Need-add-number Inv-loop μ-loop
-add-number c = omega (arith, less (c .before .before .before .before .before))
-
 loop-again : tie.Need-loop-again Inv-loop μ-loop
 loop-again c =
     let u = c .before .before in
@@ -55,9 +49,9 @@ draw-run-spec =
     Inv-loop
     μ-loop
     loop-holds
-    point-at-requires
+    (λ c κs. omega (arith, less (c .before)))
     (λ c κs. omega arith)
-    add-number
+    (λ c. omega (arith, less (c .before .before .before .before .before)))
     (λ c. omega arith)
     (λ c. omega arith)
     (λ c. omega arith)
