@@ -10,21 +10,13 @@ use Rattle.path.proofs.get.Tie as tie
 -- a line that is there: its start is at most its end, and its end lies within the points
 bounds : (c : tie.After-known-told) → let a = c .before .before .before .before .before .before .args in let s = c .before .start .given .0 in (s .0 ≤ s .1 .0) × (3 * s .1 .0 ≤ length (a .points .now))
 bounds c =
-    let l = c .before .before .before in
-    let a = l .before .before .before .args in
-    span-bounds (a .points .now) (a .starts .now) (a .point-count) (a .line-count) (a .index) (c .before .start .given .1) (l .line-span .ensures)
+    span-bounds _ _ _ _ _ (c .before .start .given .1) (c .before .before .before .line-span .ensures)
 
 returns : tie.Need-returns
-returns c =
-    let l = c .before .before .before .before in
-    let a = l .before .before .before .args in
-    part-is (a .points .now) (a .starts .now) (a .point-count) (a .line-count) (a .index) (c .before .before .start .given .1) (l .line-span .ensures)
+returns c = part-is _ _ _ _ _ (c .before .before .start .given .1) (c .before .before .before .before .line-span .ensures)
 
 returns-2 : tie.Need-returns-2
-returns-2 c =
-    let l = c .before .before .before in
-    let a = l .before .before .before .args in
-    part-is (a .points .now) (a .starts .now) (a .point-count) (a .line-count) (a .index) (c .before .enum-told .given .1) (l .line-span .ensures)
+returns-2 c = part-is _ _ _ _ _ (c .before .enum-told .given .1) (c .before .before .before .line-span .ensures)
 
 pub get-spec : {M : Type 1} → statement M
 get-spec =

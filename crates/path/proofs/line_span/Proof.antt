@@ -9,9 +9,8 @@ use Rattle.path.proofs.line_span.Tie as tie
 returns-6 : tie.Need-returns-6
 returns-6 c =
     let p = c .before .before in
-    let a = p .before .before .before .before .before .before .before .args in
     let e = p .line-end .ensures in
-    rw e (sym (span-there (a .points .now) (a .starts .now) (a .point-count) (a .line-count) (a .index)
+    rw e (sym (span-there _ _ _ _ _
     (record { below = omega arith; points-fit = omega arith; starts-fit = omega arith; ordered = omega arith; within = omega arith })))
 
 pub line-span-spec : {M : Type 1} → statement M
