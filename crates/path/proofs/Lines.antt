@@ -3,10 +3,10 @@
 use Prim.Native.Nat.{ℕ, zero, suc, _+_, _*_, _≤_}
 use native.Mathlib.Nat.{suc-mul}
 use native.Mathlib.Omega.{arith}
-use mathlib.Core.Path.{_≡_, refl, sym, ap, _∙_}
+use mathlib.Core.Path.{_≡_, refl, _∙_}
 use mathlib.Core.List.{List, [], _∷_, _++_, map, flatten}
 use lib.Ieee.{Float}
-use lib.ListN.{length, take, drop, length-append}
+use lib.ListN.{length, take, length-append}
 use lib.Seq.{sets, sets-eq, length-sets, take-append-seam}
 use Rattle.lent.specs.Lent.{filled, zeroFloat, zeroedFrom}
 use Rattle.lent.proofs.Laws.{zeroed-filled}
@@ -63,23 +63,21 @@ grid-lines g m n =
 take-sets : {A : Type 0} (vs l : List A) → length vs ≤ length l → take (length vs) (sets l 0 vs) ≡ vs
 take-sets vs l h =
     let f : 0 + length vs ≤ length l = omega arith in
-    rw (sets-eq vs l 0 f, take-append-seam vs (drop (0 + length vs) l))
+    rw (sets-eq, take-append-seam)
 
 -- two lists stored one after the other, and zero past them
-pub two-filled : {A : Type 0} (z : A) (l vs ws : List A) (j k : ℕ) → length vs ≡ j → length vs + length ws ≡ k → k ≤ length l →
+two-filled : {A : Type 0} (z : A) (l vs ws : List A) (j k : ℕ) → length vs ≡ j → length vs + length ws ≡ k → k ≤ length l →
     {p q r : List A} → p ≡ sets l 0 vs → q ≡ sets p j ws → r ≡ zeroedFrom z k q → r ≡ filled z (vs ++ ws) l
 two-filled z l vs ws j k a b h ep eq er =
     let n : length (vs ++ ws) ≡ k = length-append vs ws ∙ b in
-    let s : sets (sets l 0 vs) j ws ≡ sets l 0 (vs ++ ws) = ap (λ (i : ℕ). sets (sets l 0 vs) i ws) (sym a ∙ zero-first (length vs)) ∙ sym (sets-append l 0 vs ws) in
+    let i : 0 + length vs ≡ j = omega arith in
+    let s : sets (sets l 0 vs) j ws ≡ sets l 0 (vs ++ ws) = rw (sets-append, i) in
     let f : length (vs ++ ws) ≤ length l = omega arith in
-    rw (er, eq, ep, s, ← n, zeroed-filled z (vs ++ ws) (sets l 0 (vs ++ ws)) l (length-sets l 0 (vs ++ ws)) (take-sets (vs ++ ws) l f))
-  where
-    zero-first : (i : ℕ) → i ≡ 0 + i
-    zero-first i = omega arith
+    rw (er, eq, ep, s, ← n) (zeroed-filled z (vs ++ ws) (sets l 0 (vs ++ ws)) l (length-sets l 0 (vs ++ ws)) (take-sets (vs ++ ws) l f))
 
 -- Starts
 
-pub starts-append : (at : ℕ) (xs ys : List (List Vector)) → startsFrom at (xs ++ ys) ≡ startsFrom at xs ++ startsFrom (at + length (flatten xs)) ys
+starts-append : (at : ℕ) (xs ys : List (List Vector)) → startsFrom at (xs ++ ys) ≡ startsFrom at xs ++ startsFrom (at + length (flatten xs)) ys
 unfolding startsFrom flatten
 starts-append at [] ys = let e : at + 0 ≡ at = omega arith in rw e
 starts-append at (x ∷ xs) ys =
@@ -94,7 +92,7 @@ starts-runs g at first apart step count (suc l) = rw (length-run g first step co
 pub grid-starts : (g : List Float) (m n : ℕ) → startsFrom 0 (gridLines g m n) ≡ spaced 0 (m + 1) (n + 1) ++ spaced ((m + 1) * (n + 1)) (n + 1) (m + 1)
 grid-starts g m n =
     let e : 0 + length (flatten (runs g 0 1 (n + 1) (m + 1) (n + 1))) ≡ (m + 1) * (n + 1) = omega (arith, length-flatten-runs g 0 1 (n + 1) (m + 1) (n + 1)) in
-    rw (grid-lines g m n, starts-append 0 (runs g 0 1 (n + 1) (m + 1) (n + 1)) (runs g 0 (n + 1) 1 (n + 1) (m + 1)), starts-runs g 0 0 1 (n + 1) (m + 1) (n + 1), e, starts-runs g ((m + 1) * (n + 1)) 0 (n + 1) 1 (n + 1) (m + 1))
+    rw (grid-lines, starts-append, e) (simp starts-runs)
 
 -- What the two drawing functions leave
 
@@ -114,6 +112,5 @@ points-drawn g m n l h ep eq er =
     let vs : List (List Vector) = runs g 0 (n + 1) 1 (n + 1) (m + 1) in
     let a : length (coordinates (flatten us)) ≡ 3 * ((m + 1) * (n + 1)) = omega (arith, length-coordinates (flatten us), length-flatten-runs g 0 1 (n + 1) (m + 1) (n + 1)) in
     let b : length (coordinates (flatten vs)) ≡ 3 * ((m + 1) * (n + 1)) = omega (arith, length-coordinates (flatten vs), length-flatten-runs g 0 (n + 1) 1 (n + 1) (m + 1)) in
-    let e : coordinates (flatten (gridLines g m n)) ≡ coordinates (flatten us) ++ coordinates (flatten vs) =
-    ap (λ (ls : List (List Vector)). coordinates (flatten ls)) (grid-lines g m n) ∙ ap coordinates (flatten-append us vs) ∙ coordinates-append (flatten us) (flatten vs) in
-    rw e (two-filled zeroFloat l (coordinates (flatten us)) (coordinates (flatten vs)) (3 * ((m + 1) * (n + 1))) (2 * (3 * ((m + 1) * (n + 1)))) a (omega arith) (omega arith) ep eq er)
+    rw (grid-lines, flatten-append, coordinates-append)
+    (two-filled zeroFloat l (coordinates (flatten us)) (coordinates (flatten vs)) (3 * ((m + 1) * (n + 1))) (2 * (3 * ((m + 1) * (n + 1)))) a (omega arith) (omega arith) ep eq er)

@@ -13,7 +13,7 @@ use Rattle.grid.specs.Grid.{pointAt}
 use Rattle.path.specs.GridPaths.{coordinates}
 use Rattle.path.specs.Runs.{run, runs, spaced}
 
--- j turns fewer than k, of a each
+-- k turns of a each are j turns and those that are left
 abbrev pub Fewer : ℕ → ℕ → ℕ → Type 0
 Fewer j k a = k * a ≡ (k - j) * a + j * a
 
@@ -75,6 +75,7 @@ module _ (l : List Float) (at : ℕ) (g : List Float) (number step : ℕ) where
   unfolding run coordinates
   run-done left h = let e : left ≡ 0 = omega arith in rw e
 
+-- k runs, and the l after them
 runs-add : (g : List Float) (apart step count k l first : ℕ) → runs g first apart step count (k + l) ≡ runs g first apart step count k ++ runs g (first + k * apart) apart step count l
 unfolding runs
 runs-add g apart step count zero l first =
@@ -94,8 +95,7 @@ module _ (l : List Float) (at : ℕ) (g : List Float) (first apart step count : 
       ≡ sets (sets l at (coordinates (run g first step count))) (at + 3 * count) (coordinates (flatten (runs g (first + apart) apart step count c)))
   unfolding runs flatten
   runs-first c =
-      let e : length (coordinates (run g first step count)) ≡ 3 * count = length-coordinates (run g first step count) ∙ ap (λ (k : ℕ). 3 * k) (length-run g first step count) in
-      rw (coordinates-append, sets-append, e)
+      rw (coordinates-append, sets-append, length-coordinates, length-run)
 
   pub runs-turn : (left : ℕ) → 0 < left →
       sets l at (coordinates (flatten (runs g first apart step count left)))
@@ -108,12 +108,10 @@ module _ (l : List Float) (at : ℕ) (g : List Float) (first apart step count : 
       sets l at (coordinates (flatten (runs g first apart step count left)))
       ≡ sets (sets l at (coordinates (flatten (runs g first apart step count 4)))) (at + 4 * (3 * count)) (coordinates (flatten (runs g (first + 4 * apart) apart step count (left - 4))))
   runs-four left h =
-      let four : List (List Vector) = runs g first apart step count 4 in
-      let rest : List (List Vector) = runs g (first + 4 * apart) apart step count (left - 4) in
-      let k : left ≡ 4 + (left - 4) = omega arith in
-      let w : length (coordinates (flatten four)) ≡ 4 * (3 * count) = omega (arith, length-coordinates (flatten four), length-flatten-runs g first apart step count 4) in
-      ap (λ (n : ℕ). sets l at (coordinates (flatten (runs g first apart step count n)))) k
-      ∙ rw (runs-add g apart step count 4 (left - 4) first, flatten-append four rest, coordinates-append (flatten four) (flatten rest), sets-append l at (coordinates (flatten four)) (coordinates (flatten rest)), w)
+      let four : List Vector = flatten (runs g first apart step count 4) in
+      let width : length (coordinates four) ≡ 4 * (3 * count) = omega (arith, length-coordinates four, length-flatten-runs g first apart step count 4) in
+      let all : 4 + (left - 4) ≡ left = omega arith in
+      rw (← width, ← sets-append, ← coordinates-append, ← flatten-append, ← runs-add, all)
 
   pub runs-done : (left : ℕ) → left ≤ 0 → sets l at (coordinates (flatten (runs g first apart step count left))) ≡ l
   unfolding runs flatten coordinates

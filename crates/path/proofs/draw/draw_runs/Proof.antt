@@ -31,10 +31,10 @@ loop-holds : tie.Need-loop-holds Inv-loop μ-loop Inv-loop2 μ-loop2
 loop-holds c = (refl, omega arith, refl, refl)
 
 -- in a turn of either loop
-four-less : (t : tie.In-loop Inv-loop μ-loop Inv-loop2 μ-loop2) → Fewer 4 (t .before .loop .left) (t .before .before .before .before .args .apart) × Fewer 4 (t .before .loop .left) (3 * t .before .before .before .before .args .count)
+four-less : (t : tie.In-loop Inv-loop μ-loop Inv-loop2 μ-loop2) → let a = t .before .before .before .before .args in let left = t .before .loop .left in Fewer 4 left (a .apart) × Fewer 4 left (3 * a .count)
 four-less t = (fewer 4 _ _ (t .loop-test .taken), fewer 4 _ _ (t .loop-test .taken))
 
-one-less : (t : tie.In-loop2 Inv-loop μ-loop Inv-loop2 μ-loop2) → Fewer 1 (t .before .loop2 .left) (t .before .before .before .before .before .before .args .apart) × Fewer 1 (t .before .loop2 .left) (3 * t .before .before .before .before .before .before .args .count)
+one-less : (t : tie.In-loop2 Inv-loop μ-loop Inv-loop2 μ-loop2) → let a = t .before .before .before .before .before .before .args in let left = t .before .loop2 .left in Fewer 1 left (a .apart) × Fewer 1 left (3 * a .count)
 one-less t = (fewer 1 _ _ (t .loop2-test .taken), fewer 1 _ _ (t .loop2-test .taken))
 
 loop-again : tie.Need-loop-again Inv-loop μ-loop Inv-loop2 μ-loop2
