@@ -1,6 +1,6 @@
 #!/usr/bin/env python3
 """Writes the proofs of the functions that take a slice of records, which the borrow checker does not cover:
-`records::flatten`, `records::trace_samples` and `exports::records::mt_trace_samples`.
+`records::flatten`, `records::trace_samples` and `exports::samples::mt_trace_samples`.
 
     tools/walks/walks.py
 
@@ -40,7 +40,7 @@ def flatten_test(w, outcome):
 
 def flatten_turn():
     w = Walk(*flatten_context())
-    flatten_test(w, "holds (ltb i n) (lt→ltb i n small)")
+    flatten_test(w, "lt-ltb i n small")
     w.step(f"stays ! ({w.load(7)})")
 
     w.note("the place of `samples[i]`")
@@ -146,7 +146,7 @@ def flatten_turn():
     )
     w.line()
     w.forget(*range(5, FLATTEN_LOCALS))
-    w.rewrite("l4", "λ (j : ℕ). ‵ (fat fullShare (tyInt w64) l₄ 0 (vint w64 j))", "one-more i")
+    w.rewrite("l4", "λ (j : ℕ). ‵ (fat fullShare (tyInt w64) l₄ 0 (vint w64 j))", "add-one i")
     w.line()
     w.keep(*flatten_context())
     w.end("by ! k")
@@ -155,7 +155,7 @@ def flatten_turn():
 
 def flatten_ends():
     w = Walk(*flatten_context())
-    flatten_test(w, "fails (ltb n n) (λ a. lt-irrefl n (ltb→lt n n a))")
+    flatten_test(w, "le-ltb n n (le-refl n)")
     w.step(f"leaves-loop ! ({w.load(7)})")
     w.step("exec ! C Λ En body.t-3 (atRet En Post)")
     w.assign("of-opd ! (unit-lit !)", 0, "(tt, tt)")
