@@ -13,8 +13,7 @@ use Rattle.path.proofs.grid_paths.Tie as tie
 passed : (e : tie.After-enum-told) → let a = e .before .before .before .before .before .before .before .before .before .args in pathsCheck (a .grid .now) (a .m) (a .n) (a .points .now) (a .starts .now) ≡ Passed
 passed e =
     let g = e .before .before in
-    let a = g .before .before .before .before .before .before .before .args in
-    sym (checked (a .grid .now) (a .m) (a .n) (a .points .now) (a .starts .now) (g .before .check-room .ensures) (g .check-grid .ensures)) ∙ e .enum-told .given .1
+    sym (checked _ _ _ _ _ (g .before .check-room .ensures) (g .check-grid .ensures)) ∙ e .enum-told .given .1
 
 -- the grid that passed
 shape : (e : tie.After-enum-told) → let a = e .before .before .before .before .before .before .before .before .before .args in Shaped (a .grid .now) (a .m) (a .n)
@@ -34,8 +33,7 @@ starts-requires c κs =
 returns : tie.Need-returns
 returns c =
     let g = c .before .before .before in
-    let a = g .before .before .before .before .before .before .before .args in
-    refused _ _ _ _ _ (checked (a .grid .now) (a .m) (a .n) (a .points .now) (a .starts .now) (g .before .check-room .ensures) (g .check-grid .ensures)) (c .before .k .given .1)
+    refused _ _ _ _ _ (checked _ _ _ _ _ (g .before .check-room .ensures) (g .check-grid .ensures)) (c .before .k .given .1)
 
 returns-2 : tie.Need-returns-2
 returns-2 c =

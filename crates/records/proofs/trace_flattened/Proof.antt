@@ -1,10 +1,7 @@
 -- `records::trace_flattened` meets its contract: proofs/Refused.antt has the answer for too many samples, and what is flattened is what the flat trace takes. Assumes nothing.
 use mathlib.Core.Path.{sym}
 use native.Mathlib.Omega.{arith}
-use denote.Ref.{now}
 use lib.Seq.{length-take-le}
-use Rattle.trace.specs.Trace.{lists}
-use Rattle.records.specs.Records.{pairsOf, marksOf}
 use Rattle.records.proofs.Laid.{marks-count}
 use Rattle.records.proofs.Refused.{steps-refused, length-refused}
 use borrow.Author.Needs.{needs}
@@ -12,16 +9,10 @@ use Rattle.records.proofs.trace_flattened.Statement.{statement}
 use Rattle.records.proofs.trace_flattened.Tie as tie
 
 returns : tie.Need-returns
-returns c ss e _ =
-    let a = c .before .before .before .before .before .before .before .before .args in
-    let l = lists (now (a .points)) (now (a .starts)) (now (a .sides)) (now (a .fractions)) in
-    length-refused (now (a .grid)) (a .m) (a .n) (pairsOf ss) (marksOf ss) l (c .before .steps-fit .ensures) (c .if2 .taken) (rw (marks-count ss, e) (c .before .before .if1 .taken))
+returns c ss e _ = length-refused _ _ _ _ _ _ (c .before .steps-fit .ensures) (c .if2 .taken) (rw (marks-count ss, e) (c .before .before .if1 .taken))
 
 returns-2 : tie.Need-returns-2
-returns-2 c ss _ _ =
-    let a = c .before .before .before .before .before .before .before .before .args in
-    let l = lists (now (a .points)) (now (a .starts)) (now (a .sides)) (now (a .fractions)) in
-    steps-refused (now (a .grid)) (a .m) (a .n) (pairsOf ss) (marksOf ss) l (c .before .steps-fit .ensures) (c .if2 .left)
+returns-2 c ss _ _ = steps-refused _ _ _ _ _ _ (c .before .steps-fit .ensures) (c .if2 .left)
 
 returns-3 : tie.Need-returns-3
 returns-3 c ss e h =

@@ -21,7 +21,7 @@ returns c =
     let d2 = z .before .before .before .before in
     let d1 = d2 .before .before .before .before in
     let s = d1 .before .before .before in
-    starts-drawn (s .args .m) (s .args .n) (s .args .starts .now) (s .pre .2) (d1 .put-spaced .ensures) (d2 .put-spaced2 .ensures) (z .zero-numbers .ensures)
+    starts-drawn _ _ _ (s .pre .2) (d1 .put-spaced .ensures) (d2 .put-spaced2 .ensures) (z .zero-numbers .ensures)
 
 pub starts-spec : {M : Type 1} → statement M
 starts-spec =
