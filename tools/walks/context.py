@@ -64,6 +64,9 @@ class Walk:
         """The first `count` things of the context have become `names`."""
         self.context[:count] = names
 
+    def rename(self, old, new):
+        self.context[self.at(old)] = new
+
     def bring(self, *names):
         """To the front, in this order."""
         found = [self.at(name) for name in names]
