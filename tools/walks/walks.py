@@ -36,6 +36,51 @@ def call(w, contract, to, given, goes, locals, value):
     w.now(1, "post")
 
 
+def gather_tokens(w, tokens):
+    w.step("nothing !")
+    w.now(0, "joined")
+    w.gather(*tokens)
+    w.now(1, "tokens")
+
+
+def gather_parameters(w, parameters):
+    """A number is given with the fact that it fits: what it owns is had for nothing."""
+    w.step("nothing !")
+    w.now(0, "joined")
+    for parameter in reversed(parameters):
+        if isinstance(parameter, tuple):
+            number, fits = parameter
+            w.step(f"owned ! usize (Is usize) (uint-makes 𝓤 H A W w64) {number} _ (refl, {fits})")
+            w.now(0, parameter)
+        w.bring(parameter, "joined")
+        w.step("fjoin !")
+        w.now(2, "joined")
+
+
+def asked(tokens, parameters):
+    """What a call asks, from the tokens and the parameters that are no numbers."""
+    w = Walk(*tokens, *[p for p in parameters if isinstance(p, str)])
+    gather_tokens(w, tokens)
+    w.line()
+    gather_parameters(w, parameters)
+    w.bring("tokens", "joined")
+    w.end("join ! $ frame ! $ nothing ! $ done !")
+    return w.text(6)
+
+
+def framed(context, tokens, parameters, end):
+    """What a contract leaves its caller: the tokens, the parameters, and the result by `end`."""
+    w = Walk(*context)
+    gather_tokens(w, tokens)
+    w.step("frame !")
+    w.now(1)
+    w.line()
+    gather_parameters(w, parameters)
+    w.step("frame !")
+    w.end(end)
+    return w.text(6)
+
+
 def hear(w, after, answer, said, lasts, facts):
     """What a call hands back: its answer, the last lists, and the facts that it ensures; `toks` are its tokens and what
     the answer owns."""
@@ -104,6 +149,11 @@ def flatten_context():
     owned = ["t₀", "O₀", "t₁", "O₁", "t₂", "O₂"]
     locals = [f"l{k}" for k in [4, 5, 6, 7, 8, 9, 10, 11, 12, 1, 2, 3, 0]]
     return owned + locals + [f"d{k}" for k in range(FLATTEN_LOCALS)]
+
+
+def flatten_framed():
+    held = flatten_context()[:6]
+    return framed(held, held[::2], held[1::2], "feqI ! (List Val) (vunit ∷ []) (vunit ∷ []) refl $ done !")
 
 
 def flatten_test(w, outcome):
@@ -257,6 +307,7 @@ NUMBERS = [1, 2]
 OUTPUTS = [4, 5, 6, 7]
 SLICES = [0, 3] + OUTPUTS
 SAMPLES = 3
+M, N = ("d₁", "g₁"), ("d₂", "g₂")
 
 
 def tokens(parameters):
@@ -320,6 +371,16 @@ def last_lists(name, before):
     return " ".join(f"({name}{' .1' * (before + j)} .0)" for j in range(len(OUTPUTS)))
 
 
+def left():
+    """What an entry leaves its caller, in the order of `Left`, and the result."""
+    return [*tokens(SLICES), "O0", "O3", *[f"fin{p}" for p in OUTPUTS], "result"]
+
+
+def entry_framed():
+    parameters = ["O0", M, N, "O3", *[f"fin{p}" for p in OUTPUTS]]
+    return framed(left(), tokens(SLICES), parameters, "done !")
+
+
 def leave(w, locals, rooms, result):
     """The locals go, and what the contract speaks of is left."""
     w.note("the locals go")
@@ -328,7 +389,10 @@ def leave(w, locals, rooms, result):
     w.forget(*[k for k in range(locals) if k not in rooms])
     w.line()
     w.free(locals)
-    w.keep(*tokens(SLICES), "O0 kept", "O3 kept", *[f"fin{p}" for p in OUTPUTS], result)
+    w.rename("O0 kept", "O0")
+    w.rename("O3 kept", "O3")
+    w.rename(result, "result")
+    w.keep(*left())
     w.line()
 
 
@@ -496,28 +560,6 @@ def trace_samples_walk():
 EXPORT_LOCALS = 18
 
 
-def mt_trace_samples_passed():
-    """What `trace_samples` asks: the tokens, then the parameters."""
-    w = Walk(*tokens(SLICES), *owned(SLICES))
-    w.step("nothing !")
-    w.now(0, "joined")
-    w.gather(*tokens(SLICES))
-    w.now(1, "tokens")
-    w.line()
-    w.step("nothing !")
-    w.now(0, "joined")
-    for p in reversed(PARAMETERS):
-        if p in NUMBERS:
-            w.step(f"owned ! usize (Is usize) (uint-makes 𝓤 H A W w64) d{sub(p)} _ (refl, g{sub(p)})")
-            w.now(0, f"O{p}")
-        w.bring(f"O{p}", "joined")
-        w.step("fjoin !")
-        w.now(2, "joined")
-    w.bring("tokens", "joined")
-    w.end("join ! $ frame ! $ nothing ! $ done !")
-    return w.text(6)
-
-
 def mt_trace_samples_walk():
     w = Walk("tokens", "owns")
     enter(w, EXPORT_LOCALS)
@@ -568,19 +610,33 @@ def write(path, parts):
         file.write(text)
 
 
-def entry(known, **walks):
+def entry(known, walks):
     parts = sections("entries")
     parts["WALKED"] = parts["WALKED"].replace("@KNOWN", known)
-    return parts | walks
+    return parts | {"FRAMED": entry_framed()} | walks
 
 
 def main():
-    write("records/proofs/flatten", {"TURN": flatten_turn(), "ENDS": flatten_ends(), "START": flatten_start()})
-    write("records/proofs/trace_samples", entry("known-flat known-laid", WALK=trace_samples_walk()))
-    write(
-        "exports/proofs/samples/mt_trace_samples",
-        entry("known-rec known-conv", PASSED=mt_trace_samples_passed(), WALK=mt_trace_samples_walk()),
-    )
+    flatten_walks = {
+        "FRAMED": flatten_framed(),
+        "PUT-ASKS": asked(["ν₁", "ν₂"], ["M₁", "M₂", ("i", "fits"), "rec"]),
+        "TURN": flatten_turn(),
+        "ENDS": flatten_ends(),
+        "START": flatten_start(),
+    }
+    write("records/proofs/flatten", flatten_walks)
+    trace_samples_walks = {
+        "FLAT-ASKS": asked(["t3", "ν₁", "ν₂"], ["O3", "MF", "MB"]),
+        "LAID-ASKS": asked(["t0", "ν₃", "ν₄", *tokens(OUTPUTS)], ["O0", M, N, "SF", "SB", ("n", "gn"), *owned(OUTPUTS)]),
+        "WALK": trace_samples_walk(),
+    }
+    write("records/proofs/trace_samples", entry("known-flat known-laid", trace_samples_walks))
+    mt_trace_samples_walks = {
+        "REC-ASKS": asked(tokens(SLICES), ["O0", M, N, *owned(SLICES[1:])]),
+        "CONV-ASKS": asked([], ["answer"]),
+        "WALK": mt_trace_samples_walk(),
+    }
+    write("exports/proofs/samples/mt_trace_samples", entry("known-rec known-conv", mt_trace_samples_walks))
 
 
 if __name__ == "__main__":

@@ -163,9 +163,13 @@ module _ {M : Type 1} (𝓤 : URA M) (H : Heap 𝓤) (A : Atoms 𝓤) (W : Given
   abbrev O₂ : List ℕ → Fml
   O₂ l = MutRef (named 2) κ₂ B .own (x₂ γ₂ l) (s₂ ∷ [])
 
-  exits : ent 𝓤 (⋆ 𝓤 H A (‵ (flft κ₀ q₀) ∷ ‵ O₀ ∷ ‵ (flft κ₁ q₁) ∷ ‵ (O₁ (P n)) ∷ ‵ (flft κ₂ q₂) ∷ ‵ (O₂ (N n)) ∷ [])) (Post vunit)
+  -- the tokens, each before what its reference owns when i records are put, and then the rest
+  abbrev Held : ℕ → List (Item 𝓤) → List (Item 𝓤)
+  Held i rest = ‵ (flft κ₀ q₀) ∷ ‵ O₀ ∷ ‵ (flft κ₁ q₁) ∷ ‵ (O₁ (P i)) ∷ ‵ (flft κ₂ q₂) ∷ ‵ (O₂ (N i)) ∷ rest
+
+  exits : ent 𝓤 (⋆ 𝓤 H A (Held n [])) (Post vunit)
   exits =
-      qed W (‵ (flft κ₀ q₀) ∷ ‵ O₀ ∷ ‵ (flft κ₁ q₁) ∷ ‵ (O₁ (P n)) ∷ ‵ (flft κ₂ q₂) ∷ ‵ (O₂ (N n)) ∷ []) ∵
+      qed W (Held n []) ∵
       suffices ! _ (ends-at 𝓤 H A f.ended stayed (f.clauses 𝓤 H A mem run) W bound vunit tt (tt, (P n, (N n, tt))) (tt, (tt, (tt, tt)))) $ says ! (refl, refl) $
       nothing ! $ move ! (5 ∷ 0 ∷ []) $ join ! $ move ! (3 ∷ 0 ∷ []) $ join ! $ move ! (1 ∷ 0 ∷ []) $ join ! $ frame ! $
       nothing ! $ move ! (3 ∷ 0 ∷ []) $ fjoin ! $ move ! (2 ∷ 0 ∷ []) $ fjoin ! $ move ! (1 ∷ 0 ∷ []) $ fjoin ! $ frame ! $ feqI ! (List Val) (vunit ∷ []) (vunit ∷ []) refl $ done !
@@ -183,12 +187,15 @@ module _ {M : Type 1} (𝓤 : URA M) (H : Heap 𝓤) (A : Atoms 𝓤) (W : Given
   abbrev to-put : ℕ → ℕ → GName → GName → ℕ → Put 𝓤 H A mem run .Ghost
   to-put ν₁ ν₂ δ₁ δ₂ i = (((ν₁ ∷ [], (ν₂ ∷ [], tt)), (fullShare, (fullShare, tt)), tt, put-args δ₁ δ₂ i, (s₁ ∷ [], (s₂ ∷ [], (vint w64 i ∷ [], (mach i ∷ [], tt))))), tt)
 
-  goes-put : (ν₁ ν₂ : ℕ) (δ₁ δ₂ : GName) (i : ℕ) → i < 2 ^ 64
-      → ent 𝓤 (⋆ 𝓤 H A (‵ (flft (ν₁ ∷ []) fullShare) ∷ ‵ (flft (ν₂ ∷ []) fullShare) ∷ ‵ (L₁ ν₁ δ₁ i) ∷ ‵ (L₂ ν₂ δ₂ i) ∷ ‵ (T.the-row .own (elem i) (mach i ∷ [])) ∷ [])) (Put 𝓤 H A mem run .pre (to-put ν₁ ν₂ δ₁ δ₂ i))
+  abbrev Put-given : ℕ → ℕ → GName → GName → ℕ → List (Item 𝓤)
+  Put-given ν₁ ν₂ δ₁ δ₂ i = ‵ (flft (ν₁ ∷ []) fullShare) ∷ ‵ (flft (ν₂ ∷ []) fullShare) ∷ ‵ (L₁ ν₁ δ₁ i) ∷ ‵ (L₂ ν₂ δ₂ i) ∷ ‵ (T.the-row .own (elem i) (mach i ∷ [])) ∷ []
+
+  goes-put : (ν₁ ν₂ : ℕ) (δ₁ δ₂ : GName) (i : ℕ) → i < 2 ^ 64 → ent 𝓤 (⋆ 𝓤 H A (Put-given ν₁ ν₂ δ₁ δ₂ i)) (Put 𝓤 H A mem run .pre (to-put ν₁ ν₂ δ₁ δ₂ i))
   goes-put ν₁ ν₂ δ₁ δ₂ i fits =
-      qed W (‵ (flft (ν₁ ∷ []) fullShare) ∷ ‵ (flft (ν₂ ∷ []) fullShare) ∷ ‵ (L₁ ν₁ δ₁ i) ∷ ‵ (L₂ ν₂ δ₂ i) ∷ ‵ (T.the-row .own (elem i) (mach i ∷ [])) ∷ []) ∵
+      qed W (Put-given ν₁ ν₂ δ₁ δ₂ i) ∵
       nothing ! $ move ! (2 ∷ 0 ∷ []) $ join ! $ move ! (1 ∷ 0 ∷ []) $ join ! $
-      nothing ! $ move ! (4 ∷ 0 ∷ []) $ fjoin ! $ owned ! usize (Is usize) (uint-makes 𝓤 H A W w64) i _ (refl, fits) $ fjoin ! $ move ! (3 ∷ 0 ∷ []) $ fjoin ! $ move ! (2 ∷ 0 ∷ []) $ fjoin ! $ move ! (1 ∷ 0 ∷ []) $ join ! $ frame ! $ nothing ! $ done !
+      nothing ! $ move ! (4 ∷ 0 ∷ []) $ fjoin ! $ owned ! usize (Is usize) (uint-makes 𝓤 H A W w64) i _ (refl, fits) $ fjoin ! $ move ! (3 ∷ 0 ∷ []) $ fjoin ! $ move ! (2 ∷ 0 ∷ []) $ fjoin ! $
+      move ! (1 ∷ 0 ∷ []) $ join ! $ frame ! $ nothing ! $ done !
 
   -- after it, at the machine value u: the tokens, and what it ensures; and that, at the last lists
   abbrev After-put : ℕ → ℕ → GName → GName → ℕ → Val → Unit {0} → Item 𝓤
@@ -212,11 +219,17 @@ module _ {M : Type 1} (𝓤 : URA M) (H : Heap 𝓤) (A : Atoms 𝓤) (W : Given
 
     -- what no turn touches: the parameters' locals, the result's, and that each local dies
     abbrev Frame : List (Item 𝓤)
-    Frame = ‵ (fat fullShare S₀ l₁ 0 s₀) ∷ ‵ (fat fullShare S₁ l₂ 0 s₁) ∷ ‵ (fat fullShare S₂ l₃ 0 s₂) ∷ ‵ (froom tyUnit l₀ 0) ∷ ‵ (fdies tyUnit l₀) ∷ ‵ (fdies S₀ l₁) ∷ ‵ (fdies S₁ l₂) ∷ ‵ (fdies S₂ l₃) ∷ ‵ (fdies (tyInt w64) l₄) ∷ ‵ (fdies T′.mir l₅) ∷ ‵ (fdies (tyInt w64) l₆) ∷ ‵ (fdies tyBool l₇) ∷ ‵ (fdies tyPtr l₈) ∷ ‵ (fdies T′.mir l₉) ∷ ‵ (fdies tyUnit l₁₀) ∷ ‵ (fdies R₁ l₁₁) ∷ ‵ (fdies R₂ l₁₂) ∷ []
+    Frame =
+        ‵ (fat fullShare S₀ l₁ 0 s₀) ∷ ‵ (fat fullShare S₁ l₂ 0 s₁) ∷ ‵ (fat fullShare S₂ l₃ 0 s₂) ∷ ‵ (froom tyUnit l₀ 0)
+        ∷ ‵ (fdies tyUnit l₀) ∷ ‵ (fdies S₀ l₁) ∷ ‵ (fdies S₁ l₂) ∷ ‵ (fdies S₂ l₃) ∷ ‵ (fdies (tyInt w64) l₄) ∷ ‵ (fdies T′.mir l₅) ∷ ‵ (fdies (tyInt w64) l₆)
+        ∷ ‵ (fdies tyBool l₇) ∷ ‵ (fdies tyPtr l₈) ∷ ‵ (fdies T′.mir l₉) ∷ ‵ (fdies tyUnit l₁₀) ∷ ‵ (fdies R₁ l₁₁) ∷ ‵ (fdies R₂ l₁₂) ∷ []
 
     -- i records are put
     abbrev At : ℕ → List (Item 𝓤)
-    At i = ‵ (flft κ₀ q₀) ∷ ‵ O₀ ∷ ‵ (flft κ₁ q₁) ∷ ‵ (O₁ (P i)) ∷ ‵ (flft κ₂ q₂) ∷ ‵ (O₂ (N i)) ∷ ‵ (fat fullShare (tyInt w64) l₄ 0 (vint w64 i)) ∷ ‵ (froom T′.mir l₅ 0) ∷ ‵ (froom (tyInt w64) l₆ 0) ∷ ‵ (froom tyBool l₇ 0) ∷ ‵ (froom tyPtr l₈ 0) ∷ ‵ (froom T′.mir l₉ 0) ∷ ‵ (froom tyUnit l₁₀ 0) ∷ ‵ (froom R₁ l₁₁ 0) ∷ ‵ (froom R₂ l₁₂ 0) ∷ Frame
+    At i =
+        Held i
+        (‵ (fat fullShare (tyInt w64) l₄ 0 (vint w64 i)) ∷ ‵ (froom T′.mir l₅ 0) ∷ ‵ (froom (tyInt w64) l₆ 0) ∷ ‵ (froom tyBool l₇ 0) ∷ ‵ (froom tyPtr l₈ 0)
+        ∷ ‵ (froom T′.mir l₉ 0) ∷ ‵ (froom tyUnit l₁₀ 0) ∷ ‵ (froom R₁ l₁₁ 0) ∷ ‵ (froom R₂ l₁₂ 0) ∷ Frame)
 
     abbrev Inv : UpTo n → SProp 𝓤
     Inv t = ⋆ 𝓤 H A (At (t .i))
@@ -319,7 +332,9 @@ module _ {M : Type 1} (𝓤 : URA M) (H : Heap 𝓤) (A : Atoms 𝓤) (W : Given
       → Room T.the-row n → ent 𝓤 (onEntry 𝓤 H A f.signature (κ₀, (κ₁, (κ₂, tt))) (q₀, (q₁, (q₂, tt))) (x₀, (x₁ γ₁ ps, (x₂ γ₂ ms, tt))) at)
       (WpFn 𝓤 H (𝓣 .C) (𝓣 .Λ) code.function (s₀ ∷ s₁ ∷ s₂ ∷ []) Post)
   walk 𝓣 fm known-put g₀ =
-      qed W ((‵ (flft κ₀ q₀) ⊛ (‵ (flft κ₁ q₁) ⊛ (‵ (flft κ₂ q₂) ⊛ ‵ ftrue))) ∷ ‵ (owns (ShrSlice (named 0) κ₀ T.the-row ∷ MutRef (named 1) κ₁ F ∷ MutRef (named 2) κ₂ B ∷ []) (x₀, (x₁ γ₁ ps, (x₂ γ₂ ms, tt))) at) ∷ []) ∵
+      qed W
+      ((‵ (flft κ₀ q₀) ⊛ (‵ (flft κ₁ q₁) ⊛ (‵ (flft κ₂ q₂) ⊛ ‵ ftrue)))
+      ∷ ‵ (owns (ShrSlice (named 0) κ₀ T.the-row ∷ MutRef (named 1) κ₁ F ∷ MutRef (named 2) κ₂ B ∷ []) (x₀, (x₁ γ₁ ps, (x₂ γ₂ ms, tt))) at) ∷ []) ∵
       enter ! (𝓣 .C) (𝓣 .Λ) code.function (s₀ ∷ s₁ ∷ s₂ ∷ []) _ $
       alloc1 ! (λ l₀. alloc1 ! (λ l₁. alloc1 ! (λ l₂. alloc1 ! (λ l₃. alloc1 ! (λ l₄. alloc1 ! (λ l₅. alloc1 ! (λ l₆. alloc1 ! (λ l₇. alloc1 ! (λ l₈. alloc1 ! (λ l₉. alloc1 ! (λ l₁₀. alloc1 ! (λ l₁₁.
       alloc1 ! (λ l₁₂. alloc0 ! $ params1 ! $
@@ -342,7 +357,9 @@ flatten-meets : {M : Type 1} (𝓤 : URA M) (H : Heap 𝓤) (A : Atoms 𝓤) →
     → Triple 𝓤 (𝓣 .C #records·put-sample) (Put 𝓤 H A mem run)
     → Meets 𝓤 H A f.signature (WpFn 𝓤 H (𝓣 .C) (𝓣 .Λ) code.function) (f.spec 𝓤 H A mem run)
 flatten-meets 𝓤 H A W mem run 𝓣 known-put =
-    walk-meets 𝓤 H A f.ended stayed W (goes-none-slice 𝓤 H A W 3 (0 ∷ []) tt (plain (λ _. T.the-row)) yes, (goes-ref 𝓤 H A W 3 1 tt (arrayOf (plain (λ _. f64)) 131074), (goes-ref 𝓤 H A W 3 2 tt (arrayOf (plain (λ _. u8)) 65537), tt))) (f.clauses 𝓤 H A mem run)
+    walk-meets 𝓤 H A f.ended stayed W
+    (goes-none-slice 𝓤 H A W 3 (0 ∷ []) tt (plain (λ _. T.the-row)) yes, (goes-ref 𝓤 H A W 3 1 tt (arrayOf (plain (λ _. f64)) 131074), (goes-ref 𝓤 H A W 3 2 tt (arrayOf (plain (λ _. u8)) 65537), tt)))
+    (f.clauses 𝓤 H A mem run)
     (WpFn 𝓤 H (𝓣 .C) (𝓣 .Λ) code.function) (WpFn-mono 𝓤 H (W .laws) 𝓣 code.function) (flatten-walks 𝓤 H A W mem run 𝓣 known-put)
 
 pub flatten-spec : {M : Type 1} → stated.statement M

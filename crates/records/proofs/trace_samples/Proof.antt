@@ -84,7 +84,8 @@ module _ {M : Type 1} (𝓤 : URA M) (H : Heap 𝓤) (A : Atoms 𝓤) (mem : Mem
   Laid = tripleOf 𝓤 H A laid.signature (laid.spec 𝓤 H A mem run)
 
 module _ {M : Type 1} (𝓤 : URA M) (H : Heap 𝓤) (A : Atoms 𝓤) (W : Given 𝓤 H A) (mem : Memory → SProp 𝓤) (run : Routine → Fun 𝓤)
-    (κ₀ κ₃ κ₄ κ₅ κ₆ κ₇ : Lft) (q₀ q₃ q₄ q₅ q₆ q₇ : Share) (b₀ o₀ b₃ o₃ b₄ o₄ b₅ o₅ b₆ o₆ b₇ o₇ : ℕ) (γ₀ γ₃ γ₄ γ₅ γ₆ γ₇ : GName) (d₀ : List Float) (d₁ : ℕ) (d₂ : ℕ) (d₃ : List Sample) (d₄ : List Float) (d₅ : List ℕ) (d₆ : List ℕ) (d₇ : List Float) where
+    (κ₀ κ₃ κ₄ κ₅ κ₆ κ₇ : Lft) (q₀ q₃ q₄ q₅ q₆ q₇ : Share) (b₀ o₀ b₃ o₃ b₄ o₄ b₅ o₅ b₆ o₆ b₇ o₇ : ℕ) (γ₀ γ₃ γ₄ γ₅ γ₆ γ₇ : GName)
+    (d₀ : List Float) (d₁ d₂ : ℕ) (d₃ : List Sample) (d₄ : List Float) (d₅ d₆ : List ℕ) (d₇ : List Float) where
   abbrev n : ℕ
   n = length d₃
 
@@ -176,25 +177,32 @@ module _ {M : Type 1} (𝓤 : URA M) (H : Heap 𝓤) (A : Atoms 𝓤) (W : Given
   Tokens = (‵ (flft κ₀ q₀) ⊛ (‵ (flft κ₃ q₃) ⊛ (‵ (flft κ₄ q₄) ⊛ (‵ (flft κ₅ q₅) ⊛ (‵ (flft κ₆ q₆) ⊛ (‵ (flft κ₇ q₇) ⊛ ‵ ftrue))))))
 
   abbrev Types : List RattleType
-  Types = ShrSlice (named 0) κ₀ f64 ∷ usize ∷ usize ∷ ShrSlice (named 1) κ₃ T.the-row ∷ MutSlice (named 2) κ₄ f64 ∷ MutSlice (named 3) κ₅ usize ∷ MutSlice (named 4) κ₆ usize ∷ MutSlice (named 5) κ₇ f64 ∷ []
+  Types =
+      ShrSlice (named 0) κ₀ f64 ∷ usize ∷ usize ∷ ShrSlice (named 1) κ₃ T.the-row
+      ∷ MutSlice (named 2) κ₄ f64 ∷ MutSlice (named 3) κ₅ usize ∷ MutSlice (named 4) κ₆ usize ∷ MutSlice (named 5) κ₇ f64 ∷ []
 
   -- at the exit, before the result: the tokens, the slices that are read, and the last lists of the others
   abbrev Left : List Float → List ℕ → List ℕ → List Float → List (Item 𝓤) → List (Item 𝓤)
-  Left w₄ w₅ w₆ w₇ rest = ‵ (flft κ₀ q₀) ∷ ‵ (flft κ₃ q₃) ∷ ‵ (flft κ₄ q₄) ∷ ‵ (flft κ₅ q₅) ∷ ‵ (flft κ₆ q₆) ∷ ‵ (flft κ₇ q₇) ∷ ‵ O₀ ∷ ‵ O₃ ∷ ‵ (finally f64 γ₄ w₄) ∷ ‵ (finally usize γ₅ w₅) ∷ ‵ (finally usize γ₆ w₆) ∷ ‵ (finally f64 γ₇ w₇) ∷ rest
+  Left w₄ w₅ w₆ w₇ rest =
+      ‵ (flft κ₀ q₀) ∷ ‵ (flft κ₃ q₃) ∷ ‵ (flft κ₄ q₄) ∷ ‵ (flft κ₅ q₅) ∷ ‵ (flft κ₆ q₆) ∷ ‵ (flft κ₇ q₇)
+      ∷ ‵ O₀ ∷ ‵ O₃ ∷ ‵ (finally f64 γ₄ w₄) ∷ ‵ (finally usize γ₅ w₅) ∷ ‵ (finally usize γ₆ w₆) ∷ ‵ (finally f64 γ₇ w₇) ∷ rest
 
   -- what `trace_flattened` ensures, at the last lists of the outputs
   abbrev Said : Trace → List Float → List ℕ → List ℕ → List Float → Type 0
   Said r w₄ w₅ w₆ w₇ = (ss : List Sample) → length ss ≡ n → Flattened ss P N → Traces (traceFlat d₀ d₁ d₂ (pairsOf ss) (marksOf ss) (lists d₄ d₅ d₆ d₇)) r w₄ w₅ w₆ w₇
 
-  exits : d₁ < 2 ^ 64 → d₂ < 2 ^ 64 → (r : Trace) (v : Val) (w₄ : List Float) (w₅ w₆ : List ℕ) (w₇ : List Float) → Said r w₄ w₅ w₆ w₇ → length w₄ ≡ length d₄ → length w₅ ≡ length d₅ → length w₆ ≡ length d₆ → length w₇ ≡ length d₇
+  exits : d₁ < 2 ^ 64 → d₂ < 2 ^ 64 → (r : Trace) (v : Val) (w₄ : List Float) (w₅ w₆ : List ℕ) (w₇ : List Float) → Said r w₄ w₅ w₆ w₇
+      → length w₄ ≡ length d₄ → length w₅ ≡ length d₅ → length w₆ ≡ length d₆ → length w₇ ≡ length d₇
       → ent 𝓤 (⋆ 𝓤 H A (Left w₄ w₅ w₆ w₇ (‵ (An.the-row .own r (v ∷ [])) ∷ []))) (Post v)
   exits g₁ g₂ r v w₄ w₅ w₆ w₇ said e₄ e₅ e₆ e₇ =
       qed W (Left w₄ w₅ w₆ w₇ (‵ (An.the-row .own r (v ∷ [])) ∷ [])) ∵
       suffices ! _ (ends-at 𝓤 H A f.ended stayed (f.clauses 𝓤 H A mem run) W bound v r (tt, (tt, (tt, (tt, (w₄, (w₅, (w₆, (w₇, tt)))))))) (tt, (tt, (tt, (tt, (e₄, (e₅, (e₆, (e₇, tt))))))))) $
       says-both ! (said d₃ refl (flattened d₃ xF xB lF lB)) (demand3 d₀ d₁ d₂) $
-      nothing ! $ move ! (6 ∷ 0 ∷ []) $ join ! $ move ! (5 ∷ 0 ∷ []) $ join ! $ move ! (4 ∷ 0 ∷ []) $ join ! $ move ! (3 ∷ 0 ∷ []) $ join ! $ move ! (2 ∷ 0 ∷ []) $ join ! $ move ! (1 ∷ 0 ∷ []) $ join ! $ frame ! $
+      nothing ! $ move ! (6 ∷ 0 ∷ []) $ join ! $ move ! (5 ∷ 0 ∷ []) $ join ! $ move ! (4 ∷ 0 ∷ []) $ join ! $ move ! (3 ∷ 0 ∷ []) $ join ! $ move ! (2 ∷ 0 ∷ []) $ join ! $ move ! (1 ∷ 0 ∷ []) $ join ! $
+      frame ! $
       nothing ! $ move ! (6 ∷ 0 ∷ []) $ fjoin ! $ move ! (5 ∷ 0 ∷ []) $ fjoin ! $ move ! (4 ∷ 0 ∷ []) $ fjoin ! $ move ! (3 ∷ 0 ∷ []) $ fjoin ! $ move ! (2 ∷ 0 ∷ []) $ fjoin ! $
-      owned ! usize (Is usize) (uint-makes 𝓤 H A W w64) d₂ _ (refl, g₂) $ fjoin ! $ owned ! usize (Is usize) (uint-makes 𝓤 H A W w64) d₁ _ (refl, g₁) $ fjoin ! $ move ! (1 ∷ 0 ∷ []) $ fjoin ! $ frame ! $ done !
+      owned ! usize (Is usize) (uint-makes 𝓤 H A W w64) d₂ _ (refl, g₂) $ fjoin ! $ owned ! usize (Is usize) (uint-makes 𝓤 H A W w64) d₁ _ (refl, g₁) $ fjoin ! $ move ! (1 ∷ 0 ∷ []) $ fjoin ! $ frame ! $
+      done !
 
   -- ---- what the arrays own while they are lent, at the blocks l and l′ of their locals
   abbrev aF : ℕ → GName → List Float → RefT (List Float)
@@ -222,9 +230,12 @@ module _ {M : Type 1} (𝓤 : URA M) (H : Heap 𝓤) (A : Atoms 𝓤) (W : Given
   abbrev to-flat : ℕ → ℕ → ℕ → ℕ → GName → GName → Flat 𝓤 H A mem run .Ghost
   to-flat l l′ ν ν′ δ δ′ = (((κ₃, (ν ∷ [], (ν′ ∷ [], tt))), (q₃, (fullShare, (fullShare, tt))), tt, flat-args l l′ δ δ′, (s₃ ∷ [], (vptr l 0 ∷ [], (vptr l′ 0 ∷ [], tt)))), tt)
 
-  goes-flat : (l l′ ν ν′ : ℕ) (δ δ′ : GName) → ent 𝓤 (⋆ 𝓤 H A (‵ (flft κ₃ q₃) ∷ ‵ (flft (ν ∷ []) fullShare) ∷ ‵ (flft (ν′ ∷ []) fullShare) ∷ ‵ O₃ ∷ ‵ (LentF l ν δ) ∷ ‵ (LentB l′ ν′ δ′) ∷ [])) (Flat 𝓤 H A mem run .pre (to-flat l l′ ν ν′ δ δ′))
+  abbrev Flat-given : ℕ → ℕ → ℕ → ℕ → GName → GName → List (Item 𝓤)
+  Flat-given l l′ ν ν′ δ δ′ = ‵ (flft κ₃ q₃) ∷ ‵ (flft (ν ∷ []) fullShare) ∷ ‵ (flft (ν′ ∷ []) fullShare) ∷ ‵ O₃ ∷ ‵ (LentF l ν δ) ∷ ‵ (LentB l′ ν′ δ′) ∷ []
+
+  goes-flat : (l l′ ν ν′ : ℕ) (δ δ′ : GName) → ent 𝓤 (⋆ 𝓤 H A (Flat-given l l′ ν ν′ δ δ′)) (Flat 𝓤 H A mem run .pre (to-flat l l′ ν ν′ δ δ′))
   goes-flat l l′ ν ν′ δ δ′ =
-      qed W (‵ (flft κ₃ q₃) ∷ ‵ (flft (ν ∷ []) fullShare) ∷ ‵ (flft (ν′ ∷ []) fullShare) ∷ ‵ O₃ ∷ ‵ (LentF l ν δ) ∷ ‵ (LentB l′ ν′ δ′) ∷ []) ∵
+      qed W (Flat-given l l′ ν ν′ δ δ′) ∵
       nothing ! $ move ! (3 ∷ 0 ∷ []) $ join ! $ move ! (2 ∷ 0 ∷ []) $ join ! $ move ! (1 ∷ 0 ∷ []) $ join ! $
       nothing ! $ move ! (4 ∷ 0 ∷ []) $ fjoin ! $ move ! (3 ∷ 0 ∷ []) $ fjoin ! $ move ! (2 ∷ 0 ∷ []) $ fjoin ! $ move ! (1 ∷ 0 ∷ []) $ join ! $ frame ! $ nothing ! $ done !
 
@@ -240,19 +251,29 @@ module _ {M : Type 1} (𝓤 : URA M) (H : Heap 𝓤) (A : Atoms 𝓤) (W : Given
   abbrev laid-lfts : ℕ → ℕ → Lfts 7
   laid-lfts ν ν′ = (κ₀, (ν ∷ [], (ν′ ∷ [], (κ₄, (κ₅, (κ₆, (κ₇, tt)))))))
 
+  abbrev laid-shares : Shares 7
+  laid-shares = (q₀, (fullShare, (fullShare, (q₄, (q₅, (q₆, (q₇, tt)))))))
+
   abbrev laid-args : ℕ → ℕ → GName → GName → RefT (List Float) × (ℕ × (ℕ × (RefT (List Float) × (RefT (List ℕ) × (ℕ × (RefT (List Float) × (RefT (List ℕ) × (RefT (List ℕ) × (RefT (List Float) × Unit {0})))))))))
   laid-args l l′ δ δ′ = (x₀, (d₁, (d₂, (aF l δ P, (aB l′ δ′ N, (n, (x₄, (x₅, (x₆, (x₇, tt))))))))))
 
   abbrev to-laid : ℕ → ℕ → ℕ → ℕ → GName → GName → Laid 𝓤 H A mem run .Ghost
-  to-laid l l′ ν ν′ δ δ′ = ((laid-lfts ν ν′, (q₀, (fullShare, (fullShare, (q₄, (q₅, (q₆, (q₇, tt))))))), tt, laid-args l l′ δ δ′, (s₀ ∷ [], (vint w64 d₁ ∷ [], (vint w64 d₂ ∷ [], (vptr l 0 ∷ [], (vptr l′ 0 ∷ [], (vint w64 n ∷ [], (s₄ ∷ [], (s₅ ∷ [], (s₆ ∷ [], (s₇ ∷ [], tt))))))))))), tt)
+  to-laid l l′ ν ν′ δ δ′ = ((laid-lfts ν ν′, laid-shares, tt, laid-args l l′ δ δ′, (s₀ ∷ [], (vint w64 d₁ ∷ [], (vint w64 d₂ ∷ [], (vptr l 0 ∷ [], (vptr l′ 0 ∷ [], (vint w64 n ∷ [], (s₄ ∷ [], (s₅ ∷ [], (s₆ ∷ [], (s₇ ∷ [], tt))))))))))), tt)
 
-  goes-laid : d₁ < 2 ^ 64 → d₂ < 2 ^ 64 → n < 2 ^ 64 → (l l′ ν ν′ : ℕ) (δ δ′ : GName) → ent 𝓤 (⋆ 𝓤 H A (‵ (flft κ₀ q₀) ∷ ‵ (flft (ν ∷ []) fullShare) ∷ ‵ (flft (ν′ ∷ []) fullShare) ∷ ‵ (flft κ₄ q₄) ∷ ‵ (flft κ₅ q₅) ∷ ‵ (flft κ₆ q₆) ∷ ‵ (flft κ₇ q₇) ∷ ‵ O₀ ∷ ‵ (SharedF l ν δ) ∷ ‵ (SharedB l′ ν′ δ′) ∷ ‵ O₄ ∷ ‵ O₅ ∷ ‵ O₆ ∷ ‵ O₇ ∷ [])) (Laid 𝓤 H A mem run .pre (to-laid l l′ ν ν′ δ δ′))
+  abbrev Laid-given : ℕ → ℕ → ℕ → ℕ → GName → GName → List (Item 𝓤)
+  Laid-given l l′ ν ν′ δ δ′ =
+      ‵ (flft κ₀ q₀) ∷ ‵ (flft (ν ∷ []) fullShare) ∷ ‵ (flft (ν′ ∷ []) fullShare) ∷ ‵ (flft κ₄ q₄) ∷ ‵ (flft κ₅ q₅) ∷ ‵ (flft κ₆ q₆) ∷ ‵ (flft κ₇ q₇)
+      ∷ ‵ O₀ ∷ ‵ (SharedF l ν δ) ∷ ‵ (SharedB l′ ν′ δ′) ∷ ‵ O₄ ∷ ‵ O₅ ∷ ‵ O₆ ∷ ‵ O₇ ∷ []
+
+  goes-laid : d₁ < 2 ^ 64 → d₂ < 2 ^ 64 → n < 2 ^ 64 → (l l′ ν ν′ : ℕ) (δ δ′ : GName) → ent 𝓤 (⋆ 𝓤 H A (Laid-given l l′ ν ν′ δ δ′)) (Laid 𝓤 H A mem run .pre (to-laid l l′ ν ν′ δ δ′))
   goes-laid g₁ g₂ gn l l′ ν ν′ δ δ′ =
-      qed W (‵ (flft κ₀ q₀) ∷ ‵ (flft (ν ∷ []) fullShare) ∷ ‵ (flft (ν′ ∷ []) fullShare) ∷ ‵ (flft κ₄ q₄) ∷ ‵ (flft κ₅ q₅) ∷ ‵ (flft κ₆ q₆) ∷ ‵ (flft κ₇ q₇) ∷ ‵ O₀ ∷ ‵ (SharedF l ν δ) ∷ ‵ (SharedB l′ ν′ δ′) ∷ ‵ O₄ ∷ ‵ O₅ ∷ ‵ O₆ ∷ ‵ O₇ ∷ []) ∵
-      nothing ! $ move ! (7 ∷ 0 ∷ []) $ join ! $ move ! (6 ∷ 0 ∷ []) $ join ! $ move ! (5 ∷ 0 ∷ []) $ join ! $ move ! (4 ∷ 0 ∷ []) $ join ! $ move ! (3 ∷ 0 ∷ []) $ join ! $ move ! (2 ∷ 0 ∷ []) $ join ! $ move ! (1 ∷ 0 ∷ []) $ join ! $
-      nothing ! $ move ! (8 ∷ 0 ∷ []) $ fjoin ! $ move ! (7 ∷ 0 ∷ []) $ fjoin ! $ move ! (6 ∷ 0 ∷ []) $ fjoin ! $ move ! (5 ∷ 0 ∷ []) $ fjoin ! $ owned ! usize (Is usize) (uint-makes 𝓤 H A W w64) n _ (refl, gn) $ fjoin ! $
-      move ! (4 ∷ 0 ∷ []) $ fjoin ! $ move ! (3 ∷ 0 ∷ []) $ fjoin ! $ owned ! usize (Is usize) (uint-makes 𝓤 H A W w64) d₂ _ (refl, g₂) $ fjoin ! $ owned ! usize (Is usize) (uint-makes 𝓤 H A W w64) d₁ _ (refl, g₁) $ fjoin ! $
-      move ! (2 ∷ 0 ∷ []) $ fjoin ! $ move ! (1 ∷ 0 ∷ []) $ join ! $ frame ! $ nothing ! $ done !
+      qed W (Laid-given l l′ ν ν′ δ δ′) ∵
+      nothing ! $ move ! (7 ∷ 0 ∷ []) $ join ! $ move ! (6 ∷ 0 ∷ []) $ join ! $ move ! (5 ∷ 0 ∷ []) $ join ! $ move ! (4 ∷ 0 ∷ []) $ join ! $ move ! (3 ∷ 0 ∷ []) $ join ! $ move ! (2 ∷ 0 ∷ []) $ join ! $
+      move ! (1 ∷ 0 ∷ []) $ join ! $
+      nothing ! $ move ! (8 ∷ 0 ∷ []) $ fjoin ! $ move ! (7 ∷ 0 ∷ []) $ fjoin ! $ move ! (6 ∷ 0 ∷ []) $ fjoin ! $ move ! (5 ∷ 0 ∷ []) $ fjoin ! $
+      owned ! usize (Is usize) (uint-makes 𝓤 H A W w64) n _ (refl, gn) $ fjoin ! $ move ! (4 ∷ 0 ∷ []) $ fjoin ! $ move ! (3 ∷ 0 ∷ []) $ fjoin ! $
+      owned ! usize (Is usize) (uint-makes 𝓤 H A W w64) d₂ _ (refl, g₂) $ fjoin ! $ owned ! usize (Is usize) (uint-makes 𝓤 H A W w64) d₁ _ (refl, g₁) $ fjoin ! $ move ! (2 ∷ 0 ∷ []) $ fjoin ! $
+      move ! (1 ∷ 0 ∷ []) $ join ! $ frame ! $ nothing ! $ done !
 
   abbrev After-laid : ℕ → ℕ → ℕ → ℕ → GName → GName → Val → Trace → Item 𝓤
   After-laid l l′ ν ν′ δ δ′ v r =
@@ -265,7 +286,8 @@ module _ {M : Type 1} (𝓤 : URA M) (H : Heap 𝓤) (A : Atoms 𝓤) (W : Given
       ‵ (lasts laid.ended (laid-lfts ν ν′) (laid-args l l′ δ δ′) ws)
       ⊛ raw (fact 𝓤 (Said r (ws .1 .1 .1 .1 .1 .1 .0) (ws .1 .1 .1 .1 .1 .1 .1 .0) (ws .1 .1 .1 .1 .1 .1 .1 .1 .0) (ws .1 .1 .1 .1 .1 .1 .1 .1 .1 .0)))
 
-  module _ (C : Calls 𝓤 H) (Λ : Loops 𝓤 H) (fm : FmC 𝓤 H (W .laws) C) (known-flat : Triple 𝓤 (C #records·flatten) (Flat 𝓤 H A mem run)) (known-laid : Triple 𝓤 (C #records·trace-flattened) (Laid 𝓤 H A mem run)) where
+  module _ (C : Calls 𝓤 H) (Λ : Loops 𝓤 H) (fm : FmC 𝓤 H (W .laws) C)
+      (known-flat : Triple 𝓤 (C #records·flatten) (Flat 𝓤 H A mem run)) (known-laid : Triple 𝓤 (C #records·trace-flattened) (Laid 𝓤 H A mem run)) where
     walk : Room f64 (length d₀) → d₁ < 2 ^ 64 → d₂ < 2 ^ 64 → Room T.the-row (length d₃) → Room f64 (length d₄) → Room usize (length d₅) → Room usize (length d₆) → Room f64 (length d₇) →
         ent 𝓤 (onEntry 𝓤 H A f.signature κs qs a at) (WpFn 𝓤 H C Λ code.function args Post)
     walk g₀ g₁ g₂ g₃ g₄ g₅ g₆ g₇ =
@@ -360,7 +382,16 @@ module _ {M : Type 1} (𝓤 : URA M) (H : Heap 𝓤) (A : Atoms 𝓤) (W : Given
   trace-samples-walks C Λ fm known-flat known-laid = walked 𝓤 H A f.ended stayed (f.clauses 𝓤 H A mem run) (WpFn 𝓤 H C Λ code.function)
       (λ κs. (slice-vals, (uint-vals w64, (uint-vals w64, (slice-vals, (slice-vals, (slice-vals, (slice-vals, (slice-vals, tt)))))))))
       (λ κs. (shr-slice-tells (named 0) (κs .0) f64, (uint-tells w64, (uint-tells w64, (shr-slice-tells (named 1) (κs .1 .0) T.the-row, (mut-slice-tells (named 2) (κs .1 .1 .0) f64, (mut-slice-tells (named 3) (κs .1 .1 .1 .0) usize, (mut-slice-tells (named 4) (κs .1 .1 .1 .1 .0) usize, (mut-slice-tells (named 5) (κs .1 .1 .1 .1 .1 .0) f64, tt)))))))))
-      (λ κs qs bounds a g are. via 𝓤 _ (fst∗ 𝓤 _ (emp 𝓤)) (walk 𝓤 H A W mem run (κs .0) (κs .1 .0) (κs .1 .1 .0) (κs .1 .1 .1 .0) (κs .1 .1 .1 .1 .0) (κs .1 .1 .1 .1 .1 .0) (qs .0) (qs .1 .0) (qs .1 .1 .0) (qs .1 .1 .1 .0) (qs .1 .1 .1 .1 .0) (qs .1 .1 .1 .1 .1 .0) (a .0 .ptr .0) (a .0 .ptr .1) (a .1 .1 .1 .0 .ptr .0) (a .1 .1 .1 .0 .ptr .1) (a .1 .1 .1 .1 .0 .ptr .0) (a .1 .1 .1 .1 .0 .ptr .1) (a .1 .1 .1 .1 .1 .0 .ptr .0) (a .1 .1 .1 .1 .1 .0 .ptr .1) (a .1 .1 .1 .1 .1 .1 .0 .ptr .0) (a .1 .1 .1 .1 .1 .1 .0 .ptr .1) (a .1 .1 .1 .1 .1 .1 .1 .0 .ptr .0) (a .1 .1 .1 .1 .1 .1 .1 .0 .ptr .1) (a .0 .name) (a .1 .1 .1 .0 .name) (a .1 .1 .1 .1 .0 .name) (a .1 .1 .1 .1 .1 .0 .name) (a .1 .1 .1 .1 .1 .1 .0 .name) (a .1 .1 .1 .1 .1 .1 .1 .0 .name) (a .0 .now) (a .1 .0) (a .1 .1 .0) (a .1 .1 .1 .0 .now) (a .1 .1 .1 .1 .0 .now) (a .1 .1 .1 .1 .1 .0 .now) (a .1 .1 .1 .1 .1 .1 .0 .now) (a .1 .1 .1 .1 .1 .1 .1 .0 .now) C Λ fm known-flat known-laid (are .0 .0 .1) (are .1 .0 .1) (are .1 .1 .0 .1) (are .1 .1 .1 .0 .0 .1) (are .1 .1 .1 .1 .0 .0 .1) (are .1 .1 .1 .1 .1 .0 .0 .1) (are .1 .1 .1 .1 .1 .1 .0 .0 .1) (are .1 .1 .1 .1 .1 .1 .1 .0 .0 .1)))
+      (λ κs qs bounds a g are. via 𝓤 _ (fst∗ 𝓤 _ (emp 𝓤))
+      (walk 𝓤 H A W mem run
+      (κs .0) (κs .1 .0) (κs .1 .1 .0) (κs .1 .1 .1 .0) (κs .1 .1 .1 .1 .0) (κs .1 .1 .1 .1 .1 .0)
+      (qs .0) (qs .1 .0) (qs .1 .1 .0) (qs .1 .1 .1 .0) (qs .1 .1 .1 .1 .0) (qs .1 .1 .1 .1 .1 .0)
+      (a .0 .ptr .0) (a .0 .ptr .1) (a .1 .1 .1 .0 .ptr .0) (a .1 .1 .1 .0 .ptr .1) (a .1 .1 .1 .1 .0 .ptr .0) (a .1 .1 .1 .1 .0 .ptr .1)
+      (a .1 .1 .1 .1 .1 .0 .ptr .0) (a .1 .1 .1 .1 .1 .0 .ptr .1) (a .1 .1 .1 .1 .1 .1 .0 .ptr .0) (a .1 .1 .1 .1 .1 .1 .0 .ptr .1) (a .1 .1 .1 .1 .1 .1 .1 .0 .ptr .0) (a .1 .1 .1 .1 .1 .1 .1 .0 .ptr .1)
+      (a .0 .name) (a .1 .1 .1 .0 .name) (a .1 .1 .1 .1 .0 .name) (a .1 .1 .1 .1 .1 .0 .name) (a .1 .1 .1 .1 .1 .1 .0 .name) (a .1 .1 .1 .1 .1 .1 .1 .0 .name)
+      (a .0 .now) (a .1 .0) (a .1 .1 .0) (a .1 .1 .1 .0 .now) (a .1 .1 .1 .1 .0 .now) (a .1 .1 .1 .1 .1 .0 .now) (a .1 .1 .1 .1 .1 .1 .0 .now) (a .1 .1 .1 .1 .1 .1 .1 .0 .now)
+      C Λ fm known-flat known-laid
+      (are .0 .0 .1) (are .1 .0 .1) (are .1 .1 .0 .1) (are .1 .1 .1 .0 .0 .1) (are .1 .1 .1 .1 .0 .0 .1) (are .1 .1 .1 .1 .1 .0 .0 .1) (are .1 .1 .1 .1 .1 .1 .0 .0 .1) (are .1 .1 .1 .1 .1 .1 .1 .0 .0 .1)))
 
 trace-samples-meets : {M : Type 1} (𝓤 : URA M) (H : Heap 𝓤) (A : Atoms 𝓤) → Given 𝓤 H A → (mem : Memory → SProp 𝓤) (run : Routine → Fun 𝓤) (𝓣 : Tables 𝓤 H)
     → Triple 𝓤 (𝓣 .C #records·flatten) (Flat 𝓤 H A mem run) → Triple 𝓤 (𝓣 .C #records·trace-flattened) (Laid 𝓤 H A mem run)
