@@ -99,7 +99,7 @@ class Walk:
     # ---- operands and assignments
 
     def load(self, k):
-        return f"load ! (from ! (stop !)) (look ! {self.at(f'l{k}')} refl)"
+        return f"local ! {self.at(f'l{k}')} refl"
 
     def field(self, k, j):
         return f"load ! (from ! (fld ! refl (stop !))) (look-in ! {self.at(f'l{k}')} (sub ! {j} refl (whole !)))"

@@ -58,6 +58,7 @@ use Rattle.records.specs.Flattened.{nowhere, pairsUpTo, marksUpTo}
 use Rattle.records.specs.declared.Sample.{Sample}
 use Rattle.records.proofs.Sample as T
 use Rattle.records.proofs.Sample.Laws as T′
+use Rattle.records.proofs.Steps.{local}
 use Rattle.records.proofs.Zeros.{F, B, AF, AB}
 use Rattle.records.proofs.put_sample as put
 use Rattle.records.proofs.put_sample.Symbol as put-def
@@ -247,11 +248,11 @@ module _ {M : Type 1} (𝓤 : URA M) (H : Heap 𝓤) (A : Atoms 𝓤) (W : Given
     more i X small k =
         qed W (At i) ∵ exec ! C Λ En body.turn-1 (anyQ (afterTurn 𝓤 H X Left)) $
         assigns ! (of-opd ! (load ! (from ! (fld ! refl (stop !))) (look-in ! 15 (sub ! 1 refl (whole !))))) (from ! (stop !)) (init ! 8 refl (tt, record { fits = g₀ .0 })) $
-        assigns ! (bin ! (load ! (from ! (stop !)) (look ! 6 refl)) (load ! (from ! (stop !)) (look ! 8 refl)) tt) (from ! (stop !)) (init ! 9 refl (tt, tt)) $
-        rewrite ! 9 (λ (t : Bool). ‵ (fat fullShare tyBool l₇ 0 (vbool t))) (lt-ltb i n small) refl $ stays ! (load ! (from ! (stop !)) (look ! 9 refl)) $
+        assigns ! (bin ! (local ! 6 refl) (local ! 8 refl) tt) (from ! (stop !)) (init ! 9 refl (tt, tt)) $
+        rewrite ! 9 (λ (t : Bool). ‵ (fat fullShare tyBool l₇ 0 (vbool t))) (lt-ltb i n small) refl $ stays ! (local ! 9 refl) $
         -- the place of `samples[i]`
-        assigns ! (bin ! (load ! (from ! (stop !)) (look ! 6 refl)) (lit ! tt) (record { fits = scaled })) (from ! (stop !)) (store ! 8 refl (tt, record { fits = scaled })) $
-        assigns ! (bin ! (load ! (from ! (fld ! refl (stop !))) (look-in ! 15 (sub ! 0 refl (whole !)))) (load ! (from ! (stop !)) (look ! 8 refl)) tt) (from ! (stop !)) (init ! 10 refl (tt, tt)) $
+        assigns ! (bin ! (local ! 6 refl) (lit ! tt) (record { fits = scaled })) (from ! (stop !)) (store ! 8 refl (tt, record { fits = scaled })) $
+        assigns ! (bin ! (load ! (from ! (fld ! refl (stop !))) (look-in ! 15 (sub ! 0 refl (whole !)))) (local ! 8 refl) tt) (from ! (stop !)) (init ! 10 refl (tt, tt)) $
         rewrite ! 10 (λ (p : ℕ). ‵ (fat fullShare tyPtr l₈ 0 (vptr b₀ p))) (sym (place-is 24 o₀ i)) refl $
         -- the slice is opened, and the record there is copied
         move ! (1 ∷ []) $ fsplit ! $ move ! (1 ∷ []) $ fsplit ! $ move ! (1 ∷ 3 ∷ []) $
@@ -259,7 +260,7 @@ module _ {M : Type 1} (𝓤 : URA M) (H : Heap 𝓤) (A : Atoms 𝓤) (W : Given
         elem-out ! T.the-row (Is T.the-row) (shows 𝓤 H A T.the-row) vals (LL.tells T.the-type T′.the-laws) q′ ss i nowhere b₀ o₀ small (λ is.
         assigns ! (of-opd ! (load ! (from ! (hop ! (look ! 15 refl) (stop !))) (look-raw ! 0 refl))) (from ! (stop !)) (init ! 16 refl (LL.lawful T.the-type T′.the-laws 𝓤 H A W .typed (elem i) _ is .0)) $
         elem-back ! T.the-row q′ ss i nowhere (mach i ∷ []) b₀ o₀ small $ shuts-slice ! tt T.the-row q′ ss b₀ o₀ $ move ! (1 ∷ []) $ move ! (2 ∷ 0 ∷ []) $ fjoin ! $ move ! (2 ∷ 0 ∷ []) $ fjoin ! $
-        assigns ! (of-opd ! (load ! (from ! (stop !)) (look ! 11 refl))) (from ! (stop !)) (init ! 7 refl (LL.lawful T.the-type T′.the-laws 𝓤 H A W .typed (elem i) _ is .0)) $
+        assigns ! (of-opd ! (local ! 11 refl)) (from ! (stop !)) (init ! 7 refl (LL.lawful T.the-type T′.the-laws 𝓤 H A W .typed (elem i) _ is .0)) $
         -- `put_sample`: both lists are lent again, each for a lifetime made for the call
         assigns ! (addr ! (from ! (hop ! (look ! 16 refl) (stop !)))) (from ! (stop !)) (init ! 13 refl (tt, tt)) $
         assigns ! (addr ! (from ! (hop ! (look ! 17 refl) (stop !)))) (from ! (stop !)) (init ! 14 refl (tt, tt)) $
@@ -271,7 +272,7 @@ module _ {M : Type 1} (𝓤 : URA M) (H : Heap 𝓤) (A : Atoms 𝓤) (W : Given
         pick ! (λ δ₂. split ! $
         owned ! T.the-row (Is T.the-row) (LL.makes T.the-type T′.the-plain 𝓤 H A) (elem i) _ is $ move ! (6 ∷ 3 ∷ 4 ∷ 1 ∷ 0 ∷ []) $ group ! 5 $
         use1 W (raw (Put 𝓤 H A mem run .pre (to-put ν₁ ν₂ δ₁ δ₂ i))) (goes-put ν₁ ν₂ δ₁ δ₂ i fits) $
-        calls-at ! fm (Put 𝓤 H A mem run) known-put (to-put ν₁ ν₂ δ₁ δ₂ i) (and-then ! (load ! (from ! (stop !)) (look ! 12 refl)) (and-then ! (load ! (from ! (stop !)) (look ! 13 refl)) (and-then ! (load ! (from ! (stop !)) (look ! 5 refl)) (and-then ! (load ! (from ! (stop !)) (look ! 6 refl)) (no-more !))))) (λ u.
+        calls-at ! fm (Put 𝓤 H A mem run) known-put (to-put ν₁ ν₂ δ₁ δ₂ i) (and-then ! (local ! 12 refl) (and-then ! (local ! 13 refl) (and-then ! (local ! 5 refl) (and-then ! (local ! 6 refl) (no-more !))))) (λ u.
         -- what it hands back, and what it ensures
         use1 W (later (some (After-put ν₁ ν₂ δ₁ δ₂ i u))) (id⊢ 𝓤 _) $ await ! tt $ pick ! (λ z. split ! $ move ! (1 ∷ []) $ use1 W (some (Put-said ν₁ ν₂ δ₁ δ₂ i)) (id⊢ 𝓤 _) $ pick ! (λ zs. split ! $
         move ! (1 ∷ []) $ heard ! ((zs .0 ≡ P (suc i)) × (zs .1 .0 ≡ N (suc i))) (λ e. fsplit ! $ move ! (1 ∷ []) $ fsplit ! $ move ! (3 ∷ []) $ split ! $ move ! (1 ∷ []) $ feqL ! (λ eu.
@@ -283,7 +284,7 @@ module _ {M : Type 1} (𝓤 : URA M) (H : Heap 𝓤) (A : Atoms 𝓤) (W : Given
         move ! (2 ∷ []) $ lft-end ! tt $ move ! (0 ∷ 6 ∷ 4 ∷ []) $ use3 W (later (‵ (O₂ (zs .1 .0)) ⊛ ‵ (flft κ₂ q₂))) (comes-back 𝓤 H A W B (named 2) κ₂ (ν₂ ∷ []) q₂ γ₂ b₂ o₂ δ₂ (N i) (zs .1 .0)) $
         await ! tt $ split ! $ rewrite ! 0 (λ (l : List ℕ). ‵ (O₂ l)) (e .1) refl $
         -- `i += 1`, and the context is that of the next turn
-        assigns-last ! (bin ! (load ! (from ! (stop !)) (look ! 8 refl)) (lit ! tt) (record { fits = next-fits })) (from ! (stop !)) (store ! 8 refl (tt, record { fits = next-fits })) $
+        assigns-last ! (bin ! (local ! 8 refl) (lit ! tt) (record { fits = next-fits })) (from ! (stop !)) (store ! 8 refl (tt, record { fits = next-fits })) $
         forget ! 9 refl $ forget ! 10 refl $ forget ! 11 refl $ forget ! 12 refl $ forget ! 13 refl $ forget ! 14 refl $ forget ! 15 refl $ forget ! 16 refl $
         rewrite ! 8 (λ (j : ℕ). ‵ (fat fullShare (tyInt w64) l₄ 0 (vint w64 j))) (add-one i) refl $
         keep ! (7 ∷ 6 ∷ 3 ∷ 2 ∷ 1 ∷ 0 ∷ 8 ∷ 9 ∷ 10 ∷ 11 ∷ 12 ∷ 13 ∷ 14 ∷ 15 ∷ 16 ∷ 17 ∷ 18 ∷ 19 ∷ 20 ∷ 21 ∷ 22 ∷ 23 ∷ 24 ∷ 25 ∷ 26 ∷ 27 ∷ 28 ∷ 29 ∷ 30 ∷ 31 ∷ 32 ∷ 33 ∷ []) $ by ! k)))))))))))
@@ -303,8 +304,8 @@ module _ {M : Type 1} (𝓤 : URA M) (H : Heap 𝓤) (A : Atoms 𝓤) (W : Given
     ends X =
         qed W (At n) ∵ exec ! C Λ En body.turn-1 (anyQ (afterTurn 𝓤 H X Left)) $
         assigns ! (of-opd ! (load ! (from ! (fld ! refl (stop !))) (look-in ! 15 (sub ! 1 refl (whole !))))) (from ! (stop !)) (init ! 8 refl (tt, record { fits = g₀ .0 })) $
-        assigns ! (bin ! (load ! (from ! (stop !)) (look ! 6 refl)) (load ! (from ! (stop !)) (look ! 8 refl)) tt) (from ! (stop !)) (init ! 9 refl (tt, tt)) $
-        rewrite ! 9 (λ (t : Bool). ‵ (fat fullShare tyBool l₇ 0 (vbool t))) (le-ltb n n (le-refl n)) refl $ leaves-loop ! (load ! (from ! (stop !)) (look ! 9 refl)) $ exec ! C Λ En body.t-3 (atRet En Post) $
+        assigns ! (bin ! (local ! 6 refl) (local ! 8 refl) tt) (from ! (stop !)) (init ! 9 refl (tt, tt)) $
+        rewrite ! 9 (λ (t : Bool). ‵ (fat fullShare tyBool l₇ 0 (vbool t))) (le-ltb n n (le-refl n)) refl $ leaves-loop ! (local ! 9 refl) $ exec ! C Λ En body.t-3 (atRet En Post) $
         assigns ! (of-opd ! (unit-lit !)) (from ! (stop !)) (init ! 18 refl (tt, tt)) $ returns ! (look ! 18 refl) $
         -- the locals go
         forget ! 6 refl $ forget ! 8 refl $ forget ! 9 refl $ forget ! 15 refl $ forget ! 16 refl $ forget ! 17 refl $ forget ! 18 refl $ move ! (18 ∷ 19 ∷ []) $ free1 ! $ move ! (15 ∷ 18 ∷ []) $ free1 ! $

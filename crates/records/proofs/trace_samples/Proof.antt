@@ -55,7 +55,7 @@ use Rattle.records.specs.Records.{pairsOf, marksOf}
 use Rattle.records.specs.Flattened.{pairsUpTo, marksUpTo, Flattened}
 use Rattle.records.specs.declared.Sample.{Sample}
 use Rattle.records.proofs.Sample as T
-use Rattle.records.proofs.Steps.{says-both}
+use Rattle.records.proofs.Steps.{says-both, local}
 use Rattle.records.proofs.Arrays.{zero-fits, in-mem, out-room}
 use Rattle.records.proofs.Zeros.{F, B, AF, AB, z, xF, xB, vF, vB, lF, lB, fills, owned-F, owned-B}
 use Rattle.records.proofs.Laid.{flattened}
@@ -320,7 +320,7 @@ module _ {M : Type 1} (𝓤 : URA M) (H : Heap 𝓤) (A : Atoms 𝓤) (W : Given
         split ! $
         move ! (12 ∷ []) $ use1 W (‵ O₃ ⊛ ‵ O₃) (shr-slice-copy 𝓤 H A W (named 1) κ₃ T.the-row .twice x₃ (s₃ ∷ [])) $ split ! $ move ! (7 ∷ 22 ∷ 19 ∷ 1 ∷ 20 ∷ 17 ∷ []) $ group ! 6 $
         use1 W (raw (Flat 𝓤 H A mem run .pre (to-flat l₉ l₁₀ ν₁ ν₂ δ₁ δ₂))) (goes-flat l₉ l₁₀ ν₁ ν₂ δ₁ δ₂) $
-        calls-at ! fm (Flat 𝓤 H A mem run) known-flat (to-flat l₉ l₁₀ ν₁ ν₂ δ₁ δ₂) (and-then ! (load ! (from ! (stop !)) (look ! 56 refl)) (and-then ! (load ! (from ! (stop !)) (look ! 42 refl)) (and-then ! (load ! (from ! (stop !)) (look ! 40 refl)) (no-more !)))) (λ u.
+        calls-at ! fm (Flat 𝓤 H A mem run) known-flat (to-flat l₉ l₁₀ ν₁ ν₂ δ₁ δ₂) (and-then ! (local ! 56 refl) (and-then ! (local ! 42 refl) (and-then ! (local ! 40 refl) (no-more !)))) (λ u.
         use1 W (later (some (After-flat l₉ l₁₀ ν₁ ν₂ δ₁ δ₂ u))) (id⊢ 𝓤 _) $ await ! tt $ pick ! (λ y. split ! $ move ! (1 ∷ []) $ use1 W (some (Flat-said l₉ l₁₀ ν₁ ν₂ δ₁ δ₂)) (id⊢ 𝓤 _) $ pick ! (λ zs.
         split ! $ move ! (1 ∷ []) $ heard ! ((zs .1 .0 ≡ P) × (zs .1 .1 .0 ≡ N)) (λ e.
         fsplit ! $ move ! (1 ∷ []) $ fsplit ! $ move ! (1 ∷ []) $ fsplit ! $ move ! (4 ∷ []) $ split ! $ move ! (1 ∷ []) $ feqL ! (λ eu.
@@ -336,13 +336,13 @@ module _ {M : Type 1} (𝓤 : URA M) (H : Heap 𝓤) (A : Atoms 𝓤) (W : Given
         assigns ! (addr ! (from ! (stop !))) (from ! (stop !)) (init ! 39 refl (tt, tt)) $
         assigns ! (of-opd ! (load ! (from ! (fld ! refl (stop !))) (look-in ! 59 (sub ! 1 refl (whole !))))) (from ! (stop !)) (init ! 37 refl (tt, record { fits = g₃ .0 })) $
         assigns ! (addr ! (from ! (fld ! refl (hop ! (look-in ! 57 (sub ! 0 refl (whole !))) (stop !))))) (from ! (stop !)) (init ! 35 refl (tt, tt)) $
-        assigns ! (agg ! (and-then ! (load ! (from ! (stop !)) (look ! 35 refl)) (and-then ! (load ! (from ! (fld ! refl (stop !))) (look-in ! 57 (sub ! 1 refl (whole !)))) (no-more !)))) (from ! (stop !)) (init ! 33 refl (tt, (tt, (record { fits = g₄ .0 }, tt)))) $
+        assigns ! (agg ! (and-then ! (local ! 35 refl) (and-then ! (load ! (from ! (fld ! refl (stop !))) (look-in ! 57 (sub ! 1 refl (whole !)))) (no-more !)))) (from ! (stop !)) (init ! 33 refl (tt, (tt, (record { fits = g₄ .0 }, tt)))) $
         assigns ! (addr ! (from ! (fld ! refl (hop ! (look-in ! 55 (sub ! 0 refl (whole !))) (stop !))))) (from ! (stop !)) (init ! 31 refl (tt, tt)) $
-        assigns ! (agg ! (and-then ! (load ! (from ! (stop !)) (look ! 31 refl)) (and-then ! (load ! (from ! (fld ! refl (stop !))) (look-in ! 55 (sub ! 1 refl (whole !)))) (no-more !)))) (from ! (stop !)) (init ! 29 refl (tt, (tt, (record { fits = g₅ .0 }, tt)))) $
+        assigns ! (agg ! (and-then ! (local ! 31 refl) (and-then ! (load ! (from ! (fld ! refl (stop !))) (look-in ! 55 (sub ! 1 refl (whole !)))) (no-more !)))) (from ! (stop !)) (init ! 29 refl (tt, (tt, (record { fits = g₅ .0 }, tt)))) $
         assigns ! (addr ! (from ! (fld ! refl (hop ! (look-in ! 53 (sub ! 0 refl (whole !))) (stop !))))) (from ! (stop !)) (init ! 27 refl (tt, tt)) $
-        assigns ! (agg ! (and-then ! (load ! (from ! (stop !)) (look ! 27 refl)) (and-then ! (load ! (from ! (fld ! refl (stop !))) (look-in ! 53 (sub ! 1 refl (whole !)))) (no-more !)))) (from ! (stop !)) (init ! 25 refl (tt, (tt, (record { fits = g₆ .0 }, tt)))) $
+        assigns ! (agg ! (and-then ! (local ! 27 refl) (and-then ! (load ! (from ! (fld ! refl (stop !))) (look-in ! 53 (sub ! 1 refl (whole !)))) (no-more !)))) (from ! (stop !)) (init ! 25 refl (tt, (tt, (record { fits = g₆ .0 }, tt)))) $
         assigns ! (addr ! (from ! (fld ! refl (hop ! (look-in ! 51 (sub ! 0 refl (whole !))) (stop !))))) (from ! (stop !)) (init ! 23 refl (tt, tt)) $
-        assigns ! (agg ! (and-then ! (load ! (from ! (stop !)) (look ! 23 refl)) (and-then ! (load ! (from ! (fld ! refl (stop !))) (look-in ! 51 (sub ! 1 refl (whole !)))) (no-more !)))) (from ! (stop !)) (init ! 21 refl (tt, (tt, (record { fits = g₇ .0 }, tt)))) $
+        assigns ! (agg ! (and-then ! (local ! 23 refl) (and-then ! (load ! (from ! (fld ! refl (stop !))) (look-in ! 51 (sub ! 1 refl (whole !)))) (no-more !)))) (from ! (stop !)) (init ! 21 refl (tt, (tt, (record { fits = g₇ .0 }, tt)))) $
         -- the lists are lent by `&`
         lft-new ! tt (λ ν₃. move ! (2 ∷ []) $
         use1 W (later (some (λ (δ : GName). ‵ (SharedF l₉ ν₃ δ) ⊛ ‵ (flent (ν₃ ∷ []) (partAt F fullShare P l₉ 0))))) (lends-shr 𝓤 H A W F (named 1) (ν₃ ∷ []) fullShare P l₉ 0) $ await ! tt $ pick ! (λ δ₃.
@@ -353,7 +353,7 @@ module _ {M : Type 1} (𝓤 : URA M) (H : Heap 𝓤) (A : Atoms 𝓤) (W : Given
         -- `trace_flattened`
         move ! (24 ∷ []) $ use1 W (‵ O₀ ⊛ ‵ O₀) (shr-slice-copy 𝓤 H A W (named 0) κ₀ f64 .twice x₀ (s₀ ∷ [])) $ split ! $ move ! (18 ∷ 7 ∷ 4 ∷ 17 ∷ 16 ∷ 15 ∷ 13 ∷ 1 ∷ 5 ∷ 2 ∷ 23 ∷ 22 ∷ 21 ∷ 19 ∷ []) $
         group ! 14 $ use1 W (raw (Laid 𝓤 H A mem run .pre (to-laid l₉ l₁₀ ν₃ ν₄ δ₃ δ₄))) (goes-laid g₁ g₂ (g₃ .0) l₉ l₁₀ ν₃ ν₄ δ₃ δ₄) $
-        calls-at ! fm (Laid 𝓤 H A mem run) known-laid (to-laid l₉ l₁₀ ν₃ ν₄ δ₃ δ₄) (and-then ! (load ! (from ! (stop !)) (look ! 57 refl)) (and-then ! (load ! (from ! (stop !)) (look ! 55 refl)) (and-then ! (load ! (from ! (stop !)) (look ! 53 refl)) (and-then ! (load ! (from ! (stop !)) (look ! 33 refl)) (and-then ! (load ! (from ! (stop !)) (look ! 31 refl)) (and-then ! (load ! (from ! (stop !)) (look ! 29 refl)) (and-then ! (load ! (from ! (stop !)) (look ! 25 refl)) (and-then ! (load ! (from ! (stop !)) (look ! 21 refl)) (and-then ! (load ! (from ! (stop !)) (look ! 17 refl)) (and-then ! (load ! (from ! (stop !)) (look ! 13 refl)) (no-more !))))))))))) (λ v.
+        calls-at ! fm (Laid 𝓤 H A mem run) known-laid (to-laid l₉ l₁₀ ν₃ ν₄ δ₃ δ₄) (and-then ! (local ! 57 refl) (and-then ! (local ! 55 refl) (and-then ! (local ! 53 refl) (and-then ! (local ! 33 refl) (and-then ! (local ! 31 refl) (and-then ! (local ! 29 refl) (and-then ! (local ! 25 refl) (and-then ! (local ! 21 refl) (and-then ! (local ! 17 refl) (and-then ! (local ! 13 refl) (no-more !))))))))))) (λ v.
         use1 W (later (some (After-laid l₉ l₁₀ ν₃ ν₄ δ₃ δ₄ v))) (id⊢ 𝓤 _) $ await ! tt $ pick ! (λ r. split ! $ move ! (1 ∷ []) $ use1 W (some (Laid-said l₉ l₁₀ ν₃ ν₄ δ₃ δ₄ r)) (id⊢ 𝓤 _) $ pick ! (λ ws.
         split ! $ move ! (1 ∷ []) $ heard ! (Said r (ws .1 .1 .1 .1 .1 .1 .0) (ws .1 .1 .1 .1 .1 .1 .1 .0) (ws .1 .1 .1 .1 .1 .1 .1 .1 .0) (ws .1 .1 .1 .1 .1 .1 .1 .1 .1 .0)) (λ said.
         fsplit ! $ move ! (1 ∷ []) $ fsplit ! $ move ! (1 ∷ []) $ fsplit ! $ move ! (1 ∷ []) $ fsplit ! $ move ! (1 ∷ []) $ fsplit ! $ move ! (1 ∷ []) $ fsplit ! $ move ! (1 ∷ []) $ fsplit ! $ fsplit ! $

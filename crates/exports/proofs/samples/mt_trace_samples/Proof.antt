@@ -48,7 +48,7 @@ use Rattle.trace.proofs.flat.Trace.Laws as Tr′
 use Rattle.records.specs.Records.{pairsOf, marksOf}
 use Rattle.records.specs.declared.Sample.{Sample}
 use Rattle.records.proofs.Sample as T
-use Rattle.records.proofs.Steps.{says-both}
+use Rattle.records.proofs.Steps.{says-both, local}
 use Rattle.records.proofs.trace_samples as rec
 use Rattle.records.proofs.trace_samples.Symbol as rec-def
 use Rattle.records.proofs.trace_samples.Symbol.{name as #records·trace-samples}
@@ -246,13 +246,13 @@ module _ {M : Type 1} (𝓤 : URA M) (H : Heap 𝓤) (A : Atoms 𝓤) (W : Given
         pass1 ! (init ! 18 refl (tt, (tt, (record { fits = g₇ .0 }, tt)))) $ pass0 ! $
         -- what `trace_samples` is passed
         assigns ! (addr ! (from ! (fld ! refl (hop ! (look-in ! 24 (sub ! 0 refl (whole !))) (stop !))))) (from ! (stop !)) (init ! 14 refl (tt, tt)) $
-        assigns ! (agg ! (and-then ! (load ! (from ! (stop !)) (look ! 14 refl)) (and-then ! (load ! (from ! (fld ! refl (stop !))) (look-in ! 24 (sub ! 1 refl (whole !)))) (no-more !)))) (from ! (stop !)) (init ! 12 refl (tt, (tt, (record { fits = g₄ .0 }, tt)))) $
+        assigns ! (agg ! (and-then ! (local ! 14 refl) (and-then ! (load ! (from ! (fld ! refl (stop !))) (look-in ! 24 (sub ! 1 refl (whole !)))) (no-more !)))) (from ! (stop !)) (init ! 12 refl (tt, (tt, (record { fits = g₄ .0 }, tt)))) $
         assigns ! (addr ! (from ! (fld ! refl (hop ! (look-in ! 22 (sub ! 0 refl (whole !))) (stop !))))) (from ! (stop !)) (init ! 10 refl (tt, tt)) $
-        assigns ! (agg ! (and-then ! (load ! (from ! (stop !)) (look ! 10 refl)) (and-then ! (load ! (from ! (fld ! refl (stop !))) (look-in ! 22 (sub ! 1 refl (whole !)))) (no-more !)))) (from ! (stop !)) (init ! 8 refl (tt, (tt, (record { fits = g₅ .0 }, tt)))) $
+        assigns ! (agg ! (and-then ! (local ! 10 refl) (and-then ! (load ! (from ! (fld ! refl (stop !))) (look-in ! 22 (sub ! 1 refl (whole !)))) (no-more !)))) (from ! (stop !)) (init ! 8 refl (tt, (tt, (record { fits = g₅ .0 }, tt)))) $
         assigns ! (addr ! (from ! (fld ! refl (hop ! (look-in ! 20 (sub ! 0 refl (whole !))) (stop !))))) (from ! (stop !)) (init ! 6 refl (tt, tt)) $
-        assigns ! (agg ! (and-then ! (load ! (from ! (stop !)) (look ! 6 refl)) (and-then ! (load ! (from ! (fld ! refl (stop !))) (look-in ! 20 (sub ! 1 refl (whole !)))) (no-more !)))) (from ! (stop !)) (init ! 4 refl (tt, (tt, (record { fits = g₆ .0 }, tt)))) $
+        assigns ! (agg ! (and-then ! (local ! 6 refl) (and-then ! (load ! (from ! (fld ! refl (stop !))) (look-in ! 20 (sub ! 1 refl (whole !)))) (no-more !)))) (from ! (stop !)) (init ! 4 refl (tt, (tt, (record { fits = g₆ .0 }, tt)))) $
         assigns ! (addr ! (from ! (fld ! refl (hop ! (look-in ! 18 (sub ! 0 refl (whole !))) (stop !))))) (from ! (stop !)) (init ! 2 refl (tt, tt)) $
-        assigns ! (agg ! (and-then ! (load ! (from ! (stop !)) (look ! 2 refl)) (and-then ! (load ! (from ! (fld ! refl (stop !))) (look-in ! 18 (sub ! 1 refl (whole !)))) (no-more !)))) (from ! (stop !)) (init ! 0 refl (tt, (tt, (record { fits = g₇ .0 }, tt)))) $
+        assigns ! (agg ! (and-then ! (local ! 2 refl) (and-then ! (load ! (from ! (fld ! refl (stop !))) (look-in ! 18 (sub ! 1 refl (whole !)))) (no-more !)))) (from ! (stop !)) (init ! 0 refl (tt, (tt, (record { fits = g₇ .0 }, tt)))) $
         move ! (37 ∷ []) $ fsplit ! $ move ! (1 ∷ []) $ fsplit ! $ move ! (1 ∷ []) $ fsplit ! $ move ! (1 ∷ []) $ fsplit ! $ move ! (1 ∷ []) $ fsplit ! $ move ! (1 ∷ []) $ fsplit ! $ move ! (1 ∷ []) $
         fsplit ! $ move ! (1 ∷ []) $ fsplit ! $ move ! (45 ∷ []) $ split ! $ move ! (1 ∷ []) $ split ! $ move ! (1 ∷ []) $ split ! $ move ! (1 ∷ []) $ split ! $ move ! (1 ∷ []) $ split ! $ move ! (1 ∷ []) $
         split ! $
@@ -260,7 +260,7 @@ module _ {M : Type 1} (𝓤 : URA M) (H : Heap 𝓤) (A : Atoms 𝓤) (W : Given
         move ! (14 ∷ []) $ use1 W (‵ O₃ ⊛ ‵ O₃) (shr-slice-copy 𝓤 H A W (named 1) κ₃ T.the-row .twice x₃ (s₃ ∷ [])) $ split ! $
         -- `trace_samples`
         move ! (10 ∷ 9 ∷ 8 ∷ 7 ∷ 6 ∷ 4 ∷ 3 ∷ 1 ∷ 15 ∷ 14 ∷ 13 ∷ 11 ∷ []) $ group ! 12 $ use1 W (raw (Rec 𝓤 H A mem run .pre to-rec)) (goes-rec g₁ g₂) $
-        calls-at ! fm (Rec 𝓤 H A mem run) known-rec to-rec (and-then ! (load ! (from ! (stop !)) (look ! 39 refl)) (and-then ! (load ! (from ! (stop !)) (look ! 37 refl)) (and-then ! (load ! (from ! (stop !)) (look ! 35 refl)) (and-then ! (load ! (from ! (stop !)) (look ! 33 refl)) (and-then ! (load ! (from ! (stop !)) (look ! 19 refl)) (and-then ! (load ! (from ! (stop !)) (look ! 15 refl)) (and-then ! (load ! (from ! (stop !)) (look ! 11 refl)) (and-then ! (load ! (from ! (stop !)) (look ! 7 refl)) (no-more !))))))))) (λ v.
+        calls-at ! fm (Rec 𝓤 H A mem run) known-rec to-rec (and-then ! (local ! 39 refl) (and-then ! (local ! 37 refl) (and-then ! (local ! 35 refl) (and-then ! (local ! 33 refl) (and-then ! (local ! 19 refl) (and-then ! (local ! 15 refl) (and-then ! (local ! 11 refl) (and-then ! (local ! 7 refl) (no-more !))))))))) (λ v.
         use1 W (later (some (After-rec v))) (id⊢ 𝓤 _) $ await ! tt $ pick ! (λ r. split ! $ move ! (1 ∷ []) $ use1 W (some (Rec-said r)) (id⊢ 𝓤 _) $ pick ! (λ ws. split ! $ move ! (1 ∷ []) $ split ! $
         heard ! (Said r (ws .1 .1 .1 .1 .0) (ws .1 .1 .1 .1 .1 .0) (ws .1 .1 .1 .1 .1 .1 .0) (ws .1 .1 .1 .1 .1 .1 .1 .0)) (λ said. heard ! (Demand3 d₀ d₁ d₂) (λ demand.
         fsplit ! $ move ! (1 ∷ []) $ fsplit ! $ move ! (1 ∷ []) $ fsplit ! $ move ! (1 ∷ []) $ fsplit ! $ move ! (1 ∷ []) $ fsplit ! $ fsplit ! $ move ! (1 ∷ []) $ feqL ! (λ e₄. move ! (1 ∷ []) $ fsplit ! $
@@ -269,7 +269,7 @@ module _ {M : Type 1} (𝓤 : URA M) (H : Heap 𝓤) (A : Atoms 𝓤) (W : Given
         peeks ! Tr.the-row (Is Tr.the-row) (shows 𝓤 H A Tr.the-row) r (v ∷ []) (λ is. land ! (from ! (stop !)) (init ! 33 refl (EL.lawful Tr.the-type Tr′.the-laws 𝓤 H A W tt .typed r _ is .0)) $
         -- `trace_to_c`
         use1 W (raw (Conv 𝓤 H A mem run .pre (to-conv r v))) (goes-conv r v) $
-        calls-at ! fm (Conv 𝓤 H A mem run) known-conv (to-conv r v) (and-then ! (load ! (from ! (stop !)) (look ! 33 refl)) (no-more !)) (λ u.
+        calls-at ! fm (Conv 𝓤 H A mem run) known-conv (to-conv r v) (and-then ! (local ! 33 refl) (no-more !)) (λ u.
         use1 W (later (some (After-conv r u))) (id⊢ 𝓤 _) $ await ! tt $ pick ! (λ c. split ! $ move ! (1 ∷ []) $ use1 W (some (Conv-said r c)) (id⊢ 𝓤 _) $ pick ! (λ us. split ! $ move ! (1 ∷ []) $
         heard ! (c ≡ traceAnswer (statedTrace r)) (λ e. move ! (1 ∷ []) $ split ! $ move ! (1 ∷ []) $
         peeks ! An.the-row (Is An.the-row) (shows 𝓤 H A An.the-row) c (u ∷ []) (λ is′. land ! (from ! (stop !)) (init ! 53 refl (LL.lawful An.the-type An′.the-laws 𝓤 H A W .typed c _ is′ .0)) $
