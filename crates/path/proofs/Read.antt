@@ -26,8 +26,7 @@ before ls k = length (flatten (take k ls))
 
 before-next : (ls : List (List Vector)) (k : ℕ) → k < length ls → before ls (suc k) ≡ before ls k + length (getD ls k [])
 unfolding flatten
-before-next ls k h =
-    rw (take-suc ls k [] h, flatten-append (take k ls) (getD ls k [] ∷ []), append-nil (getD ls k [])) (length-append (flatten (take k ls)) (getD ls k []))
+before-next ls k h = rw (take-suc ls k [], flatten-append, append-nil, length-append)
 
 before-all : (ls : List (List Vector)) (k : ℕ) → before ls k ≤ length (flatten ls)
 before-all ls k =
@@ -51,15 +50,14 @@ part-is-line : (ls : List (List Vector)) (k : ℕ) (zs : List Float) → k < len
 unfolding flatten
 part-is-line [] k zs h = absurd (omega arith)
 part-is-line (l ∷ ls) zero zs h =
-    rw (coordinates-append l (flatten ls), append-assoc (coordinates l) (coordinates (flatten ls)) zs) (take-at (coordinates l) (coordinates (flatten ls) ++ zs) (3 * length l) (length-coordinates l))
+    rw (coordinates-append, append-assoc) (take-at (coordinates l) (coordinates (flatten ls) ++ zs) (3 * length l) (length-coordinates l))
 part-is-line (l ∷ ls) (suc k) zs h =
     let e : 3 * length (l ++ flatten (take k ls)) ≡ length (coordinates l) + 3 * before ls k = omega (arith, length-append l (flatten (take k ls)), length-coordinates l) in
-    rw (coordinates-append l (flatten ls), append-assoc (coordinates l) (coordinates (flatten ls)) zs, e, drop-append-add (coordinates l) (coordinates (flatten ls) ++ zs) (3 * before ls k))
-    (part-is-line ls k zs (omega arith))
+    rw (coordinates-append, append-assoc, e, drop-append-add) (part-is-line ls k zs (omega arith))
 
 -- Any lines, drawn one after the other into lists that have room for them
 
-module _ (ls : List (List Vector)) (points : List Float) (starts : List ℕ) (roomy : 3 * length (flatten ls) ≤ length points) (room : length ls ≤ length starts) where
+module _ (ls : List (List Vector)) (points : List Float) (starts : List ℕ) (points-room : 3 * length (flatten ls) ≤ length points) (starts-room : length ls ≤ length starts) where
   drawnPoints : List Float
   drawnPoints = filled zeroFloat (coordinates (flatten ls)) points
 
@@ -70,8 +68,8 @@ module _ (ls : List (List Vector)) (points : List Float) (starts : List ℕ) (ro
   unfolding drawnStarts
   start-at k h =
       let l : k < length (startsFrom 0 ls) = omega (arith, length-starts 0 ls) in
-      let s : 0 + before ls k ≡ before ls k = omega arith in
-      List·getD-append (startsFrom 0 ls) (replicate (length starts - length (startsFrom 0 ls)) 0) 0 k l ∙ start-is 0 ls k h ∙ s
+      let z : 0 + before ls k ≡ before ls k = omega arith in
+      rw (List·getD-append, start-is, z)
 
   end-at : (k : ℕ) → k < length ls → lineEnd drawnStarts (length (flatten ls)) (length ls) k ≡ before ls k + length (getD ls k [])
   unfolding lineEnd
@@ -124,8 +122,7 @@ length-counting f a (suc c) = ap suc (length-counting f (suc a) c)
 
 pub line-count : (g : List Float) (m n : ℕ) → length (gridLines g m n) ≡ lineCount m n
 unfolding gridLines
-line-count g m n =
-    simp (length-append, length-counting) (omega arith)
+line-count g m n = simp (length-append, length-counting) (omega arith)
 
 pub point-count : (g : List Float) (m n : ℕ) → length (flatten (gridLines g m n)) ≡ pointCount m n
 point-count g m n = simp (grid-lines, flatten-append, length-append, length-flatten-runs) (omega arith)

@@ -94,8 +94,7 @@ module _ (l : List Float) (at : ℕ) (g : List Float) (first apart step count : 
       sets l at (coordinates (flatten (runs g first apart step count (suc c))))
       ≡ sets (sets l at (coordinates (run g first step count))) (at + 3 * count) (coordinates (flatten (runs g (first + apart) apart step count c)))
   unfolding runs flatten
-  runs-first c =
-      rw (coordinates-append, sets-append, length-coordinates, length-run)
+  runs-first c = rw (coordinates-append, sets-append, length-coordinates, length-run)
 
   pub runs-turn : (left : ℕ) → 0 < left →
       sets l at (coordinates (flatten (runs g first apart step count left)))
