@@ -54,9 +54,6 @@ loop-again c =
           (u3 .before .point-at3 .ensures) (u3 .put3 .ensures) (u4 .before .point-at4 .ensures) (u4 .put4 .ensures),
     )
 
-same-length : tie.Need-same-length Inv-loop μ-loop
-same-length c = c .before .loop .inv .0
-
 returns : tie.Need-returns Inv-loop μ-loop
 returns c =
     let l = c .before .loop in
@@ -91,5 +88,5 @@ draw-four-spec =
     (λ c. omega (arith, turn₅ c))
     (λ c. omega (arith, turn₅ c))
     loop-again
-    same-length
+    (λ c. omega arith)
     returns)

@@ -36,9 +36,6 @@ loop-again c =
       l .inv .3 ∙ run-turn _ _ _ _ _ (l .left) (t .loop-test .taken) (u .before .point-at .ensures) (u .put .ensures),
     )
 
-same-length : tie.Need-same-length Inv-loop μ-loop
-same-length c = c .before .loop .inv .0
-
 returns : tie.Need-returns Inv-loop μ-loop
 returns c = let l = c .before .loop in sym (l .inv .3 ∙ run-done _ _ _ _ _ (l .left) (c .loop-test .left))
 
@@ -56,5 +53,5 @@ draw-run-spec =
     (λ c. omega arith)
     (λ c. omega arith)
     loop-again
-    same-length
+    (λ c. omega arith)
     returns)
