@@ -115,6 +115,7 @@ def land_unit(w, k, tokens):
 
 
 def land_answer(w, k, tokens, row, answer, value, known, laws):
+    """That the answer is what its machine value says is `known`, by which it has its local's type."""
     w.split("toks", tokens)
     w.bring("toks")
     w.line()
@@ -368,12 +369,13 @@ def outputs_after(w, before):
 
 
 def last_lists(name, before):
+    """These lists, as parts of what `name` binds."""
     return " ".join(f"({name}{' .1' * (before + j)} .0)" for j in range(len(OUTPUTS)))
 
 
 def left():
-    """What an entry leaves its caller, in the order of `Left`, and the result."""
-    return [*tokens(SLICES), "O0", "O3", *[f"fin{p}" for p in OUTPUTS], "result"]
+    """What an entry leaves its caller, in the order of `Left`, and its answer."""
+    return [*tokens(SLICES), "O0", "O3", *[f"fin{p}" for p in OUTPUTS], "answer"]
 
 
 def entry_framed():
@@ -381,8 +383,8 @@ def entry_framed():
     return framed(left(), tokens(SLICES), parameters, "done !")
 
 
-def leave(w, locals, rooms, result):
-    """The locals go, and what the contract speaks of is left."""
+def leave(w, locals, rooms):
+    """The locals go, of which `rooms` hold nothing, and what the contract speaks of is left."""
     w.note("the locals go")
     w.step(f"returns ! (look ! {w.at('l0')} refl)")
     w.line()
@@ -391,7 +393,6 @@ def leave(w, locals, rooms, result):
     w.free(locals)
     w.rename("O0 kept", "O0")
     w.rename("O3 kept", "O3")
-    w.rename(result, "result")
     w.keep(*left())
     w.line()
 
@@ -550,7 +551,7 @@ def trace_samples_walk():
     lend_zeros(w)
     call_flatten(w)
     call_trace_flattened(w)
-    leave(w, ENTRY_LOCALS, [a.local for a in ARRAYS], "answer")
+    leave(w, ENTRY_LOCALS, [a.local for a in ARRAYS])
     w.end(f"by ! (exits g₁ g₂ r v {last_lists('ws', 6)} said e₄ e₅ e₆ e₇)")
     return w.text(8)
 
@@ -584,7 +585,7 @@ def mt_trace_samples_walk():
 
     w.line()
     w.split("tokens", *tokens(SLICES))
-    leave(w, EXPORT_LOCALS, [], "answer")
+    leave(w, EXPORT_LOCALS, [])
     w.end(f"by ! (exits g₁ g₂ r c u {last_lists('ws', 4)} said demand e e₄ e₅ e₆ e₇)")
     return w.text(8)
 
