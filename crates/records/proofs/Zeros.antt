@@ -85,7 +85,8 @@ all-typed τ zero v t = (tt, tt)
 all-typed τ (suc n) v t = let rest = all-typed τ n v t in (both (hasTy τ v) (allN (hasTy τ) n (ofList (replicate n v))) (t .0) (rest .0), (t .1, rest .1))
 
 module _ {M : Type 1} {𝓤 : URA M} {H : Heap 𝓤} {A : Atoms 𝓤} {K : Type 0} {W : Given 𝓤 H A} {Γ : List (Item 𝓤)} {E : Env 𝓤 H} {C : Calls 𝓤 H} {Λ : Loops 𝓤 H} {q : Post 𝓤 H} where
-  pub fills : K → (n : ℕ) (τ : Ty) {v : Val} {x : Operand} {i b : ℕ} {rest : Body} → Opd K W Γ E x v → spotOf 𝓤 H E i ≡ (tyArray τ n, b, 0) → (k : ℕ) → nth 𝓤 H A k Γ ≡ ‵ (froom (tyArray τ n) b 0) → T (hasTy τ v) × WT v
+  pub fills : K → (n : ℕ) (τ : Ty) {v : Val} {x : Operand} {i b : ℕ} {rest : Body}
+      → Opd K W Γ E x v → spotOf 𝓤 H E i ≡ (tyArray τ n, b, 0) → (k : ℕ) → nth 𝓤 H A k Γ ≡ ‵ (froom (tyArray τ n) b 0) → T (hasTy τ v) × WT v
       → Step K W (put 𝓤 H A k (‵ (fat fullShare (tyArray τ n) b 0 (times n v))) Γ) (runs C Λ E rest q) Γ (runs C Λ E (seq (assign (place i []) (repeat x n)) rest) q)
   unfolding times
   fills t n τ {v} {x} {i} {b} o e k at wt = assigns t (rep t n o) (subst (λ (sp : Spot 𝓤 H). Finds K W Γ E (place i []) sp) e (from t (stop t))) (init t k at (all-typed τ n v wt))

@@ -10,7 +10,8 @@ use Rattle.path.proofs.grid_paths.Statement.{statement}
 use Rattle.path.proofs.grid_paths.Tie as tie
 
 -- no refusal applies
-passed : (e : tie.After-enum-told) → let a = e .before .before .before .before .before .before .before .before .before .args in pathsCheck (a .grid .now) (a .m) (a .n) (a .points .now) (a .starts .now) ≡ Passed
+passed : (e : tie.After-enum-told) →
+    let a = e .before .before .before .before .before .before .before .before .before .args in pathsCheck (a .grid .now) (a .m) (a .n) (a .points .now) (a .starts .now) ≡ Passed
 passed e =
     let g = e .before .before in
     sym (checked _ _ _ _ _ (g .before .check-room .ensures) (g .check-grid .ensures)) ∙ e .enum-told .given .1

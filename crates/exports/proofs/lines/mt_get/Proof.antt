@@ -6,9 +6,6 @@ use borrow.Author.Needs.{needs}
 use Rattle.exports.proofs.lines.mt_get.Statement.{statement}
 use Rattle.exports.proofs.lines.mt_get.Tie as tie
 
-mul-t11 : tie.Need-mul-t11
-mul-t11 c = omega (arith, span-bounds _ _ _ _ _ (c .before .start .given .1) (c .before .before .before .line-span .ensures))
-
 returns : tie.Need-returns
 returns c =
     let l = c .before .before .before in
@@ -22,4 +19,11 @@ returns-2 c =
 pub mt-get-spec : {M : Type 1} → statement M
 mt-get-spec =
     tie.close
-    (tie.spec (λ c κs. search needs) (λ c κs. search needs) (λ c. search needs) mul-t11 (λ c. search needs) returns returns-2)
+    (tie.spec
+    (λ c κs. search needs)
+    (λ c κs. search needs)
+    (λ c. search needs)
+    (λ c. omega (arith, span-bounds _ _ _ _ _ (c .before .start .given .1) (c .before .before .before .line-span .ensures)))
+    (λ c. search needs)
+    returns
+    returns-2)

@@ -30,11 +30,13 @@ abbrev μ-loop2 : tie.MeasureT-loop2
 loop-holds : tie.Need-loop-holds Inv-loop μ-loop Inv-loop2 μ-loop2
 loop-holds c = (refl, omega arith, refl, refl)
 
--- in a turn of either loop
-four-less : (t : tie.In-loop Inv-loop μ-loop Inv-loop2 μ-loop2) → let a = t .before .before .before .before .args in let left = t .before .loop .left in Fewer 4 left (a .apart) × Fewer 4 left (3 * a .count)
+-- in a turn of the first loop, and of the second
+four-less : (t : tie.In-loop Inv-loop μ-loop Inv-loop2 μ-loop2) →
+    let a = t .before .before .before .before .args in let left = t .before .loop .left in Fewer 4 left (a .apart) × Fewer 4 left (3 * a .count)
 four-less t = (fewer 4 _ _ (t .loop-test .taken), fewer 4 _ _ (t .loop-test .taken))
 
-one-less : (t : tie.In-loop2 Inv-loop μ-loop Inv-loop2 μ-loop2) → let a = t .before .before .before .before .before .before .args in let left = t .before .loop2 .left in Fewer 1 left (a .apart) × Fewer 1 left (3 * a .count)
+one-less : (t : tie.In-loop2 Inv-loop μ-loop Inv-loop2 μ-loop2) →
+    let a = t .before .before .before .before .before .before .args in let left = t .before .loop2 .left in Fewer 1 left (a .apart) × Fewer 1 left (3 * a .count)
 one-less t = (fewer 1 _ _ (t .loop2-test .taken), fewer 1 _ _ (t .loop2-test .taken))
 
 loop-again : tie.Need-loop-again Inv-loop μ-loop Inv-loop2 μ-loop2
