@@ -510,10 +510,10 @@ def call_flatten(w):
     hear(w, f"After-flat {outer} u", "y", f"Flat-said {outer}", "zs", {"e": "(zs .1 .0 ≡ P) × (zs .1 .1 .0 ≡ N)"})
     w.line()
     w.fsplit("lasts", "nothing", "rF", "rB")
-    land_unit(w, 11, "tokens of flat")
+    land_unit(w, 11, "tokens of flatten")
 
     w.note("the lifetimes end, and the lists are back, with the records in them")
-    w.split("tokens of flat", "t3", "ν₁", "ν₂")
+    w.split("tokens of flatten", "t3", "ν₁", "ν₂")
     take_lists_back(w)
 
 
@@ -532,13 +532,13 @@ def call_trace_flattened(w):
     outer = "l₉ l₁₀ ν₃ ν₄ δ₃ δ₄"
     lifetimes = ["t0", "ν₃", "ν₄", *tokens(OUTPUTS)]
     given = [*lifetimes, "O0", "SF", "SB", *owned(OUTPUTS)]
-    call(w, "Laid", f"(to-laid {outer})", given, f"goes-laid g₁ g₂ (g₃ .0) {outer}", [1, 2, 3, 14, 15, 16, *lent], "v")
-    hear(w, f"After-laid {outer} v", "r", f"Laid-said {outer} r", "ws", {"said": f"Said r {last_lists('ws', 6)}"})
+    call(w, "Traced", f"(to-traced {outer})", given, f"goes-traced g₁ g₂ (g₃ .0) {outer}", [1, 2, 3, 14, 15, 16, *lent], "v")
+    hear(w, f"After-traced {outer} v", "r", f"Traced-said {outer} r", "ws", {"said": f"Said r {last_lists('ws', 6)}"})
     outputs_after(w, 6)
-    land_answer(w, 0, "tokens of laid", "An", "r", "v", "is", "EL.lawful An.the-type An′.the-laws 𝓤 H A W tt")
+    land_answer(w, 0, "tokens of the trace", "An", "r", "v", "is", "EL.lawful An.the-type An′.the-laws 𝓤 H A W tt")
 
     w.note("the lists are room again")
-    w.split("tokens of laid", *lifetimes)
+    w.split("tokens of the trace", *lifetimes)
     make_room(w)
 
 
@@ -628,10 +628,10 @@ def main():
     write("records/proofs/flatten", flatten_walks)
     trace_samples_walks = {
         "FLAT-ASKS": asked(["t3", "ν₁", "ν₂"], ["O3", "MF", "MB"]),
-        "LAID-ASKS": asked(["t0", "ν₃", "ν₄", *tokens(OUTPUTS)], ["O0", M, N, "SF", "SB", ("n", "gn"), *owned(OUTPUTS)]),
+        "TRACED-ASKS": asked(["t0", "ν₃", "ν₄", *tokens(OUTPUTS)], ["O0", M, N, "SF", "SB", ("n", "gn"), *owned(OUTPUTS)]),
         "WALK": trace_samples_walk(),
     }
-    write("records/proofs/trace_samples", entry("known-flat known-laid", trace_samples_walks))
+    write("records/proofs/trace_samples", entry("known-flat known-traced", trace_samples_walks))
     mt_trace_samples_walks = {
         "REC-ASKS": asked(tokens(SLICES), ["O0", M, N, *owned(SLICES[1:])]),
         "CONV-ASKS": asked([], ["answer"]),

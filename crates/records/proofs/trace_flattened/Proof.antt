@@ -2,7 +2,7 @@
 use mathlib.Core.Path.{sym}
 use native.Mathlib.Omega.{arith}
 use lib.Seq.{length-take-le}
-use Rattle.records.proofs.Laid.{marks-count}
+use Rattle.records.proofs.Flattening.{marks-count}
 use Rattle.records.proofs.Refused.{steps-refused, length-refused}
 use borrow.Author.Needs.{needs}
 use Rattle.records.proofs.trace_flattened.Statement.{statement}

@@ -58,15 +58,15 @@ use Rattle.records.proofs.Sample as T
 use Rattle.records.proofs.Steps.{says-both, local}
 use Rattle.records.proofs.Arrays.{zero-fits, in-mem, out-room}
 use Rattle.records.proofs.Zeros.{F, B, AF, AB, z, xF, xB, vF, vB, lF, lB, fills, owned-F, owned-B}
-use Rattle.records.proofs.Laid.{flattened}
+use Rattle.records.proofs.Flattening.{flattened}
 use Rattle.records.proofs.flatten as flat
 use Rattle.records.proofs.flatten.Symbol as flat-def
 use Rattle.records.proofs.flatten.Symbol.{name as #records·flatten}
 use Rattle.records.proofs.flatten.Met as flat-thm
-use Rattle.records.proofs.trace_flattened as laid
-use Rattle.records.proofs.trace_flattened.Symbol as laid-def
+use Rattle.records.proofs.trace_flattened as traced
+use Rattle.records.proofs.trace_flattened.Symbol as traced-def
 use Rattle.records.proofs.trace_flattened.Symbol.{name as #records·trace-flattened}
-use Rattle.records.proofs.trace_flattened.Met as laid-thm
+use Rattle.records.proofs.trace_flattened.Met as traced-thm
 use Rattle.records.proofs.trace_samples.Key.{name as #records·trace-samples}
 use Rattle.records.proofs.trace_samples as f
 use Rattle.records.proofs.trace_samples.Statement as stated
@@ -80,8 +80,8 @@ module _ {M : Type 1} (𝓤 : URA M) (H : Heap 𝓤) (A : Atoms 𝓤) (mem : Mem
   abbrev Flat : Contract 𝓤
   Flat = tripleOf 𝓤 H A flat.signature (flat.spec 𝓤 H A mem run)
 
-  abbrev Laid : Contract 𝓤
-  Laid = tripleOf 𝓤 H A laid.signature (laid.spec 𝓤 H A mem run)
+  abbrev Traced : Contract 𝓤
+  Traced = tripleOf 𝓤 H A traced.signature (traced.spec 𝓤 H A mem run)
 
 module _ {M : Type 1} (𝓤 : URA M) (H : Heap 𝓤) (A : Atoms 𝓤) (W : Given 𝓤 H A) (mem : Memory → SProp 𝓤) (run : Routine → Fun 𝓤)
     (κ₀ κ₃ κ₄ κ₅ κ₆ κ₇ : Lft) (q₀ q₃ q₄ q₅ q₆ q₇ : Share) (b₀ o₀ b₃ o₃ b₄ o₄ b₅ o₅ b₆ o₆ b₇ o₇ : ℕ) (γ₀ γ₃ γ₄ γ₅ γ₆ γ₇ : GName)
@@ -248,26 +248,26 @@ module _ {M : Type 1} (𝓤 : URA M) (H : Heap 𝓤) (A : Atoms 𝓤) (W : Given
   Flat-said l l′ ν ν′ δ δ′ zs = ‵ (lasts flat.ended (κ₃, (ν ∷ [], (ν′ ∷ [], tt))) (flat-args l l′ δ δ′) zs) ⊛ raw (fact 𝓤 ((zs .1 .0 ≡ P) × (zs .1 .1 .0 ≡ N)))
 
   -- ---- `trace_flattened`, likewise
-  abbrev laid-lfts : ℕ → ℕ → Lfts 7
-  laid-lfts ν ν′ = (κ₀, (ν ∷ [], (ν′ ∷ [], (κ₄, (κ₅, (κ₆, (κ₇, tt)))))))
+  abbrev traced-lfts : ℕ → ℕ → Lfts 7
+  traced-lfts ν ν′ = (κ₀, (ν ∷ [], (ν′ ∷ [], (κ₄, (κ₅, (κ₆, (κ₇, tt)))))))
 
-  abbrev laid-shares : Shares 7
-  laid-shares = (q₀, (fullShare, (fullShare, (q₄, (q₅, (q₆, (q₇, tt)))))))
+  abbrev traced-shares : Shares 7
+  traced-shares = (q₀, (fullShare, (fullShare, (q₄, (q₅, (q₆, (q₇, tt)))))))
 
-  abbrev laid-args : ℕ → ℕ → GName → GName → RefT (List Float) × (ℕ × (ℕ × (RefT (List Float) × (RefT (List ℕ) × (ℕ × (RefT (List Float) × (RefT (List ℕ) × (RefT (List ℕ) × (RefT (List Float) × Unit {0})))))))))
-  laid-args l l′ δ δ′ = (x₀, (d₁, (d₂, (aF l δ P, (aB l′ δ′ N, (n, (x₄, (x₅, (x₆, (x₇, tt))))))))))
+  abbrev traced-args : ℕ → ℕ → GName → GName → RefT (List Float) × (ℕ × (ℕ × (RefT (List Float) × (RefT (List ℕ) × (ℕ × (RefT (List Float) × (RefT (List ℕ) × (RefT (List ℕ) × (RefT (List Float) × Unit {0})))))))))
+  traced-args l l′ δ δ′ = (x₀, (d₁, (d₂, (aF l δ P, (aB l′ δ′ N, (n, (x₄, (x₅, (x₆, (x₇, tt))))))))))
 
-  abbrev to-laid : ℕ → ℕ → ℕ → ℕ → GName → GName → Laid 𝓤 H A mem run .Ghost
-  to-laid l l′ ν ν′ δ δ′ = ((laid-lfts ν ν′, laid-shares, tt, laid-args l l′ δ δ′, (s₀ ∷ [], (vint w64 d₁ ∷ [], (vint w64 d₂ ∷ [], (vptr l 0 ∷ [], (vptr l′ 0 ∷ [], (vint w64 n ∷ [], (s₄ ∷ [], (s₅ ∷ [], (s₆ ∷ [], (s₇ ∷ [], tt))))))))))), tt)
+  abbrev to-traced : ℕ → ℕ → ℕ → ℕ → GName → GName → Traced 𝓤 H A mem run .Ghost
+  to-traced l l′ ν ν′ δ δ′ = ((traced-lfts ν ν′, traced-shares, tt, traced-args l l′ δ δ′, (s₀ ∷ [], (vint w64 d₁ ∷ [], (vint w64 d₂ ∷ [], (vptr l 0 ∷ [], (vptr l′ 0 ∷ [], (vint w64 n ∷ [], (s₄ ∷ [], (s₅ ∷ [], (s₆ ∷ [], (s₇ ∷ [], tt))))))))))), tt)
 
-  abbrev Laid-given : ℕ → ℕ → ℕ → ℕ → GName → GName → List (Item 𝓤)
-  Laid-given l l′ ν ν′ δ δ′ =
+  abbrev Traced-given : ℕ → ℕ → ℕ → ℕ → GName → GName → List (Item 𝓤)
+  Traced-given l l′ ν ν′ δ δ′ =
       ‵ (flft κ₀ q₀) ∷ ‵ (flft (ν ∷ []) fullShare) ∷ ‵ (flft (ν′ ∷ []) fullShare) ∷ ‵ (flft κ₄ q₄) ∷ ‵ (flft κ₅ q₅) ∷ ‵ (flft κ₆ q₆) ∷ ‵ (flft κ₇ q₇)
       ∷ ‵ O₀ ∷ ‵ (SharedF l ν δ) ∷ ‵ (SharedB l′ ν′ δ′) ∷ ‵ O₄ ∷ ‵ O₅ ∷ ‵ O₆ ∷ ‵ O₇ ∷ []
 
-  goes-laid : d₁ < 2 ^ 64 → d₂ < 2 ^ 64 → n < 2 ^ 64 → (l l′ ν ν′ : ℕ) (δ δ′ : GName) → ent 𝓤 (⋆ 𝓤 H A (Laid-given l l′ ν ν′ δ δ′)) (Laid 𝓤 H A mem run .pre (to-laid l l′ ν ν′ δ δ′))
-  goes-laid g₁ g₂ gn l l′ ν ν′ δ δ′ =
-      qed W (Laid-given l l′ ν ν′ δ δ′) ∵
+  goes-traced : d₁ < 2 ^ 64 → d₂ < 2 ^ 64 → n < 2 ^ 64 → (l l′ ν ν′ : ℕ) (δ δ′ : GName) → ent 𝓤 (⋆ 𝓤 H A (Traced-given l l′ ν ν′ δ δ′)) (Traced 𝓤 H A mem run .pre (to-traced l l′ ν ν′ δ δ′))
+  goes-traced g₁ g₂ gn l l′ ν ν′ δ δ′ =
+      qed W (Traced-given l l′ ν ν′ δ δ′) ∵
       nothing ! $ move ! (7 ∷ 0 ∷ []) $ join ! $ move ! (6 ∷ 0 ∷ []) $ join ! $ move ! (5 ∷ 0 ∷ []) $ join ! $ move ! (4 ∷ 0 ∷ []) $ join ! $ move ! (3 ∷ 0 ∷ []) $ join ! $ move ! (2 ∷ 0 ∷ []) $ join ! $
       move ! (1 ∷ 0 ∷ []) $ join ! $
       nothing ! $ move ! (8 ∷ 0 ∷ []) $ fjoin ! $ move ! (7 ∷ 0 ∷ []) $ fjoin ! $ move ! (6 ∷ 0 ∷ []) $ fjoin ! $ move ! (5 ∷ 0 ∷ []) $ fjoin ! $
@@ -275,19 +275,19 @@ module _ {M : Type 1} (𝓤 : URA M) (H : Heap 𝓤) (A : Atoms 𝓤) (W : Given
       owned ! usize (Is usize) (uint-makes 𝓤 H A W w64) d₂ _ (refl, g₂) $ fjoin ! $ owned ! usize (Is usize) (uint-makes 𝓤 H A W w64) d₁ _ (refl, g₁) $ fjoin ! $ move ! (2 ∷ 0 ∷ []) $ fjoin ! $
       move ! (1 ∷ 0 ∷ []) $ join ! $ frame ! $ nothing ! $ done !
 
-  abbrev After-laid : ℕ → ℕ → ℕ → ℕ → GName → GName → Val → Trace → Item 𝓤
-  After-laid l l′ ν ν′ δ δ′ v r =
+  abbrev After-traced : ℕ → ℕ → ℕ → ℕ → GName → GName → Val → Trace → Item 𝓤
+  After-traced l l′ ν ν′ δ δ′ v r =
       ((‵ (flft κ₀ q₀) ⊛ (‵ (flft (ν ∷ []) fullShare) ⊛ (‵ (flft (ν′ ∷ []) fullShare) ⊛ (‵ (flft κ₄ q₄) ⊛ (‵ (flft κ₅ q₅) ⊛ (‵ (flft κ₆ q₆) ⊛ (‵ (flft κ₇ q₇) ⊛ ‵ ftrue))))))) ⊛ ‵ (An.the-row .own r (v ∷ [])))
-      ⊛ raw (ensured 𝓤 H A laid.ended (laid.clauses 𝓤 H A mem run) (laid-lfts ν ν′) (laid-args l l′ δ δ′) tt r)
+      ⊛ raw (ensured 𝓤 H A traced.ended (traced.clauses 𝓤 H A mem run) (traced-lfts ν ν′) (traced-args l l′ δ δ′) tt r)
 
-  abbrev Laid-said : ℕ → ℕ → ℕ → ℕ → GName → GName → Trace
+  abbrev Traced-said : ℕ → ℕ → ℕ → ℕ → GName → GName → Trace
       → Unit {0} × (Unit {0} × (Unit {0} × (Unit {0} × (Unit {0} × (Unit {0} × (List Float × (List ℕ × (List ℕ × (List Float × Unit {0}))))))))) → Item 𝓤
-  Laid-said l l′ ν ν′ δ δ′ r ws =
-      ‵ (lasts laid.ended (laid-lfts ν ν′) (laid-args l l′ δ δ′) ws)
+  Traced-said l l′ ν ν′ δ δ′ r ws =
+      ‵ (lasts traced.ended (traced-lfts ν ν′) (traced-args l l′ δ δ′) ws)
       ⊛ raw (fact 𝓤 (Said r (ws .1 .1 .1 .1 .1 .1 .0) (ws .1 .1 .1 .1 .1 .1 .1 .0) (ws .1 .1 .1 .1 .1 .1 .1 .1 .0) (ws .1 .1 .1 .1 .1 .1 .1 .1 .1 .0)))
 
   module _ (C : Calls 𝓤 H) (Λ : Loops 𝓤 H) (fm : FmC 𝓤 H (W .laws) C)
-      (known-flat : Triple 𝓤 (C #records·flatten) (Flat 𝓤 H A mem run)) (known-laid : Triple 𝓤 (C #records·trace-flattened) (Laid 𝓤 H A mem run)) where
+      (known-flat : Triple 𝓤 (C #records·flatten) (Flat 𝓤 H A mem run)) (known-traced : Triple 𝓤 (C #records·trace-flattened) (Traced 𝓤 H A mem run)) where
     walk : Room f64 (length d₀) → d₁ < 2 ^ 64 → d₂ < 2 ^ 64 → Room T.the-row (length d₃) → Room f64 (length d₄) → Room usize (length d₅) → Room usize (length d₆) → Room f64 (length d₇) →
         ent 𝓤 (onEntry 𝓤 H A f.signature κs qs a at) (WpFn 𝓤 H C Λ code.function args Post)
     walk g₀ g₁ g₂ g₃ g₄ g₅ g₆ g₇ =
@@ -352,9 +352,9 @@ module _ {M : Type 1} (𝓤 : URA M) (H : Heap 𝓤) (A : Atoms 𝓤) (W : Given
         split ! $
         -- `trace_flattened`
         move ! (24 ∷ []) $ use1 W (‵ O₀ ⊛ ‵ O₀) (shr-slice-copy 𝓤 H A W (named 0) κ₀ f64 .twice x₀ (s₀ ∷ [])) $ split ! $ move ! (18 ∷ 7 ∷ 4 ∷ 17 ∷ 16 ∷ 15 ∷ 13 ∷ 1 ∷ 5 ∷ 2 ∷ 23 ∷ 22 ∷ 21 ∷ 19 ∷ []) $
-        group ! 14 $ use1 W (raw (Laid 𝓤 H A mem run .pre (to-laid l₉ l₁₀ ν₃ ν₄ δ₃ δ₄))) (goes-laid g₁ g₂ (g₃ .0) l₉ l₁₀ ν₃ ν₄ δ₃ δ₄) $
-        calls-at ! fm (Laid 𝓤 H A mem run) known-laid (to-laid l₉ l₁₀ ν₃ ν₄ δ₃ δ₄) (and-then ! (local ! 57 refl) (and-then ! (local ! 55 refl) (and-then ! (local ! 53 refl) (and-then ! (local ! 33 refl) (and-then ! (local ! 31 refl) (and-then ! (local ! 29 refl) (and-then ! (local ! 25 refl) (and-then ! (local ! 21 refl) (and-then ! (local ! 17 refl) (and-then ! (local ! 13 refl) (no-more !))))))))))) (λ v.
-        use1 W (later (some (After-laid l₉ l₁₀ ν₃ ν₄ δ₃ δ₄ v))) (id⊢ 𝓤 _) $ await ! tt $ pick ! (λ r. split ! $ move ! (1 ∷ []) $ use1 W (some (Laid-said l₉ l₁₀ ν₃ ν₄ δ₃ δ₄ r)) (id⊢ 𝓤 _) $ pick ! (λ ws.
+        group ! 14 $ use1 W (raw (Traced 𝓤 H A mem run .pre (to-traced l₉ l₁₀ ν₃ ν₄ δ₃ δ₄))) (goes-traced g₁ g₂ (g₃ .0) l₉ l₁₀ ν₃ ν₄ δ₃ δ₄) $
+        calls-at ! fm (Traced 𝓤 H A mem run) known-traced (to-traced l₉ l₁₀ ν₃ ν₄ δ₃ δ₄) (and-then ! (local ! 57 refl) (and-then ! (local ! 55 refl) (and-then ! (local ! 53 refl) (and-then ! (local ! 33 refl) (and-then ! (local ! 31 refl) (and-then ! (local ! 29 refl) (and-then ! (local ! 25 refl) (and-then ! (local ! 21 refl) (and-then ! (local ! 17 refl) (and-then ! (local ! 13 refl) (no-more !))))))))))) (λ v.
+        use1 W (later (some (After-traced l₉ l₁₀ ν₃ ν₄ δ₃ δ₄ v))) (id⊢ 𝓤 _) $ await ! tt $ pick ! (λ r. split ! $ move ! (1 ∷ []) $ use1 W (some (Traced-said l₉ l₁₀ ν₃ ν₄ δ₃ δ₄ r)) (id⊢ 𝓤 _) $ pick ! (λ ws.
         split ! $ move ! (1 ∷ []) $ heard ! (Said r (ws .1 .1 .1 .1 .1 .1 .0) (ws .1 .1 .1 .1 .1 .1 .1 .0) (ws .1 .1 .1 .1 .1 .1 .1 .1 .0) (ws .1 .1 .1 .1 .1 .1 .1 .1 .1 .0)) (λ said.
         fsplit ! $ move ! (1 ∷ []) $ fsplit ! $ move ! (1 ∷ []) $ fsplit ! $ move ! (1 ∷ []) $ fsplit ! $ move ! (1 ∷ []) $ fsplit ! $ move ! (1 ∷ []) $ fsplit ! $ move ! (1 ∷ []) $ fsplit ! $ fsplit ! $
         move ! (1 ∷ []) $ feqL ! (λ e₄. move ! (1 ∷ []) $ fsplit ! $ fsplit ! $ move ! (1 ∷ []) $ feqL ! (λ e₅. move ! (1 ∷ []) $ fsplit ! $ fsplit ! $ move ! (1 ∷ []) $ feqL ! (λ e₆. move ! (1 ∷ []) $
@@ -377,9 +377,9 @@ module _ {M : Type 1} (𝓤 : URA M) (H : Heap 𝓤) (A : Atoms 𝓤) (W : Given
         by ! (exits g₁ g₂ r v (ws .1 .1 .1 .1 .1 .1 .0) (ws .1 .1 .1 .1 .1 .1 .1 .0) (ws .1 .1 .1 .1 .1 .1 .1 .1 .0) (ws .1 .1 .1 .1 .1 .1 .1 .1 .1 .0) said e₄ e₅ e₆ e₇))))))))))))))))))))))))))))))))))))))))))))))))
 
 module _ {M : Type 1} (𝓤 : URA M) (H : Heap 𝓤) (A : Atoms 𝓤) (W : Given 𝓤 H A) (mem : Memory → SProp 𝓤) (run : Routine → Fun 𝓤) where
-  trace-samples-walks : (C : Calls 𝓤 H) (Λ : Loops 𝓤 H) → FmC 𝓤 H (W .laws) C → Triple 𝓤 (C #records·flatten) (Flat 𝓤 H A mem run) → Triple 𝓤 (C #records·trace-flattened) (Laid 𝓤 H A mem run)
+  trace-samples-walks : (C : Calls 𝓤 H) (Λ : Loops 𝓤 H) → FmC 𝓤 H (W .laws) C → Triple 𝓤 (C #records·flatten) (Flat 𝓤 H A mem run) → Triple 𝓤 (C #records·trace-flattened) (Traced 𝓤 H A mem run)
       → Walks 𝓤 H A f.ended stayed (WpFn 𝓤 H C Λ code.function) (f.clauses 𝓤 H A mem run)
-  trace-samples-walks C Λ fm known-flat known-laid = walked 𝓤 H A f.ended stayed (f.clauses 𝓤 H A mem run) (WpFn 𝓤 H C Λ code.function)
+  trace-samples-walks C Λ fm known-flat known-traced = walked 𝓤 H A f.ended stayed (f.clauses 𝓤 H A mem run) (WpFn 𝓤 H C Λ code.function)
       (λ κs. (slice-vals, (uint-vals w64, (uint-vals w64, (slice-vals, (slice-vals, (slice-vals, (slice-vals, (slice-vals, tt)))))))))
       (λ κs. (shr-slice-tells (named 0) (κs .0) f64, (uint-tells w64, (uint-tells w64, (shr-slice-tells (named 1) (κs .1 .0) T.the-row, (mut-slice-tells (named 2) (κs .1 .1 .0) f64, (mut-slice-tells (named 3) (κs .1 .1 .1 .0) usize, (mut-slice-tells (named 4) (κs .1 .1 .1 .1 .0) usize, (mut-slice-tells (named 5) (κs .1 .1 .1 .1 .1 .0) f64, tt)))))))))
       (λ κs qs bounds a g are. via 𝓤 _ (fst∗ 𝓤 _ (emp 𝓤))
@@ -390,17 +390,17 @@ module _ {M : Type 1} (𝓤 : URA M) (H : Heap 𝓤) (A : Atoms 𝓤) (W : Given
       (a .1 .1 .1 .1 .1 .0 .ptr .0) (a .1 .1 .1 .1 .1 .0 .ptr .1) (a .1 .1 .1 .1 .1 .1 .0 .ptr .0) (a .1 .1 .1 .1 .1 .1 .0 .ptr .1) (a .1 .1 .1 .1 .1 .1 .1 .0 .ptr .0) (a .1 .1 .1 .1 .1 .1 .1 .0 .ptr .1)
       (a .0 .name) (a .1 .1 .1 .0 .name) (a .1 .1 .1 .1 .0 .name) (a .1 .1 .1 .1 .1 .0 .name) (a .1 .1 .1 .1 .1 .1 .0 .name) (a .1 .1 .1 .1 .1 .1 .1 .0 .name)
       (a .0 .now) (a .1 .0) (a .1 .1 .0) (a .1 .1 .1 .0 .now) (a .1 .1 .1 .1 .0 .now) (a .1 .1 .1 .1 .1 .0 .now) (a .1 .1 .1 .1 .1 .1 .0 .now) (a .1 .1 .1 .1 .1 .1 .1 .0 .now)
-      C Λ fm known-flat known-laid
+      C Λ fm known-flat known-traced
       (are .0 .0 .1) (are .1 .0 .1) (are .1 .1 .0 .1) (are .1 .1 .1 .0 .0 .1) (are .1 .1 .1 .1 .0 .0 .1) (are .1 .1 .1 .1 .1 .0 .0 .1) (are .1 .1 .1 .1 .1 .1 .0 .0 .1) (are .1 .1 .1 .1 .1 .1 .1 .0 .0 .1)))
 
 trace-samples-meets : {M : Type 1} (𝓤 : URA M) (H : Heap 𝓤) (A : Atoms 𝓤) → Given 𝓤 H A → (mem : Memory → SProp 𝓤) (run : Routine → Fun 𝓤) (𝓣 : Tables 𝓤 H)
-    → Triple 𝓤 (𝓣 .C #records·flatten) (Flat 𝓤 H A mem run) → Triple 𝓤 (𝓣 .C #records·trace-flattened) (Laid 𝓤 H A mem run)
+    → Triple 𝓤 (𝓣 .C #records·flatten) (Flat 𝓤 H A mem run) → Triple 𝓤 (𝓣 .C #records·trace-flattened) (Traced 𝓤 H A mem run)
     → Meets 𝓤 H A f.signature (WpFn 𝓤 H (𝓣 .C) (𝓣 .Λ) code.function) (f.spec 𝓤 H A mem run)
-trace-samples-meets 𝓤 H A W mem run 𝓣 known-flat known-laid =
+trace-samples-meets 𝓤 H A W mem run 𝓣 known-flat known-traced =
     walk-meets 𝓤 H A f.ended stayed W
     (goes-none-slice 𝓤 H A W 6 (0 ∷ []) tt (plain (λ _. f64)) yes, (goes-none 𝓤 H A W 6 (λ _. usize) yes (λ κs x f. refl), (goes-none 𝓤 H A W 6 (λ _. usize) yes (λ κs x f. refl), (goes-none-slice 𝓤 H A W 6 (1 ∷ []) tt (plain (λ _. T.the-row)) yes, (goes-gave-slice 𝓤 H A W 6 2 tt (plain (λ _. f64)), (goes-gave-slice 𝓤 H A W 6 3 tt (plain (λ _. usize)), (goes-gave-slice 𝓤 H A W 6 4 tt (plain (λ _. usize)), (goes-gave-slice 𝓤 H A W 6 5 tt (plain (λ _. f64)), tt))))))))
     (f.clauses 𝓤 H A mem run)
-    (WpFn 𝓤 H (𝓣 .C) (𝓣 .Λ) code.function) (WpFn-mono 𝓤 H (W .laws) 𝓣 code.function) (trace-samples-walks 𝓤 H A W mem run (𝓣 .C) (𝓣 .Λ) (fmOf 𝓤 H (W .laws) 𝓣) known-flat known-laid)
+    (WpFn 𝓤 H (𝓣 .C) (𝓣 .Λ) code.function) (WpFn-mono 𝓤 H (W .laws) 𝓣 code.function) (trace-samples-walks 𝓤 H A W mem run (𝓣 .C) (𝓣 .Λ) (fmOf 𝓤 H (W .laws) 𝓣) known-flat known-traced)
 
 pub trace-samples-spec : {M : Type 1} → stated.statement M
 unfolding code.routine tablesOf
@@ -409,4 +409,4 @@ trace-samples-spec 𝓤 H 𝓜 𝓖 𝓡 =
     (tables 𝓤 H 𝓜 𝓡 code.env .C) (tables 𝓤 H 𝓜 𝓡 code.env .Λ) #records·trace-samples code.function (code.unfolded 𝓤 H 𝓜 𝓡)
     (trace-samples-meets 𝓤 H (𝓖 .A) (givenOf 𝓤 H 𝓜 𝓖) (𝓜 .mem) (𝓡 .run) (tablesOf 𝓤 H 𝓜 (tables 𝓤 H 𝓜 𝓡 code.env))
     (cited 𝓤 H (Flat 𝓤 H (𝓖 .A) (𝓜 .mem) (𝓡 .run)) 𝓜 𝓡 code.env #records·flatten flat-def.routine code.calls-records·flatten (flat-thm.met 𝓤 H 𝓜 𝓖 𝓡))
-    (cited 𝓤 H (Laid 𝓤 H (𝓖 .A) (𝓜 .mem) (𝓡 .run)) 𝓜 𝓡 code.env #records·trace-flattened laid-def.routine code.calls-records·trace-flattened (laid-thm.met 𝓤 H 𝓜 𝓖 𝓡)))
+    (cited 𝓤 H (Traced 𝓤 H (𝓖 .A) (𝓜 .mem) (𝓡 .run)) 𝓜 𝓡 code.env #records·trace-flattened traced-def.routine code.calls-records·trace-flattened (traced-thm.met 𝓤 H 𝓜 𝓖 𝓡)))
