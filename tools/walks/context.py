@@ -64,6 +64,9 @@ class Walk:
         """The first `count` things of the context have become `names`."""
         self.context[:count] = names
 
+    def rename(self, old, new):
+        self.context[self.at(old)] = new
+
     def bring(self, *names):
         """To the front, in this order."""
         found = [self.at(name) for name in names]
@@ -96,7 +99,7 @@ class Walk:
     # ---- operands and assignments
 
     def load(self, k):
-        return f"load ! (from ! (stop !)) (look ! {self.at(f'l{k}')} refl)"
+        return f"local ! {self.at(f'l{k}')} refl"
 
     def field(self, k, j):
         return f"load ! (from ! (fld ! refl (stop !))) (look-in ! {self.at(f'l{k}')} (sub ! {j} refl (whole !)))"

@@ -1,6 +1,6 @@
 #!/usr/bin/env python3
 """Writes the proofs of the functions that take a slice of records, which the borrow checker does not cover:
-`records::flatten`, `records::trace_samples` and `exports::records::mt_trace_samples`.
+`records::flatten`, `records::trace_samples` and `exports::samples::mt_trace_samples`.
 
     tools/walks/walks.py
 
@@ -10,24 +10,151 @@ order of the MIR, which `rt mir` prints.
 
 import os
 import re
+from dataclasses import dataclass
 
 from context import Walk, sub
 
 HERE = os.path.dirname(os.path.abspath(__file__))
 ROOT = os.path.dirname(os.path.dirname(HERE))
 
+UNIT_TYPED = "(subst (λ (y : Val). Holds (hasTy tyUnit y) × WT y) (sym (ap only eu)) (tt, tt))"
+
+# ---- a call
+
+
+def call(w, contract, to, given, goes, locals, value):
+    """A function is called by its contract, whose outer values are `to`: `goes` makes what it asks from the things `given`.
+    It is passed the `locals` and answers with the machine value `value`."""
+    w.bring(*given)
+    if len(given) > 1:
+        w.step(f"group ! {len(given)}")
+    w.step(f"use1 W (raw ({contract} 𝓤 H A mem run .pre {to})) ({goes})")
+    w.now(len(given), "pre")
+    w.line()
+    known = f"known-{contract.lower()}"
+    w.bind(f"calls-at ! fm ({contract} 𝓤 H A mem run) {known} {to} {w.operands(*map(w.load, locals))}", value)
+    w.now(1, "post")
+
+
+def gather_tokens(w, tokens):
+    w.step("nothing !")
+    w.now(0, "joined")
+    w.gather(*tokens)
+    w.now(1, "tokens")
+
+
+def gather_parameters(w, parameters):
+    """A number is given with the fact that it fits: what it owns is had for nothing."""
+    w.step("nothing !")
+    w.now(0, "joined")
+    for parameter in reversed(parameters):
+        if isinstance(parameter, tuple):
+            number, fits = parameter
+            w.step(f"owned ! usize (Is usize) (uint-makes 𝓤 H A W w64) {number} _ (refl, {fits})")
+            w.now(0, parameter)
+        w.bring(parameter, "joined")
+        w.step("fjoin !")
+        w.now(2, "joined")
+
+
+def asked(tokens, parameters):
+    """What a call asks, from the tokens and the parameters that are no numbers."""
+    w = Walk(*tokens, *[p for p in parameters if isinstance(p, str)])
+    gather_tokens(w, tokens)
+    w.line()
+    gather_parameters(w, parameters)
+    w.bring("tokens", "joined")
+    w.end("join ! $ frame ! $ nothing ! $ done !")
+    return w.text(6)
+
+
+def framed(context, tokens, parameters, end):
+    """What a contract leaves its caller: the tokens, the parameters, and the result by `end`."""
+    w = Walk(*context)
+    gather_tokens(w, tokens)
+    w.step("frame !")
+    w.now(1)
+    w.line()
+    gather_parameters(w, parameters)
+    w.step("frame !")
+    w.end(end)
+    return w.text(6)
+
+
+def hear(w, after, answer, said, lasts, facts):
+    """What a call hands back: its answer, the last lists, and the facts that it ensures; `toks` are its tokens and what
+    the answer owns."""
+    w.line()
+    w.step(f"use1 W (later (some ({after}))) (id⊢ 𝓤 _)")
+    w.step("await ! tt")
+    w.bind("pick !", answer)
+    w.split("post", "toks")
+    w.bring("post")
+    w.bind(f"use1 W (some ({said})) (id⊢ 𝓤 _) $ pick !", lasts)
+    *others, last = facts
+    w.split("post", "lasts", *others)
+    w.rename("post", last)
+    for name, fact in facts.items():
+        w.bring(name)
+        w.bind(f"heard ! ({fact})", name)
+        w.now(1)
+
+
+def land(w, k, typed):
+    """The answer goes to local k."""
+    w.step("land ! (from ! (stop !)) " + w.cell(k, typed))
+
+
+def land_unit(w, k, tokens):
+    w.split("toks", tokens)
+    w.bring("toks")
+    w.bind("feqL !", "eu")
+    w.now(1)
+    w.line()
+    land(w, k, UNIT_TYPED)
+
+
+def land_answer(w, k, tokens, row, answer, value, known, laws):
+    """That the answer is what its machine value says is `known`, by which it has its local's type."""
+    w.split("toks", tokens)
+    w.bring("toks")
+    w.line()
+    w.bind(f"peeks ! {row}.the-row (Is {row}.the-row) (shows 𝓤 H A {row}.the-row) {answer} ({value} ∷ [])", known)
+    w.now(1, "answer")
+    land(w, k, f"({laws} .typed {answer} _ {known} .0)")
+
+
+def new_lifetime(w, name):
+    w.bind("lft-new ! tt", name)
+    w.now(0, name)
+
+
+def end_lifetime(w, name):
+    """Its token becomes the fact that it is over."""
+    w.line()
+    w.bring(name)
+    w.step("lft-end ! tt")
+    w.now(1, "dead")
+
+
 # ---- `flatten`: samples in local 1, pairs in 2, marks in 3, i in 4
 
 FLATTEN_LOCALS = 13
 SAMPLE_TYPED = "(LL.lawful T.the-type T′.the-laws 𝓤 H A W .typed (elem i) _ is .0)"
-UNIT_TYPED = "(subst (λ (y : Val). Holds (hasTy tyUnit y) × WT y) (sym (ap only eu)) (tt, tt))"
+# a list's parameter, its type, its contents when i records are put, and what these are a list of
+FLATTEN_LISTS = [("₁", "F", "P", "Float"), ("₂", "B", "N", "ℕ")]
 
 
 def flatten_context():
     """What a turn begins with, in the order of `At`."""
-    owned = ["t0", "O0", "t1", "O1", "t2", "O2"]
+    owned = ["t₀", "O₀", "t₁", "O₁", "t₂", "O₂"]
     locals = [f"l{k}" for k in [4, 5, 6, 7, 8, 9, 10, 11, 12, 1, 2, 3, 0]]
     return owned + locals + [f"d{k}" for k in range(FLATTEN_LOCALS)]
+
+
+def flatten_framed():
+    held = flatten_context()[:6]
+    return framed(held, held[::2], held[1::2], "feqI ! (List Val) (vunit ∷ []) (vunit ∷ []) refl $ done !")
 
 
 def flatten_test(w, outcome):
@@ -38,11 +165,8 @@ def flatten_test(w, outcome):
     w.rewrite("l7", "λ (t : Bool). ‵ (fat fullShare tyBool l₇ 0 (vbool t))", outcome)
 
 
-def flatten_turn():
-    w = Walk(*flatten_context())
-    flatten_test(w, "holds (ltb i n) (lt→ltb i n small)")
-    w.step(f"stays ! ({w.load(7)})")
-
+def flatten_copy(w):
+    """`let sample = samples[i]`: the place, and the record there, for which the slice is opened."""
     w.note("the place of `samples[i]`")
     w.assign(f"bin ! ({w.load(4)}) (lit ! tt) (record {{ fits = scaled }})", 6, "(tt, record { fits = scaled })", "store")
     w.assign(f"bin ! ({w.field(1, 0)}) ({w.load(6)}) tt", 8, "(tt, tt)")
@@ -50,12 +174,12 @@ def flatten_turn():
     w.rewrite("l8", "λ (p : ℕ). ‵ (fat fullShare tyPtr l₈ 0 (vptr b₀ p))", "sym (place-is 24 o₀ i)")
 
     w.note("the slice is opened, and the record there is copied")
-    w.fsplit("O0", "f0", "res")
-    w.bring("O0", "t0")
+    w.fsplit("O₀", "f0", "res")
+    w.bring("O₀", "t₀")
     shown = "T.the-row (Is T.the-row) (shows 𝓤 H A T.the-row) vals (LL.tells T.the-type T′.the-laws)"
     w.line()
     w.bind(f"looks-slice ! tt {shown} (LL.copy T.the-type T′.the-copy 𝓤 H A W) ss b₀ o₀", "q′")
-    w.now(2, "row", "open", "O0")
+    w.now(2, "row", "open", "O₀")
     w.line()
     w.bind(f"elem-out ! {shown} q′ ss i nowhere b₀ o₀ small", "is")
     w.now(1, "cell", "eown", "others")
@@ -64,81 +188,72 @@ def flatten_turn():
     w.line()
     w.step("elem-back ! T.the-row q′ ss i nowhere (mach i ∷ []) b₀ o₀ small")
     w.step("shuts-slice ! tt T.the-row q′ ss b₀ o₀")
-    w.now(4, "t0")
-    w.bring("O0")
+    w.now(4, "t₀")
+    w.bring("O₀")
     w.gather("f0", "res", how="fjoin")
-    w.now(1, "O0")
+    w.now(1, "O₀")
     w.assign(f"of-opd ! ({w.load(9)})", 5, SAMPLE_TYPED)
 
-    w.note("`put_sample`: both lists are lent again, each for a lifetime made for the call")
+
+def flatten_lend(w):
+    """Both lists are lent again."""
     w.assign(f"addr ! (from ! (hop ! (look ! {w.at('l2')} refl) (stop !)))", 11, "(tt, tt)")
     w.assign(f"addr ! (from ! (hop ! (look ! {w.at('l3')} refl) (stop !)))", 12, "(tt, tt)")
-    lists = [(1, "F", "P"), (2, "B", "N")]
-    for j, row, contents in lists:
-        J = sub(j)
-        outer = f"κ{J} (ν{J} ∷ []) q{J} γ{J} b{J} o{J}"
+    for named, (j, row, contents, _) in enumerate(FLATTEN_LISTS, 1):
+        outer = f"κ{j} (ν{j} ∷ []) q{j} γ{j} b{j} o{j}"
         w.line()
-        w.bind("lft-new ! tt", f"ν{J}")
-        w.now(0, f"ν{j}")
+        new_lifetime(w, f"ν{j}")
         w.bring(f"O{j}", f"t{j}")
         w.step(
-            f"use2 W (later (some (λ (δ : GName). ‵ (L{J} ν{J} δ i) ⊛ ‵ (LentAgain {row} {outer} δ ({contents} i)))))"
-            f" (lends-again 𝓤 H A W {row} (named {j}) {outer} (named {j - 1}) ({contents} i))"
+            f"use2 W (later (some (λ (δ : GName). ‵ (L{j} ν{j} δ i) ⊛ ‵ (LentAgain {row} {outer} δ ({contents} i)))))"
+            f" (lends-again 𝓤 H A W {row} (named {named}) {outer} (named {named - 1}) ({contents} i))"
         )
         w.step("await ! tt")
-        w.bind("pick !", f"δ{J}")
+        w.bind("pick !", f"δ{j}")
         w.now(2, "lent")
         w.split("lent", f"M{j}")
         w.now(2, f"M{j}", f"k{j}")
-    w.line()
-    w.step("owned ! T.the-row (Is T.the-row) (LL.makes T.the-type T′.the-plain 𝓤 H A) (elem i) _ is")
-    w.now(0, "rec")
-    w.bring("ν1", "ν2", "M1", "M2", "rec")
-    w.step("group ! 5")
-    to_put = "(to-put ν₁ ν₂ δ₁ δ₂ i)"
-    w.step(f"use1 W (raw (Put 𝓤 H A mem run .pre {to_put})) (goes-put ν₁ ν₂ δ₁ δ₂ i fits)")
-    w.now(5, "pre")
-    w.line()
-    w.bind(f"calls-at ! fm (Put 𝓤 H A mem run) known-put {to_put} {w.operands(*map(w.load, [11, 12, 4, 5]))}", "u")
-    w.now(1, "post")
 
-    w.note("what it hands back, and what it ensures")
-    w.step("use1 W (later (some (After-put ν₁ ν₂ δ₁ δ₂ i u))) (id⊢ 𝓤 _)")
-    w.step("await ! tt")
-    w.bind("pick !", "z")
-    w.split("post", "toks")
-    w.bring("post")
-    w.bind("use1 W (some (Put-said ν₁ ν₂ δ₁ δ₂ i)) (id⊢ 𝓤 _) $ pick !", "zs")
-    w.split("post", "lasts")
-    w.bring("post")
-    w.bind("heard ! ((zs .0 ≡ P (suc i)) × (zs .1 .0 ≡ N (suc i)))", "e")
-    w.now(1)
-    w.fsplit("lasts", "r1", "r2")
-    w.split("toks", "tokens")
-    w.bring("toks")
-    w.bind("feqL !", "eu")
-    w.now(1)
-    w.line()
-    w.step("land ! (from ! (stop !)) " + w.cell(10, UNIT_TYPED))
 
-    w.note("the lifetimes end, and the lists come back")
-    w.split("tokens", "ν1", "ν2")
-    for (j, row, contents), after in zip(lists, ["zs .0", "zs .1 .0"]):
-        J = sub(j)
-        w.line()
-        w.bring(f"ν{j}")
-        w.step("lft-end ! tt")
-        w.now(1, "dead")
+def flatten_take_back(w):
+    """The lifetimes end, and the lists come back, with one record more."""
+    for named, (j, row, contents, denotes) in enumerate(FLATTEN_LISTS, 1):
+        after = f"zs{' .1' * (named - 1)} .0"
+        end_lifetime(w, f"ν{j}")
         w.bring("dead", f"k{j}", f"r{j}")
         w.step(
-            f"use3 W (later (‵ (O{J} ({after})) ⊛ ‵ (flft κ{J} q{J})))"
-            f" (comes-back 𝓤 H A W {row} (named {j}) κ{J} (ν{J} ∷ []) q{J} γ{J} b{J} o{J} δ{J} ({contents} i) ({after}))"
+            f"use3 W (later (‵ (O{j} ({after})) ⊛ ‵ (flft κ{j} q{j})))"
+            f" (comes-back 𝓤 H A W {row} (named {named}) κ{j} (ν{j} ∷ []) q{j} γ{j} b{j} o{j} δ{j} ({contents} i) ({after}))"
         )
         w.step("await ! tt")
         w.now(3, f"t{j}")
         w.split(f"t{j}", f"O{j}")
         w.bring(f"O{j}")
-        w.rewrite(f"O{j}", f"λ (l : List {'Float' if j == 1 else 'ℕ'}). ‵ (O{J} l)", f"e .{j - 1}")
+        w.rewrite(f"O{j}", f"λ (l : List {denotes}). ‵ (O{j} l)", f"e .{named - 1}")
+
+
+def flatten_turn():
+    w = Walk(*flatten_context())
+    flatten_test(w, "lt-ltb i n small")
+    w.step(f"stays ! ({w.load(7)})")
+    flatten_copy(w)
+
+    w.note("`put_sample`: both lists are lent again, each for a lifetime made for the call")
+    flatten_lend(w)
+    w.line()
+    w.step("owned ! T.the-row (Is T.the-row) (LL.makes T.the-type T′.the-plain 𝓤 H A) (elem i) _ is")
+    w.now(0, "rec")
+    outer = "ν₁ ν₂ δ₁ δ₂ i"
+    call(w, "Put", f"(to-put {outer})", ["ν₁", "ν₂", "M₁", "M₂", "rec"], f"goes-put {outer} fits", [11, 12, 4, 5], "u")
+
+    w.note("what it hands back, and what it ensures")
+    hear(w, f"After-put {outer} u", "z", f"Put-said {outer}", "zs", {"e": "(zs .0 ≡ P (suc i)) × (zs .1 .0 ≡ N (suc i))"})
+    w.fsplit("lasts", "r₁", "r₂")
+    land_unit(w, 10, "tokens")
+
+    w.note("the lifetimes end, and the lists come back")
+    w.split("tokens", "ν₁", "ν₂")
+    flatten_take_back(w)
 
     w.note("`i += 1`, and the context is that of the next turn")
     w.assign(
@@ -146,7 +261,7 @@ def flatten_turn():
     )
     w.line()
     w.forget(*range(5, FLATTEN_LOCALS))
-    w.rewrite("l4", "λ (j : ℕ). ‵ (fat fullShare (tyInt w64) l₄ 0 (vint w64 j))", "one-more i")
+    w.rewrite("l4", "λ (j : ℕ). ‵ (fat fullShare (tyInt w64) l₄ 0 (vint w64 j))", "add-one i")
     w.line()
     w.keep(*flatten_context())
     w.end("by ! k")
@@ -155,7 +270,7 @@ def flatten_turn():
 
 def flatten_ends():
     w = Walk(*flatten_context())
-    flatten_test(w, "fails (ltb n n) (λ a. lt-irrefl n (ltb→lt n n a))")
+    flatten_test(w, "le-ltb n n (le-refl n)")
     w.step(f"leaves-loop ! ({w.load(7)})")
     w.step("exec ! C Λ En body.t-3 (atRet En Post)")
     w.assign("of-opd ! (unit-lit !)", 0, "(tt, tt)")
@@ -178,8 +293,8 @@ def flatten_start():
     w.step("pass0 !")
     w.assign("of-opd ! (lit ! tt)", 4, "(tt, record { fits = lit< tt })")
     w.line()
-    w.fsplit("owns", "O0", "O1", "O2")
-    w.split("tokens", "t0", "t1", "t2")
+    w.fsplit("owns", "O₀", "O₁", "O₂")
+    w.split("tokens", "t₀", "t₁", "t₂")
     w.keep(*flatten_context())
     w.line()
     w.end("by ! (loops 𝓣 fm known-put g₀ " + " ".join("l" + sub(k) for k in range(FLATTEN_LOCALS)) + ")")
@@ -193,6 +308,15 @@ NUMBERS = [1, 2]
 OUTPUTS = [4, 5, 6, 7]
 SLICES = [0, 3] + OUTPUTS
 SAMPLES = 3
+M, N = ("d₁", "g₁"), ("d₂", "g₂")
+
+
+def tokens(parameters):
+    return [f"t{p}" for p in parameters]
+
+
+def owned(parameters):
+    return [f"O{p}" for p in parameters]
 
 
 def slice_typed(p):
@@ -210,8 +334,8 @@ def enter(w, locals):
 
 
 def take_parameters(w):
-    w.fsplit("owns", *[f"O{p}" for p in PARAMETERS])
-    w.split("tokens", *[f"t{p}" for p in SLICES])
+    w.fsplit("owns", *owned(PARAMETERS))
+    w.split("tokens", *tokens(SLICES))
 
 
 def copy_slice(w, p, named, row):
@@ -237,44 +361,74 @@ def outputs_after(w, before):
     w.line()
     w.fsplit("lasts", *[f"nothing {j}" for j in range(before)])
     for p in OUTPUTS:
-        w.fsplit("lasts", f"fin{p}")
-        w.fsplit(f"fin{p}", f"fin{p} list")
-        w.bring(f"fin{p}")
+        w.fsplit("lasts", f"length {p}")
+        w.fsplit(f"length {p}", f"fin{p}")
+        w.bring(f"length {p}")
         w.bind("feqL !", f"e{sub(p)}")
-        w.now(1, )
-        w.context[w.at(f"fin{p} list")] = f"fin{p}"
+        w.now(1)
 
 
 def last_lists(name, before):
+    """These lists, as parts of what `name` binds."""
     return " ".join(f"({name}{' .1' * (before + j)} .0)" for j in range(len(OUTPUTS)))
 
 
-def leave(w, locals, rooms, result):
-    """The locals go, and what the contract speaks of is left."""
+def left():
+    """What an entry leaves its caller, in the order of `Left`, and its answer."""
+    return [*tokens(SLICES), "O0", "O3", *[f"fin{p}" for p in OUTPUTS], "answer"]
+
+
+def entry_framed():
+    parameters = ["O0", M, N, "O3", *[f"fin{p}" for p in OUTPUTS]]
+    return framed(left(), tokens(SLICES), parameters, "done !")
+
+
+def leave(w, locals, rooms):
+    """The locals go, of which `rooms` hold nothing, and what the contract speaks of is left."""
     w.note("the locals go")
     w.step(f"returns ! (look ! {w.at('l0')} refl)")
     w.line()
     w.forget(*[k for k in range(locals) if k not in rooms])
     w.line()
     w.free(locals)
-    w.keep(*[f"t{p}" for p in SLICES], "O0 kept", "O3 kept", *[f"fin{p}" for p in OUTPUTS], result)
+    w.rename("O0 kept", "O0")
+    w.rename("O3 kept", "O3")
+    w.keep(*left())
     w.line()
 
 
-# ---- `trace_samples`: the lists in locals 9 and 10
+# ---- `trace_samples`
 
 ENTRY_LOCALS = 25
-ARRAYS = {
-    "F": dict(local=9, element="f64", type="AF", length=131074, zeros="xF", value="vF", denotes="Float"),
-    "B": dict(local=10, element="u8", type="AB", length=65537, zeros="xB", value="vB", denotes="ℕ"),
-}
 
 
-def trace_samples_walk():
-    w = Walk("tokens", "owns")
-    enter(w, ENTRY_LOCALS)
+@dataclass
+class Array:
+    """A list that is a local, by the names that the proof has for it."""
 
-    w.note("two lists of zeros")
+    local: int
+    named: int  # the place of its lifetime in the callees' signatures
+    row: str  # its type
+    element: str
+    type: str  # its MIR type
+    length: int
+    zeros: str  # its contents as it is made, and their machine value
+    value: str
+    contents: str  # when all records are put
+    denotes: str  # what its contents are a list of
+
+    @property
+    def block(self):
+        return "l" + sub(self.local)
+
+
+ARRAYS = [
+    Array(9, 1, "F", "f64", "AF", 131074, "xF", "vF", "P", "Float"),
+    Array(10, 2, "B", "u8", "AB", 65537, "xB", "vB", "N", "ℕ"),
+]
+
+
+def make_zeros(w):
     w.step("use0 W (‵ (F .own xF (vF ∷ []))) (owned-F 𝓤 H A W)")
     w.now(0, "oF")
     w.step("use0 W (‵ (B .own xB (vB ∷ []))) (owned-B 𝓤 H A W)")
@@ -284,79 +438,86 @@ def trace_samples_walk():
     w.step(f"fills ! 131074 (tyFloat binary64) (float-lit ! tt) refl {w.at('l9')} refl {zero}")
     w.step(f"fills ! 65537 (tyInt w8) (lit ! tt) refl {w.at('l10')} refl (tt, record {{ fits = lit< tt }})")
 
-    w.note("they are lent by `&mut`, each for a lifetime made for the call")
+
+def lend_zeros(w):
+    """`&mut` of both lists."""
     w.assign("addr ! (from ! (stop !))", 12, "(tt, tt)")
     w.assign("addr ! (from ! (stop !))", 13, "(tt, tt)")
-    for named, (row, array) in enumerate(ARRAYS.items(), 1):
-        l, ν, zeros = "l" + sub(array["local"]), "ν" + sub(named), array["zeros"]
+    for a in ARRAYS:
+        l, ν, δ = a.block, "ν" + sub(a.named), "δ" + sub(a.named)
         w.line()
-        w.bring(f"l{array['local']}", f"o{row}")
-        w.step(
-            f"use2 W (‵ (partAt {row} fullShare {zeros} {l} 0))"
-            f" (in-mem 𝓤 H A W {array['element']} {array['length']} {zeros} {array['value']} {l} 0)"
-        )
-        w.now(2, f"p{row}")
-        w.bind("lft-new ! tt", ν)
-        w.now(0, ν)
-        w.bring(f"p{row}")
+        w.bring(f"l{a.local}", f"o{a.row}")
+        w.step(f"use2 W (‵ (partAt {a.row} fullShare {a.zeros} {l} 0)) (in-mem 𝓤 H A W {a.element} {a.length} {a.zeros} {a.value} {l} 0)")
+        w.now(2, f"p{a.row}")
+        new_lifetime(w, ν)
+        w.bring(f"p{a.row}")
         w.line()
         w.step(
-            f"use1 W (later (some (λ (δ : GName). ‵ (Lent{row} {l} {ν} δ) ⊛ ‵ (flent ({ν} ∷ []) (Body (memOf {row}) {l} 0 δ)))))"
-            f" (lends-ref 𝓤 H A W {row} (named {named}) ({ν} ∷ []) {zeros} {l} 0)"
+            f"use1 W (later (some (λ (δ : GName). ‵ (Lent{a.row} {l} {ν} δ) ⊛ ‵ (flent ({ν} ∷ []) (Body (memOf {a.row}) {l} 0 δ)))))"
+            f" (lends-ref 𝓤 H A W {a.row} (named {a.named}) ({ν} ∷ []) {a.zeros} {l} 0)"
         )
         w.step("await ! tt")
-        w.bind("pick !", "δ" + sub(named))
-        w.now(1, f"k{row}")
-        w.split(f"k{row}", f"M{row}")
+        w.bind("pick !", δ)
+        w.now(1, f"k{a.row}")
+        w.split(f"k{a.row}", f"M{a.row}")
 
+
+def take_lists_back(w):
+    """The lifetimes end, and the lists are back, with the records in them."""
+    for a in ARRAYS:
+        l, ν, δ, after = a.block, "ν" + sub(a.named), "δ" + sub(a.named), f"zs{' .1' * a.named} .0"
+        end_lifetime(w, ν)
+        w.bring("dead", f"k{a.row}", f"r{a.row}")
+        w.step(f"use3 W (later (‵ (partAt {a.row} fullShare ({after}) {l} 0))) (ref-back 𝓤 H A W {a.row} ({ν} ∷ []) {δ} ({after}) {l} 0)")
+        w.step("await ! tt")
+        w.now(3, f"p{a.row}")
+        w.rewrite(f"p{a.row}", f"λ (l : List {a.denotes}). ‵ (partAt {a.row} fullShare l {l} 0)", f"e .{a.named - 1}")
+
+
+def share_lists(w):
+    """`&` of both lists."""
+    for a in ARRAYS:
+        l, ν, δ = a.block, "ν" + sub(a.named + 2), "δ" + sub(a.named + 2)
+        w.line()
+        new_lifetime(w, ν)
+        w.bring(f"p{a.row}")
+        w.step(
+            f"use1 W (later (some (λ (δ : GName). ‵ (Shared{a.row} {l} {ν} δ) ⊛ ‵ (flent ({ν} ∷ []) (partAt {a.row} fullShare {a.contents} {l} 0)))))"
+            f" (lends-shr 𝓤 H A W {a.row} (named {a.named}) ({ν} ∷ []) fullShare {a.contents} {l} 0)"
+        )
+        w.step("await ! tt")
+        w.bind("pick !", δ)
+        w.now(1, f"k{a.row}")
+        w.split(f"k{a.row}", f"S{a.row}")
+
+
+def make_room(w):
+    """The lifetimes end, and the lists are room again."""
+    for a in ARRAYS:
+        end_lifetime(w, "ν" + sub(a.named + 2))
+        w.bring("dead", f"k{a.row}")
+        w.step("lent-back ! tt")
+        w.step(f"use1 W (‵ (froom {a.type} {a.block} 0)) (out-room 𝓤 H A W {a.element} {a.length} {a.contents} {a.block} 0)")
+        w.now(2, f"l{a.local}")
+
+
+def call_flatten(w):
     w.note("`flatten`")
     take_parameters(w)
     copy_slice(w, SAMPLES, 1, "T.the-row")
-    w.bring("t3", "ν₁", "ν₂", "O3", "MF", "MB")
-    to_flat, bound = "(to-flat l₉ l₁₀ ν₁ ν₂ δ₁ δ₂)", "l₉ l₁₀ ν₁ ν₂ δ₁ δ₂"
-    w.step("group ! 6")
-    w.step(f"use1 W (raw (Flat 𝓤 H A mem run .pre {to_flat})) (goes-flat {bound})")
-    w.now(6, "pre")
-    w.line()
-    w.bind(f"calls-at ! fm (Flat 𝓤 H A mem run) known-flat {to_flat} {w.operands(*map(w.load, [4, 12, 13]))}", "u")
-    w.now(1, "post")
-    w.line()
-    w.step(f"use1 W (later (some (After-flat {bound} u))) (id⊢ 𝓤 _)")
-    w.step("await ! tt")
-    w.bind("pick !", "y")
-    w.split("post", "toks")
-    w.bring("post")
-    w.bind(f"use1 W (some (Flat-said {bound})) (id⊢ 𝓤 _) $ pick !", "zs")
-    w.split("post", "lasts")
-    w.bring("post")
-    w.bind("heard ! ((zs .1 .0 ≡ P) × (zs .1 .1 .0 ≡ N))", "e")
-    w.now(1)
+    outer = "l₉ l₁₀ ν₁ ν₂ δ₁ δ₂"
+    call(w, "Flat", f"(to-flat {outer})", ["t3", "ν₁", "ν₂", "O3", "MF", "MB"], f"goes-flat {outer}", [4, 12, 13], "u")
+    hear(w, f"After-flat {outer} u", "y", f"Flat-said {outer}", "zs", {"e": "(zs .1 .0 ≡ P) × (zs .1 .1 .0 ≡ N)"})
     w.line()
     w.fsplit("lasts", "nothing", "rF", "rB")
-    w.split("toks", "tokens of flat")
-    w.bring("toks")
-    w.bind("feqL !", "eu")
-    w.now(1)
-    w.line()
-    w.step("land ! (from ! (stop !)) " + w.cell(11, UNIT_TYPED))
+    land_unit(w, 11, "tokens of flatten")
 
     w.note("the lifetimes end, and the lists are back, with the records in them")
-    w.split("tokens of flat", "t3", "ν₁", "ν₂")
-    for named, (row, array) in enumerate(ARRAYS.items(), 1):
-        l, ν, after = "l" + sub(array["local"]), "ν" + sub(named), f"zs{' .1' * named} .0"
-        w.line()
-        w.bring(ν)
-        w.step("lft-end ! tt")
-        w.now(1, "dead")
-        w.bring("dead", f"k{row}", f"r{row}")
-        w.step(
-            f"use3 W (later (‵ (partAt {row} fullShare ({after}) {l} 0)))"
-            f" (ref-back 𝓤 H A W {row} ({ν} ∷ []) δ{sub(named)} ({after}) {l} 0)"
-        )
-        w.step("await ! tt")
-        w.now(3, f"p{row}")
-        w.rewrite(f"p{row}", f"λ (l : List {array['denotes']}). ‵ (partAt {row} fullShare l {l} 0)", f"e .{named - 1}")
+    w.split("tokens of flatten", "t3", "ν₁", "ν₂")
+    take_lists_back(w)
 
+
+def call_trace_flattened(w):
     w.note("what `trace_flattened` is passed")
     w.assign("addr ! (from ! (stop !))", 14, "(tt, tt)")
     w.assign("addr ! (from ! (stop !))", 15, "(tt, tt)")
@@ -364,67 +525,33 @@ def trace_samples_walk():
     lent = lend_outputs(w, 17)
 
     w.note("the lists are lent by `&`")
-    for named, (row, contents) in enumerate([("F", "P"), ("B", "N")], 1):
-        l, ν = "l" + sub(ARRAYS[row]["local"]), "ν" + sub(named + 2)
-        w.line()
-        w.bind("lft-new ! tt", ν)
-        w.now(0, ν)
-        w.bring(f"p{row}")
-        w.step(
-            f"use1 W (later (some (λ (δ : GName). ‵ (Shared{row} {l} {ν} δ) ⊛ ‵ (flent ({ν} ∷ []) (partAt {row} fullShare {contents} {l} 0)))))"
-            f" (lends-shr 𝓤 H A W {row} (named {named}) ({ν} ∷ []) fullShare {contents} {l} 0)"
-        )
-        w.step("await ! tt")
-        w.bind("pick !", "δ" + sub(named + 2))
-        w.now(1, f"k{row}")
-        w.split(f"k{row}", f"S{row}")
+    share_lists(w)
 
     w.note("`trace_flattened`")
     copy_slice(w, 0, 0, "f64")
-    outputs = [f"t{p}" for p in OUTPUTS], [f"O{p}" for p in OUTPUTS]
-    w.bring("t0", "ν₃", "ν₄", *outputs[0], "O0", "SF", "SB", *outputs[1])
-    to_laid, bound = "(to-laid l₉ l₁₀ ν₃ ν₄ δ₃ δ₄)", "l₉ l₁₀ ν₃ ν₄ δ₃ δ₄"
-    w.step("group ! 14")
-    w.step(f"use1 W (raw (Laid 𝓤 H A mem run .pre {to_laid})) (goes-laid g₁ g₂ (g₃ .0) {bound})")
-    w.now(14, "pre")
-    w.line()
-    w.bind(f"calls-at ! fm (Laid 𝓤 H A mem run) known-laid {to_laid} {w.operands(*map(w.load, [1, 2, 3, 14, 15, 16, *lent]))}", "v")
-    w.now(1, "post")
-    w.line()
-    w.step(f"use1 W (later (some (After-laid {bound} v))) (id⊢ 𝓤 _)")
-    w.step("await ! tt")
-    w.bind("pick !", "r")
-    w.split("post", "toks")
-    w.bring("post")
-    w.bind(f"use1 W (some (Laid-said {bound} r)) (id⊢ 𝓤 _) $ pick !", "ws")
-    w.split("post", "lasts")
-    w.bring("post")
-    said = f"Said r {last_lists('ws', 6)}"
-    w.bind(f"heard ! ({said})", "said")
-    w.now(1)
+    outer = "l₉ l₁₀ ν₃ ν₄ δ₃ δ₄"
+    lifetimes = ["t0", "ν₃", "ν₄", *tokens(OUTPUTS)]
+    given = [*lifetimes, "O0", "SF", "SB", *owned(OUTPUTS)]
+    call(w, "Traced", f"(to-traced {outer})", given, f"goes-traced g₁ g₂ (g₃ .0) {outer}", [1, 2, 3, 14, 15, 16, *lent], "v")
+    hear(w, f"After-traced {outer} v", "r", f"Traced-said {outer} r", "ws", {"said": f"Said r {last_lists('ws', 6)}"})
     outputs_after(w, 6)
-    w.split("toks", "tokens of laid")
-    w.bring("toks")
-    w.line()
-    w.bind("peeks ! An.the-row (Is An.the-row) (shows 𝓤 H A An.the-row) r (v ∷ [])", "is")
-    w.now(1, "answer")
-    w.step("land ! (from ! (stop !)) " + w.cell(0, "(EL.lawful An.the-type An′.the-laws 𝓤 H A W tt .typed r _ is .0)"))
+    land_answer(w, 0, "tokens of the trace", "An", "r", "v", "is", "EL.lawful An.the-type An′.the-laws 𝓤 H A W tt")
 
     w.note("the lists are room again")
-    w.split("tokens of laid", "t0", "ν₃", "ν₄", *outputs[0])
-    for named, (row, contents) in enumerate([("F", "P"), ("B", "N")], 3):
-        array = ARRAYS[row]
-        l = "l" + sub(array["local"])
-        w.line()
-        w.bring("ν" + sub(named))
-        w.step("lft-end ! tt")
-        w.now(1, "dead")
-        w.bring("dead", f"k{row}")
-        w.step("lent-back ! tt")
-        w.step(f"use1 W (‵ (froom {array['type']} {l} 0)) (out-room 𝓤 H A W {array['element']} {array['length']} {contents} {l} 0)")
-        w.now(2, f"l{array['local']}")
+    w.split("tokens of the trace", *lifetimes)
+    make_room(w)
 
-    leave(w, ENTRY_LOCALS, [9, 10], "answer")
+
+def trace_samples_walk():
+    w = Walk("tokens", "owns")
+    enter(w, ENTRY_LOCALS)
+    w.note("two lists of zeros")
+    make_zeros(w)
+    w.note("they are lent by `&mut`, each for a lifetime made for the call")
+    lend_zeros(w)
+    call_flatten(w)
+    call_trace_flattened(w)
+    leave(w, ENTRY_LOCALS, [a.local for a in ARRAYS])
     w.end(f"by ! (exits g₁ g₂ r v {last_lists('ws', 6)} said e₄ e₅ e₆ e₇)")
     return w.text(8)
 
@@ -432,28 +559,6 @@ def trace_samples_walk():
 # ---- `mt_trace_samples`: the answer of `trace_samples` in local 9
 
 EXPORT_LOCALS = 18
-
-
-def mt_trace_samples_passed():
-    """What `trace_samples` asks: the tokens, then the parameters."""
-    w = Walk(*[f"t{p}" for p in SLICES], *[f"O{p}" for p in SLICES])
-    w.step("nothing !")
-    w.now(0, "joined")
-    w.gather(*[f"t{p}" for p in SLICES])
-    w.now(1, "tokens")
-    w.line()
-    w.step("nothing !")
-    w.now(0, "joined")
-    for p in reversed(PARAMETERS):
-        if p in NUMBERS:
-            w.step(f"owned ! usize (Is usize) (uint-makes 𝓤 H A W w64) d{sub(p)} _ (refl, g{sub(p)})")
-            w.now(0, f"O{p}")
-        w.bring(f"O{p}", "joined")
-        w.step("fjoin !")
-        w.now(2, "joined")
-    w.bring("tokens", "joined")
-    w.end("join ! $ frame ! $ nothing ! $ done !")
-    return w.text(6)
 
 
 def mt_trace_samples_walk():
@@ -468,62 +573,19 @@ def mt_trace_samples_walk():
     copy_slice(w, SAMPLES, 1, "T.the-row")
 
     w.note("`trace_samples`")
-    w.bring(*[f"t{p}" for p in SLICES], *[f"O{p}" for p in SLICES])
-    w.step("group ! 12")
-    w.step("use1 W (raw (Rec 𝓤 H A mem run .pre to-rec)) (goes-rec g₁ g₂)")
-    w.now(12, "pre")
-    w.line()
-    w.bind(f"calls-at ! fm (Rec 𝓤 H A mem run) known-rec to-rec {w.operands(*map(w.load, [1, 2, 3, 4, *lent]))}", "v")
-    w.now(1, "post")
-    w.line()
-    w.step("use1 W (later (some (After-rec v))) (id⊢ 𝓤 _)")
-    w.step("await ! tt")
-    w.bind("pick !", "r")
-    w.split("post", "toks")
-    w.bring("post")
-    w.bind("use1 W (some (Rec-said r)) (id⊢ 𝓤 _) $ pick !", "ws")
-    w.split("post", "lasts", "answer")
-    w.bring("answer")
-    w.bind(f"heard ! (Said r {last_lists('ws', 4)})", "said")
-    w.now(1)
-    w.bring("post")
-    w.bind("heard ! (Demand3 d₀ d₁ d₂)", "demand")
-    w.now(1)
+    call(w, "Rec", "to-rec", [*tokens(SLICES), *owned(SLICES)], "goes-rec g₁ g₂", [1, 2, 3, 4, *lent], "v")
+    hear(w, "After-rec v", "r", "Rec-said r", "ws", {"said": f"Said r {last_lists('ws', 4)}", "demand": "Demand3 d₀ d₁ d₂"})
     outputs_after(w, 4)
-    w.split("toks", "tokens")
-    w.bring("toks")
-    w.line()
-    w.bind("peeks ! Tr.the-row (Is Tr.the-row) (shows 𝓤 H A Tr.the-row) r (v ∷ [])", "is")
-    w.now(1, "answer")
-    w.step("land ! (from ! (stop !)) " + w.cell(9, "(EL.lawful Tr.the-type Tr′.the-laws 𝓤 H A W tt .typed r _ is .0)"))
+    land_answer(w, 9, "tokens", "Tr", "r", "v", "is", "EL.lawful Tr.the-type Tr′.the-laws 𝓤 H A W tt")
 
     w.note("`trace_to_c`")
-    w.step("use1 W (raw (Conv 𝓤 H A mem run .pre (to-conv r v))) (goes-conv r v)")
-    w.now(1, "pre")
-    w.line()
-    w.bind(f"calls-at ! fm (Conv 𝓤 H A mem run) known-conv (to-conv r v) {w.operands(w.load(9))}", "u")
-    w.now(1, "post")
-    w.line()
-    w.step("use1 W (later (some (After-conv r u))) (id⊢ 𝓤 _)")
-    w.step("await ! tt")
-    w.bind("pick !", "c")
-    w.split("post", "toks")
-    w.bring("post")
-    w.bind("use1 W (some (Conv-said r c)) (id⊢ 𝓤 _) $ pick !", "us")
-    w.split("post", "lasts")
-    w.bring("post")
-    w.bind("heard ! (c ≡ traceAnswer (statedTrace r))", "e")
-    w.now(1)
-    w.split("toks", "none")
-    w.bring("toks")
-    w.line()
-    w.bind("peeks ! An.the-row (Is An.the-row) (shows 𝓤 H A An.the-row) c (u ∷ [])", "is′")
-    w.now(1, "answer")
-    w.step("land ! (from ! (stop !)) " + w.cell(0, "(LL.lawful An.the-type An′.the-laws 𝓤 H A W .typed c _ is′ .0)"))
+    call(w, "Conv", "(to-conv r v)", ["answer"], "goes-conv r v", [9], "u")
+    hear(w, "After-conv r u", "c", "Conv-said r c", "us", {"e": "c ≡ traceAnswer (statedTrace r)"})
+    land_answer(w, 0, "none", "An", "c", "u", "is′", "LL.lawful An.the-type An′.the-laws 𝓤 H A W")
 
     w.line()
-    w.split("tokens", *[f"t{p}" for p in SLICES])
-    leave(w, EXPORT_LOCALS, [], "answer")
+    w.split("tokens", *tokens(SLICES))
+    leave(w, EXPORT_LOCALS, [])
     w.end(f"by ! (exits g₁ g₂ r c u {last_lists('ws', 4)} said demand e e₄ e₅ e₆ e₇)")
     return w.text(8)
 
@@ -549,19 +611,33 @@ def write(path, parts):
         file.write(text)
 
 
-def entry(known, **walks):
+def entry(known, walks):
     parts = sections("entries")
     parts["WALKED"] = parts["WALKED"].replace("@KNOWN", known)
-    return parts | walks
+    return parts | {"FRAMED": entry_framed()} | walks
 
 
 def main():
-    write("records/proofs/flatten", {"TURN": flatten_turn(), "ENDS": flatten_ends(), "START": flatten_start()})
-    write("records/proofs/trace_samples", entry("known-flat known-laid", WALK=trace_samples_walk()))
-    write(
-        "exports/proofs/samples/mt_trace_samples",
-        entry("known-rec known-conv", PASSED=mt_trace_samples_passed(), WALK=mt_trace_samples_walk()),
-    )
+    flatten_walks = {
+        "FRAMED": flatten_framed(),
+        "PUT-ASKS": asked(["ν₁", "ν₂"], ["M₁", "M₂", ("i", "fits"), "rec"]),
+        "TURN": flatten_turn(),
+        "ENDS": flatten_ends(),
+        "START": flatten_start(),
+    }
+    write("records/proofs/flatten", flatten_walks)
+    trace_samples_walks = {
+        "FLAT-ASKS": asked(["t3", "ν₁", "ν₂"], ["O3", "MF", "MB"]),
+        "TRACED-ASKS": asked(["t0", "ν₃", "ν₄", *tokens(OUTPUTS)], ["O0", M, N, "SF", "SB", ("n", "gn"), *owned(OUTPUTS)]),
+        "WALK": trace_samples_walk(),
+    }
+    write("records/proofs/trace_samples", entry("known-flat known-traced", trace_samples_walks))
+    mt_trace_samples_walks = {
+        "REC-ASKS": asked(tokens(SLICES), ["O0", M, N, *owned(SLICES[1:])]),
+        "CONV-ASKS": asked([], ["answer"]),
+        "WALK": mt_trace_samples_walk(),
+    }
+    write("exports/proofs/samples/mt_trace_samples", entry("known-rec known-conv", mt_trace_samples_walks))
 
 
 if __name__ == "__main__":

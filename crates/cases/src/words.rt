@@ -97,6 +97,11 @@ pub fn same_float(x: f64, y: f64) -> bool {
     (x == y) & (1.0 / x == 1.0 / y)
 }
 
+// Whether the recorded answer is no refusal.
+pub fn is_answered(recorded: &[u64]) -> bool {
+    word(recorded, 0) == 0
+}
+
 // Whether the recorded answer is this refusal.
 pub fn is_refused(recorded: &[u64], refusal: Refusal) -> bool {
     word(recorded, 0) == wide(refusal.number())
@@ -105,5 +110,5 @@ pub fn is_refused(recorded: &[u64], refusal: Refusal) -> bool {
 // Whether the recorded answer is no refusal, and these two numbers.
 pub fn is_told(recorded: &[u64], first: usize, second: usize) -> bool {
     let numbers = (number(recorded, 1) == first) & (number(recorded, 2) == second);
-    (word(recorded, 0) == 0) & numbers
+    is_answered(recorded) & numbers
 }

@@ -1,4 +1,4 @@
--- The trace of flat samples as C sees it. Assumes nothing.
+-- A trace, of flat samples or of records, as C sees it. Assumes nothing.
 use Prim.Native.Nat.{ℕ}
 use mathlib.Core.Path.{_≡_}
 use mathlib.Core.List.{List}

@@ -3,10 +3,10 @@
 use Prim.Native.Nat.{ℕ, zero, suc, _+_, _*_, _≤_}
 use native.Mathlib.Nat.{suc-mul}
 use native.Mathlib.Omega.{arith}
-use mathlib.Core.Path.{_≡_, refl, sym, ap, _∙_}
+use mathlib.Core.Path.{_≡_, refl, _∙_}
 use mathlib.Core.List.{List, [], _∷_, _++_, map, flatten}
 use lib.Ieee.{Float}
-use lib.ListN.{length, take, drop, length-append}
+use lib.ListN.{length, take, length-append}
 use lib.Seq.{sets, sets-eq, length-sets, take-append-seam}
 use Rattle.lent.specs.Lent.{filled, zeroFloat, zeroedFrom}
 use Rattle.lent.proofs.Laws.{zeroed-filled}
@@ -18,68 +18,64 @@ use Rattle.path.proofs.Stores.{sets-append, length-coordinates, coordin
 
 -- A line is a run
 
-along-u : (g : List Float) (n v k c : ℕ) → map (λ (u : ℕ). pointAt g (pointNumber n u v)) (counting k c) ≡ run g (pointNumber n k v) (n + 1) c
-unfolding counting run
-along-u g n v k zero = refl
-along-u g n v k (suc c) =
-    let e : pointNumber n (suc k) v ≡ pointNumber n k v + (n + 1) = omega (arith, suc-mul k (n + 1)) in
-    rw (along-u g n v (suc k) c, e)
+-- points whose numbers are a step apart are a run
+module _ (g : List Float) (number : ℕ → ℕ) (step : ℕ) (next : (k : ℕ) → number (suc k) ≡ number k + step) where
+  points-run : (k c : ℕ) → map (λ (i : ℕ). pointAt g (number i)) (counting k c) ≡ run g (number k) step c
+  unfolding counting run
+  points-run k zero = refl
+  points-run k (suc c) = rw (points-run (suc k) c, next k)
 
-along-v : (g : List Float) (n u k c : ℕ) → map (λ (v : ℕ). pointAt g (pointNumber n u v)) (counting k c) ≡ run g (pointNumber n u k) 1 c
-unfolding counting run
-along-v g n u k zero = refl
-along-v g n u k (suc c) =
-    let e : pointNumber n u (suc k) ≡ pointNumber n u k + 1 = omega arith in
-    rw (along-v g n u (suc k) c, e)
+-- lines that are runs, and whose first numbers are apart from each other, are runs one after the other
+module _ (g : List Float) (line : ℕ → List Vector) (number : ℕ → ℕ) (apart step count : ℕ) (each : (k : ℕ) → line k ≡ run g (number k) step count) (next : (k : ℕ) → number (suc k) ≡ number k + apart) where
+  lines-runs : (k c : ℕ) → map line (counting k c) ≡ runs g (number k) apart step count c
+  unfolding counting runs
+  lines-runs k zero = refl
+  lines-runs k (suc c) = rw (lines-runs (suc k) c, each k, next k)
 
-lines-u : (g : List Float) (m n k c : ℕ) → map (alongU g m n) (counting k c) ≡ runs g k 1 (n + 1) (m + 1) c
-unfolding counting runs alongU
-lines-u g m n k zero = refl
-lines-u g m n k (suc c) =
-    let e : pointNumber n 0 k ≡ k = omega arith in
-    let s : suc m ≡ m + 1 = omega arith in
-    let t : suc k ≡ k + 1 = omega arith in
-    rw (lines-u g m n (suc k) c, along-u g n k 0 (suc m), e, s, t)
+along-u : (g : List Float) (m n v : ℕ) → alongU g m n v ≡ run g v (n + 1) (m + 1)
+unfolding alongU
+along-u g m n v =
+    let first : pointNumber n 0 v ≡ v = omega arith in
+    let count : suc m ≡ m + 1 = omega arith in
+    rw (points-run g (λ (u : ℕ). pointNumber n u v) (n + 1) (λ k. omega (arith, suc-mul k (n + 1))) 0 (suc m), first, count)
 
-lines-v : (g : List Float) (m n k c : ℕ) → map (alongV g m n) (counting k c) ≡ runs g (k * (n + 1)) (n + 1) 1 (n + 1) c
-unfolding counting runs alongV
-lines-v g m n k zero = refl
-lines-v g m n k (suc c) =
-    let e : pointNumber n k 0 ≡ k * (n + 1) = omega arith in
-    let s : suc n ≡ n + 1 = omega arith in
-    let t : suc k * (n + 1) ≡ k * (n + 1) + (n + 1) = suc-mul k (n + 1) in
-    rw (lines-v g m n (suc k) c, along-v g n k 0 (suc n), e, s, t)
+along-v : (g : List Float) (m n u : ℕ) → alongV g m n u ≡ run g (u * (n + 1)) 1 (n + 1)
+unfolding alongV
+along-v g m n u =
+    let first : pointNumber n u 0 ≡ u * (n + 1) = omega arith in
+    let count : suc n ≡ n + 1 = omega arith in
+    rw (points-run g (pointNumber n u) 1 (λ k. omega arith) 0 (suc n), first, count)
 
 pub grid-lines : (g : List Float) (m n : ℕ) → gridLines g m n ≡ runs g 0 1 (n + 1) (m + 1) (n + 1) ++ runs g 0 (n + 1) 1 (n + 1) (m + 1)
 unfolding gridLines
 grid-lines g m n =
-    let s : suc m ≡ m + 1 = omega arith in
-    let t : suc n ≡ n + 1 = omega arith in
+    let m-one : suc m ≡ m + 1 = omega arith in
+    let n-one : suc n ≡ n + 1 = omega arith in
     let z : 0 * (n + 1) ≡ 0 = omega arith in
-    rw (lines-u g m n 0 (suc n), lines-v g m n 0 (suc m), s, t, z)
+    let us = lines-runs g (alongU g m n) (λ (v : ℕ). v) 1 (n + 1) (m + 1) (along-u g m n) (λ k. omega arith) 0 (suc n) in
+    let vs = lines-runs g (alongV g m n) (λ (u : ℕ). u * (n + 1)) (n + 1) 1 (n + 1) (along-v g m n) (λ k. suc-mul k (n + 1)) 0 (suc m) in
+    rw (us, vs, m-one, n-one, z)
 
 -- Lists that are drawn one after the other
 
 take-sets : {A : Type 0} (vs l : List A) → length vs ≤ length l → take (length vs) (sets l 0 vs) ≡ vs
 take-sets vs l h =
     let f : 0 + length vs ≤ length l = omega arith in
-    rw (sets-eq vs l 0 f, take-append-seam vs (drop (0 + length vs) l))
+    rw (sets-eq, take-append-seam)
 
 -- two lists stored one after the other, and zero past them
-pub two-filled : {A : Type 0} (z : A) (l vs ws : List A) (j k : ℕ) → length vs ≡ j → length vs + length ws ≡ k → k ≤ length l →
+two-filled : {A : Type 0} (z : A) (l vs ws : List A) (j k : ℕ) → length vs ≡ j → length vs + length ws ≡ k → k ≤ length l →
     {p q r : List A} → p ≡ sets l 0 vs → q ≡ sets p j ws → r ≡ zeroedFrom z k q → r ≡ filled z (vs ++ ws) l
 two-filled z l vs ws j k a b h ep eq er =
     let n : length (vs ++ ws) ≡ k = length-append vs ws ∙ b in
-    let s : sets (sets l 0 vs) j ws ≡ sets l 0 (vs ++ ws) = ap (λ (i : ℕ). sets (sets l 0 vs) i ws) (sym a ∙ zero-first (length vs)) ∙ sym (sets-append l 0 vs ws) in
+    let i : 0 + length vs ≡ j = omega arith in
+    let s : sets (sets l 0 vs) j ws ≡ sets l 0 (vs ++ ws) = rw (sets-append, i) in
     let f : length (vs ++ ws) ≤ length l = omega arith in
-    rw (er, eq, ep, s, ← n, zeroed-filled z (vs ++ ws) (sets l 0 (vs ++ ws)) l (length-sets l 0 (vs ++ ws)) (take-sets (vs ++ ws) l f))
-  where
-    zero-first : (i : ℕ) → i ≡ 0 + i
-    zero-first i = omega arith
+    rw (er, eq, ep, s, ← n) (zeroed-filled z (vs ++ ws) (sets l 0 (vs ++ ws)) l (length-sets l 0 (vs ++ ws)) (take-sets (vs ++ ws) l f))
 
 -- Starts
 
-pub starts-append : (at : ℕ) (xs ys : List (List Vector)) → startsFrom at (xs ++ ys) ≡ startsFrom at xs ++ startsFrom (at + length (flatten xs)) ys
+starts-append : (at : ℕ) (xs ys : List (List Vector)) → startsFrom at (xs ++ ys) ≡ startsFrom at xs ++ startsFrom (at + length (flatten xs)) ys
 unfolding startsFrom flatten
 starts-append at [] ys = let e : at + 0 ≡ at = omega arith in rw e
 starts-append at (x ∷ xs) ys =
@@ -94,7 +90,7 @@ starts-runs g at first apart step count (suc l) = rw (length-run g first step co
 pub grid-starts : (g : List Float) (m n : ℕ) → startsFrom 0 (gridLines g m n) ≡ spaced 0 (m + 1) (n + 1) ++ spaced ((m + 1) * (n + 1)) (n + 1) (m + 1)
 grid-starts g m n =
     let e : 0 + length (flatten (runs g 0 1 (n + 1) (m + 1) (n + 1))) ≡ (m + 1) * (n + 1) = omega (arith, length-flatten-runs g 0 1 (n + 1) (m + 1) (n + 1)) in
-    rw (grid-lines g m n, starts-append 0 (runs g 0 1 (n + 1) (m + 1) (n + 1)) (runs g 0 (n + 1) 1 (n + 1) (m + 1)), starts-runs g 0 0 1 (n + 1) (m + 1) (n + 1), e, starts-runs g ((m + 1) * (n + 1)) 0 (n + 1) 1 (n + 1) (m + 1))
+    rw (grid-lines, starts-append, e) (simp starts-runs)
 
 -- What the two drawing functions leave
 
@@ -102,18 +98,18 @@ pub starts-drawn : (m n : ℕ) (l : List ℕ) → m + n + 2 ≤ length l →
     {p q r : List ℕ} → p ≡ sets l 0 (spaced 0 (m + 1) (n + 1)) → q ≡ sets p (n + 1) (spaced ((m + 1) * (n + 1)) (n + 1) (m + 1)) → r ≡ zeroedFrom 0 (m + 1 + (n + 1)) q →
     r ≡ filled 0 (spaced 0 (m + 1) (n + 1) ++ spaced ((m + 1) * (n + 1)) (n + 1) (m + 1)) l
 starts-drawn m n l h =
-    two-filled 0 l (spaced 0 (m + 1) (n + 1)) (spaced ((m + 1) * (n + 1)) (n + 1) (m + 1)) (n + 1) (m + 1 + (n + 1)) (length-spaced 0 (m + 1) (n + 1))
-    (omega (arith, length-spaced 0 (m + 1) (n + 1), length-spaced ((m + 1) * (n + 1)) (n + 1) (m + 1))) (omega arith)
+    let us : List ℕ = spaced 0 (m + 1) (n + 1) in
+    let vs : List ℕ = spaced ((m + 1) * (n + 1)) (n + 1) (m + 1) in
+    two-filled 0 l us vs (n + 1) (m + 1 + (n + 1)) (length-spaced 0 (m + 1) (n + 1)) (simp length-spaced (omega arith)) (omega arith)
 
 pub points-drawn : (g : List Float) (m n : ℕ) (l : List Float) → 6 * ((m + 1) * (n + 1)) ≤ length l →
     {p q r : List Float} → p ≡ sets l 0 (coordinates (flatten (runs g 0 1 (n + 1) (m + 1) (n + 1)))) →
     q ≡ sets p (3 * ((m + 1) * (n + 1))) (coordinates (flatten (runs g 0 (n + 1) 1 (n + 1) (m + 1)))) →
     r ≡ zeroedFrom zeroFloat (2 * (3 * ((m + 1) * (n + 1)))) q → r ≡ filled zeroFloat (coordinates (flatten (gridLines g m n))) l
 points-drawn g m n l h ep eq er =
-    let us : List (List Vector) = runs g 0 1 (n + 1) (m + 1) (n + 1) in
-    let vs : List (List Vector) = runs g 0 (n + 1) 1 (n + 1) (m + 1) in
-    let a : length (coordinates (flatten us)) ≡ 3 * ((m + 1) * (n + 1)) = omega (arith, length-coordinates (flatten us), length-flatten-runs g 0 1 (n + 1) (m + 1) (n + 1)) in
-    let b : length (coordinates (flatten vs)) ≡ 3 * ((m + 1) * (n + 1)) = omega (arith, length-coordinates (flatten vs), length-flatten-runs g 0 (n + 1) 1 (n + 1) (m + 1)) in
-    let e : coordinates (flatten (gridLines g m n)) ≡ coordinates (flatten us) ++ coordinates (flatten vs) =
-    ap (λ (ls : List (List Vector)). coordinates (flatten ls)) (grid-lines g m n) ∙ ap coordinates (flatten-append us vs) ∙ coordinates-append (flatten us) (flatten vs) in
-    rw e (two-filled zeroFloat l (coordinates (flatten us)) (coordinates (flatten vs)) (3 * ((m + 1) * (n + 1))) (2 * (3 * ((m + 1) * (n + 1)))) a (omega arith) (omega arith) ep eq er)
+    let us : List Float = coordinates (flatten (runs g 0 1 (n + 1) (m + 1) (n + 1))) in
+    let vs : List Float = coordinates (flatten (runs g 0 (n + 1) 1 (n + 1) (m + 1))) in
+    let half : ℕ = 3 * ((m + 1) * (n + 1)) in
+    let a : length us ≡ half = simp (length-coordinates, length-flatten-runs) (omega arith) in
+    let b : length vs ≡ half = simp (length-coordinates, length-flatten-runs) (omega arith) in
+    rw (grid-lines, flatten-append, coordinates-append) (two-filled zeroFloat l us vs half (2 * half) a (omega arith) (omega arith) ep eq er)

@@ -2,7 +2,7 @@
 -- end the count with it, so the part between them is the line. First for any lines, then for those of a grid.
 use Prim.Native.Nat.{ℕ, zero, suc, _+_, _-_, _*_, _≤_, _<_}
 use native.Mathlib.Omega.{arith}
-use mathlib.Core.Path.{_≡_, refl, sym, ap, _∙_}
+use mathlib.Core.Path.{_≡_, refl, ap, _∙_}
 use mathlib.Core.Bool.{Bool, true, false}
 use mathlib.Core.List.{List, [], _∷_, _++_, map, flatten, append-assoc, append-nil}
 use lib.Dec.{ltb}
@@ -15,7 +15,6 @@ use Rattle.lent.specs.Lent.{zeroFloat, filled}
 use Rattle.vector.specs.declared.Vector.{Vector}
 use Rattle.path.specs.GridPaths.{counting, alongU, alongV, gridLines, coordinates, startsFrom, pointCount, lineCount, pathsCheck, gridPaths}
 use Rattle.path.specs.Line.{lineStart, lineEnd, partOf, lineAt}
-use Rattle.path.specs.Runs.{runs}
 use Rattle.path.proofs.Stores.{length-coordinates, coordinates-append, flatten-append, length-flatten-runs}
 use Rattle.path.proofs.Lines.{grid-lines}
 use Rattle.path.proofs.Checks.{passed-room}
@@ -27,16 +26,14 @@ before ls k = length (flatten (take k ls))
 
 before-next : (ls : List (List Vector)) (k : ℕ) → k < length ls → before ls (suc k) ≡ before ls k + length (getD ls k [])
 unfolding flatten
-before-next ls k h =
-    rw (take-suc ls k [] h, flatten-append (take k ls) (getD ls k [] ∷ []), append-nil (getD ls k [])) (length-append (flatten (take k ls)) (getD ls k []))
+before-next ls k h = rw (take-suc ls k [], flatten-append, append-nil, length-append)
 
 before-all : (ls : List (List Vector)) (k : ℕ) → before ls k ≤ length (flatten ls)
 before-all ls k =
-    let e : length (flatten ls) ≡ length (flatten (take k ls)) + length (flatten (drop k ls)) =
-    ap (λ (x : List (List Vector)). length (flatten x)) (sym (take-append-drop k ls)) ∙ ap length (flatten-append (take k ls) (drop k ls)) ∙ length-append (flatten (take k ls)) (flatten (drop k ls)) in
-    omega arith
+    let all : length (flatten (take k ls ++ drop k ls)) ≡ length (flatten ls) = rw take-append-drop in
+    omega (arith, simp (flatten-append, length-append) at all)
 
-pub length-starts : (at : ℕ) (ls : List (List Vector)) → length (startsFrom at ls) ≡ length ls
+length-starts : (at : ℕ) (ls : List (List Vector)) → length (startsFrom at ls) ≡ length ls
 unfolding startsFrom
 length-starts at [] = refl
 length-starts at (l ∷ ls) = ap suc (length-starts (at + length l) ls)
@@ -53,15 +50,14 @@ part-is-line : (ls : List (List Vector)) (k : ℕ) (zs : List Float) → k < len
 unfolding flatten
 part-is-line [] k zs h = absurd (omega arith)
 part-is-line (l ∷ ls) zero zs h =
-    rw (coordinates-append l (flatten ls), append-assoc (coordinates l) (coordinates (flatten ls)) zs) (take-at (coordinates l) (coordinates (flatten ls) ++ zs) (3 * length l) (length-coordinates l))
+    rw (coordinates-append, append-assoc) (take-at (coordinates l) (coordinates (flatten ls) ++ zs) (3 * length l) (length-coordinates l))
 part-is-line (l ∷ ls) (suc k) zs h =
     let e : 3 * length (l ++ flatten (take k ls)) ≡ length (coordinates l) + 3 * before ls k = omega (arith, length-append l (flatten (take k ls)), length-coordinates l) in
-    rw (coordinates-append l (flatten ls), append-assoc (coordinates l) (coordinates (flatten ls)) zs, e, drop-append-add (coordinates l) (coordinates (flatten ls) ++ zs) (3 * before ls k))
-    (part-is-line ls k zs (omega arith))
+    rw (coordinates-append, append-assoc, e, drop-append-add) (part-is-line ls k zs (omega arith))
 
 -- Any lines, drawn one after the other into lists that have room for them
 
-module _ (ls : List (List Vector)) (points : List Float) (starts : List ℕ) (roomy : 3 * length (flatten ls) ≤ length points) (room : length ls ≤ length starts) where
+module _ (ls : List (List Vector)) (points : List Float) (starts : List ℕ) (points-room : 3 * length (flatten ls) ≤ length points) (starts-room : length ls ≤ length starts) where
   drawnPoints : List Float
   drawnPoints = filled zeroFloat (coordinates (flatten ls)) points
 
@@ -72,8 +68,8 @@ module _ (ls : List (List Vector)) (points : List Float) (starts : List ℕ) (ro
   unfolding drawnStarts
   start-at k h =
       let l : k < length (startsFrom 0 ls) = omega (arith, length-starts 0 ls) in
-      let s : 0 + before ls k ≡ before ls k = omega arith in
-      List·getD-append (startsFrom 0 ls) (replicate (length starts - length (startsFrom 0 ls)) 0) 0 k l ∙ start-is 0 ls k h ∙ s
+      let z : 0 + before ls k ≡ before ls k = omega arith in
+      rw (List·getD-append, start-is, z)
 
   end-at : (k : ℕ) → k < length ls → lineEnd drawnStarts (length (flatten ls)) (length ls) k ≡ before ls k + length (getD ls k [])
   unfolding lineEnd
@@ -86,7 +82,7 @@ module _ (ls : List (List Vector)) (points : List Float) (starts : List ℕ) (ro
       go true e = rw (e, start-at (k + 1) (ltb-true _ _ e), one) (before-next ls k h)
       go false e =
           let all : take (suc k) ls ≡ ls = take-all (suc k) ls (omega (arith, ltb-false (k + 1) (length ls) e)) in
-          rw e (ap (λ (x : List (List Vector)). length (flatten x)) (sym all) ∙ before-next ls k h)
+          rw e (rw all at (before-next ls k h))
 
   there : (k : ℕ) → k < length ls → There drawnPoints drawnStarts (length (flatten ls)) (length ls) k
   unfolding drawnPoints drawnStarts
@@ -126,33 +122,26 @@ length-counting f a (suc c) = ap suc (length-counting f (suc a) c)
 
 pub line-count : (g : List Float) (m n : ℕ) → length (gridLines g m n) ≡ lineCount m n
 unfolding gridLines
-line-count g m n =
-    length-append (map (alongU g m n) (counting 0 (suc n))) (map (alongV g m n) (counting 0 (suc m)))
-    ∙ omega (arith, length-counting (alongU g m n) 0 (suc n), length-counting (alongV g m n) 0 (suc m))
+line-count g m n = simp (length-append, length-counting) (omega arith)
 
 pub point-count : (g : List Float) (m n : ℕ) → length (flatten (gridLines g m n)) ≡ pointCount m n
-point-count g m n =
-    let us : List (List Vector) = runs g 0 1 (n + 1) (m + 1) (n + 1) in
-    let vs : List (List Vector) = runs g 0 (n + 1) 1 (n + 1) (m + 1) in
-    ap (λ (ls : List (List Vector)). length (flatten ls)) (grid-lines g m n) ∙ ap length (flatten-append us vs) ∙ length-append (flatten us) (flatten vs)
-    ∙ omega (arith, length-flatten-runs g 0 1 (n + 1) (m + 1) (n + 1), length-flatten-runs g 0 (n + 1) 1 (n + 1) (m + 1))
+point-count g m n = simp (grid-lines, flatten-append, length-append, length-flatten-runs) (omega arith)
 
 line-u : (g : List Float) (m n v : ℕ) → v ≤ n → getD (gridLines g m n) v [] ≡ alongU g m n v
 unfolding gridLines
 line-u g m n v h =
-    let l : v < length (map (alongU g m n) (counting 0 (suc n))) = omega (arith, length-counting (alongU g m n) 0 (suc n)) in
+    let below : v < suc n = omega arith in
+    let first : v < length (map (alongU g m n) (counting 0 (suc n))) = simp length-counting below in
     let z : 0 + v ≡ v = omega arith in
-    List·getD-append (map (alongU g m n) (counting 0 (suc n))) (map (alongV g m n) (counting 0 (suc m))) [] v l
-    ∙ getD-counting (alongU g m n) [] 0 (suc n) v (omega arith) ∙ ap (alongU g m n) z
+    rw (List·getD-append, getD-counting, z)
 
 line-v : (g : List Float) (m n u : ℕ) → u ≤ m → getD (gridLines g m n) (n + 1 + u) [] ≡ alongV g m n u
 unfolding gridLines
 line-v g m n u h =
-    let us : List (List Vector) = map (alongU g m n) (counting 0 (suc n)) in
-    let e : n + 1 + u ≡ length us + u = omega (arith, length-counting (alongU g m n) 0 (suc n)) in
+    let below : u < suc m = omega arith in
+    let e : n + 1 + u ≡ length (map (alongU g m n) (counting 0 (suc n))) + u = omega (arith, length-counting (alongU g m n) 0 (suc n)) in
     let z : 0 + u ≡ u = omega arith in
-    ap (λ (k : ℕ). getD (us ++ map (alongV g m n) (counting 0 (suc m))) k []) e ∙ getD-append-add us (map (alongV g m n) (counting 0 (suc m))) u []
-    ∙ getD-counting (alongV g m n) [] 0 (suc m) u (omega arith) ∙ ap (alongV g m n) z
+    rw (e, getD-append-add, getD-counting, z)
 
 -- line number k of what a call leaves in its lists
 abbrev pub lineOf : List Float → ℕ → ℕ → List Float → List ℕ → ℕ → List Float

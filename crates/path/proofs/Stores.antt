@@ -2,7 +2,7 @@
 use Prim.Native.Nat.{ℕ, zero, suc, _+_, _-_, _*_, _≤_, _<_}
 use native.Mathlib.Nat.{add-zero, suc-mul, add-mul}
 use native.Mathlib.Omega.{arith}
-use native.Mathlib.Numerals.{add-one}
+use native.Mathlib.Numerals.{add-one, sub-one}
 use mathlib.Core.Path.{_≡_, refl, sym, ap, _∙_}
 use mathlib.Core.List.{List, [], _∷_, _++_, flatten, append-assoc}
 use lib.Ieee.{Float}
@@ -13,15 +13,12 @@ use Rattle.grid.specs.Grid.{pointAt}
 use Rattle.path.specs.GridPaths.{coordinates}
 use Rattle.path.specs.Runs.{run, runs, spaced}
 
--- j turns fewer than k, of a each
+-- k turns of a each are j turns and those that are left
 abbrev pub Fewer : ℕ → ℕ → ℕ → Type 0
 Fewer j k a = k * a ≡ (k - j) * a + j * a
 
 pub fewer : (j k a : ℕ) → j ≤ k → Fewer j k a
-fewer j k a h = ap (λ (i : ℕ). i * a) split ∙ add-mul (k - j) j a
-  where
-    split : k ≡ k - j + j
-    split = omega arith
+fewer j k a h = let split : k - j + j ≡ k = omega arith in rw (← add-mul (k - j) j a, split)
 
 -- stores of two lists, one after the other
 pub sets-append : {A : Type 0} (l : List A) (i : ℕ) (vs ws : List A) → sets l i (vs ++ ws) ≡ sets (sets l i vs) (i + length vs) ws
@@ -64,20 +61,21 @@ length-spaced first step (suc c) = ap suc (length-spaced (first + step) step c)
 
 -- a turn of `draw_run`
 module _ (l : List Float) (at : ℕ) (g : List Float) (number step : ℕ) where
-  run-turn′ : (c : ℕ) → sets l at (coordinates (run g number step (suc c))) ≡ sets (sets l at (coordinates (pointAt g number ∷ []))) (at + 3) (coordinates (run g (number + step) step c))
+  -- the first point, and then those that are left
+  run-first : (c : ℕ) → sets l at (coordinates (run g number step (suc c))) ≡ sets (sets l at (coordinates (pointAt g number ∷ []))) (at + 3) (coordinates (run g (number + step) step c))
   unfolding run coordinates
-  run-turn′ c = let e : at + 3 ≡ suc (suc (suc at)) = omega arith in rw e
+  run-first c = let e : at + 3 ≡ suc (suc (suc at)) = omega arith in rw e
 
   pub run-turn : (left : ℕ) {p : Vector} {q : List Float} → 0 < left → p ≡ pointAt g number → q ≡ sets l at (coordinates (p ∷ [])) →
       sets l at (coordinates (run g number step left)) ≡ sets q (at + 3) (coordinates (run g (number + step) step (left - 1)))
-  run-turn left h e f =
-      let k : left ≡ suc (left - 1) = omega arith in
-      ap (λ (n : ℕ). sets l at (coordinates (run g number step n))) k ∙ run-turn′ (left - 1) ∙ rw (f, e)
+  run-turn zero h e f = absurd (omega arith)
+  run-turn (suc c) h e f = rw (sub-one, f, e) (run-first c)
 
   pub run-done : (left : ℕ) → left ≤ 0 → sets l at (coordinates (run g number step left)) ≡ l
   unfolding run coordinates
   run-done left h = let e : left ≡ 0 = omega arith in rw e
 
+-- k runs, and the l after them
 runs-add : (g : List Float) (apart step count k l first : ℕ) → runs g first apart step count (k + l) ≡ runs g first apart step count k ++ runs g (first + k * apart) apart step count l
 unfolding runs
 runs-add g apart step count zero l first =
@@ -91,32 +89,28 @@ runs-add g apart step count (suc k) l first =
 
 -- a turn of `draw_runs`
 module _ (l : List Float) (at : ℕ) (g : List Float) (first apart step count : ℕ) where
-  runs-turn′ : (c : ℕ) →
+  -- the first run, and then those that are left
+  runs-first : (c : ℕ) →
       sets l at (coordinates (flatten (runs g first apart step count (suc c))))
       ≡ sets (sets l at (coordinates (run g first step count))) (at + 3 * count) (coordinates (flatten (runs g (first + apart) apart step count c)))
   unfolding runs flatten
-  runs-turn′ c =
-      let e : length (coordinates (run g first step count)) ≡ 3 * count = length-coordinates (run g first step count) ∙ ap (λ (k : ℕ). 3 * k) (length-run g first step count) in
-      rw (coordinates-append, sets-append, e)
+  runs-first c = rw (coordinates-append, sets-append, length-coordinates, length-run)
 
   pub runs-turn : (left : ℕ) → 0 < left →
       sets l at (coordinates (flatten (runs g first apart step count left)))
       ≡ sets (sets l at (coordinates (run g first step count))) (at + 3 * count) (coordinates (flatten (runs g (first + apart) apart step count (left - 1))))
-  runs-turn left h =
-      let k : left ≡ suc (left - 1) = omega arith in
-      ap (λ (n : ℕ). sets l at (coordinates (flatten (runs g first apart step count n)))) k ∙ runs-turn′ (left - 1)
+  runs-turn zero h = absurd (omega arith)
+  runs-turn (suc c) h = rw sub-one (runs-first c)
 
   -- four runs and then those that are left
   pub runs-four : (left : ℕ) → 4 ≤ left →
       sets l at (coordinates (flatten (runs g first apart step count left)))
       ≡ sets (sets l at (coordinates (flatten (runs g first apart step count 4)))) (at + 4 * (3 * count)) (coordinates (flatten (runs g (first + 4 * apart) apart step count (left - 4))))
   runs-four left h =
-      let four : List (List Vector) = runs g first apart step count 4 in
-      let rest : List (List Vector) = runs g (first + 4 * apart) apart step count (left - 4) in
-      let k : left ≡ 4 + (left - 4) = omega arith in
-      let w : length (coordinates (flatten four)) ≡ 4 * (3 * count) = omega (arith, length-coordinates (flatten four), length-flatten-runs g first apart step count 4) in
-      ap (λ (n : ℕ). sets l at (coordinates (flatten (runs g first apart step count n)))) k
-      ∙ rw (runs-add g apart step count 4 (left - 4) first, flatten-append four rest, coordinates-append (flatten four) (flatten rest), sets-append l at (coordinates (flatten four)) (coordinates (flatten rest)), w)
+      let four : List Vector = flatten (runs g first apart step count 4) in
+      let width : length (coordinates four) ≡ 4 * (3 * count) = omega (arith, length-coordinates four, length-flatten-runs g first apart step count 4) in
+      let all : 4 + (left - 4) ≡ left = omega arith in
+      rw (← width, ← sets-append, ← coordinates-append, ← flatten-append, ← runs-add, all)
 
   pub runs-done : (left : ℕ) → left ≤ 0 → sets l at (coordinates (flatten (runs g first apart step count left))) ≡ l
   unfolding runs flatten coordinates
@@ -126,9 +120,8 @@ module _ (l : List Float) (at : ℕ) (g : List Float) (first apart step count : 
 module _ (l : List ℕ) (at number step : ℕ) where
   pub spaced-turn : (left : ℕ) → 0 < left → sets l at (spaced number step left) ≡ sets (set l at number) (at + 1) (spaced (number + step) step (left - 1))
   unfolding spaced
-  spaced-turn left h =
-      let k : left ≡ suc (left - 1) = omega arith in
-      ap (λ (n : ℕ). sets l at (spaced number step n)) k ∙ rw add-one
+  spaced-turn zero h = absurd (omega arith)
+  spaced-turn (suc c) h = rw (add-one, sub-one)
 
   pub spaced-done : (left : ℕ) → left ≤ 0 → sets l at (spaced number step left) ≡ l
   unfolding spaced
@@ -163,23 +156,22 @@ module _ (g : List Float) (apart step width : ℕ) where
       rw (sets-sets l i at vs (coordinates (pointAt g number ∷ [])) h) (heads-sets k (sets l at (coordinates (pointAt g number ∷ []))) (at + width) (number + apart) i vs (omega arith))
 
   -- one turn of them all: their first points, and then the runs that are left
-  lanes-turn′ : (c k : ℕ) (l : List Float) (at number : ℕ) → 3 * suc c ≤ width → lanes (suc c) k l at number ≡ lanes c k (heads k l at number) (at + 3) (number + step)
+  lanes-first : (c k : ℕ) (l : List Float) (at number : ℕ) → 3 * suc c ≤ width → lanes (suc c) k l at number ≡ lanes c k (heads k l at number) (at + 3) (number + step)
   unfolding lanes heads
-  lanes-turn′ c zero l at number h = refl
-  lanes-turn′ c (suc k) l at number h =
+  lanes-first c zero l at number h = refl
+  lanes-first c (suc k) l at number h =
       let p : List Float = sets l at (coordinates (pointAt g number ∷ [])) in
       let rest : List Float = coordinates (run g (number + step) step c) in
       let w : at + 3 + length rest ≤ at + width = omega (arith, length-coordinates (run g (number + step) step c), length-run g (number + step) step c) in
       let a : at + width + 3 ≡ at + 3 + width = omega arith in
       let b : number + apart + step ≡ number + step + apart = omega arith in
-      ap (λ (q : List Float). lanes (suc c) k q (at + width) (number + apart)) (run-turn′ l at g number step c)
-      ∙ lanes-turn′ c k (sets p (at + 3) rest) (at + width) (number + apart) h
+      ap (λ (q : List Float). lanes (suc c) k q (at + width) (number + apart)) (run-first l at g number step c)
+      ∙ lanes-first c k (sets p (at + 3) rest) (at + width) (number + apart) h
       ∙ rw (heads-sets k p (at + width) (number + apart) (at + 3) rest w, a, b)
 
   lanes-turn : (left k : ℕ) (l : List Float) (at number : ℕ) → 0 < left → 3 * left ≤ width → lanes left k l at number ≡ lanes (left - 1) k (heads k l at number) (at + 3) (number + step)
-  lanes-turn left k l at number h w =
-      let e : left ≡ suc (left - 1) = omega arith in
-      ap (λ (c : ℕ). lanes c k l at number) e ∙ lanes-turn′ (left - 1) k l at number (omega arith)
+  lanes-turn zero k l at number h w = absurd (omega arith)
+  lanes-turn (suc c) k l at number h w = rw sub-one (lanes-first c k l at number w)
 
   pub lanes-done : (left k : ℕ) (l : List Float) (at number : ℕ) → left ≤ 0 → lanes left k l at number ≡ l
   unfolding lanes run coordinates
@@ -191,7 +183,7 @@ module _ (g : List Float) (apart step width : ℕ) where
   unfolding lanes
   lanes-runs count zero l at number e = sym (runs-done l at g number apart step count 0 (omega arith))
   lanes-runs count (suc k) l at number e =
-      lanes-runs count k (sets l at (coordinates (run g number step count))) (at + width) (number + apart) e ∙ sym (rw e at (runs-turn′ l at g number apart step count k))
+      lanes-runs count k (sets l at (coordinates (run g number step count))) (at + width) (number + apart) e ∙ sym (rw e at (runs-first l at g number apart step count k))
 
   -- a turn of `draw_four`
   pub four-turn : (left : ℕ) (l : List Float) (at number : ℕ) → 0 < left → 3 * left ≤ width → {p q r s : List Float} {a b c d : Vector} →

@@ -8,7 +8,7 @@ use lib.Dec.{leb, ltb}
 use lib.Ieee.{Float}
 use lib.ListN.{length}
 use borrow.Author.Tests.{ltb-true, leb-true, lt-ltb, le-leb}
-use Rattle.refusal.specs.Refusals.{Answer, ok, refused}
+use Rattle.refusal.specs.Refusals.{ok, refused}
 use Rattle.grid.proofs.Laws.{and-both}
 use Rattle.path.specs.declared.LineAnswer.{LineAnswer}
 use Rattle.path.specs.declared.LineAnswer.the-variants.{Span}
@@ -22,8 +22,8 @@ pub record There (points : List Float) (starts : List ℕ) (pointCount lineCount
   pub within : lineEnd starts pointCount lineCount index ≤ pointCount
 
 module _ (points : List Float) (starts : List ℕ) (pointCount lineCount index : ℕ) where
-  abbrev spanned : Answer Ends
-  spanned = ok (record { start = lineStart starts index; end = lineEnd starts pointCount lineCount index })
+  abbrev ends : Ends
+  ends = record { start = lineStart starts index; end = lineEnd starts pointCount lineCount index }
 
   is-there : There points starts pointCount lineCount index → isThere points starts pointCount lineCount index ≡ true
   unfolding isThere
@@ -43,7 +43,7 @@ module _ (points : List Float) (starts : List ℕ) (pointCount lineCount index :
       record { below = ltb-true _ _ (a .0); points-fit = leb-true _ _ (f .0); starts-fit = leb-true _ _ (f .1); ordered = leb-true _ _ (o .0); within = leb-true _ _ (o .1) }
 
   -- the span of a line that is there, and 8 for one that is not
-  pub span-there : There points starts pointCount lineCount index → lineSpan points starts pointCount lineCount index ≡ ok (record { start = lineStart starts index; end = lineEnd starts pointCount lineCount index })
+  pub span-there : There points starts pointCount lineCount index → lineSpan points starts pointCount lineCount index ≡ ok ends
   unfolding lineSpan
   span-there t = rw (is-there t)
 
@@ -51,7 +51,7 @@ module _ (points : List Float) (starts : List ℕ) (pointCount lineCount index :
   unfolding lineSpan
   span-not f = go (isThere points starts pointCount lineCount index) refl
     where
-      go : (t : Bool) → isThere points starts pointCount lineCount index ≡ t → cond t spanned (refused 8) ≡ refused 8
+      go : (t : Bool) → isThere points starts pointCount lineCount index ≡ t → cond t (ok ends) (refused 8) ≡ refused 8
       go true e = absurd (f (there e))
       go false e = refl
 
@@ -60,29 +60,21 @@ module _ (points : List Float) (starts : List ℕ) (pointCount lineCount index :
   unfolding lineSpan
   span-ok {e} h = go (isThere points starts pointCount lineCount index) refl h
     where
-      go : (t : Bool) → isThere points starts pointCount lineCount index ≡ t → ok e ≡ cond t spanned (refused 8) → There points starts pointCount lineCount index
+      go : (t : Bool) → isThere points starts pointCount lineCount index ≡ t → ok e ≡ cond t (ok ends) (refused 8) → There points starts pointCount lineCount index
       go true q h = there q
       go false q h = let z : _≡_ {A = ℕ} 0 1 = cc in absurd (omega arith)
 
   -- where a line lies whose ends were answered
   pub span-bounds : {r : LineAnswer} {s e : ℕ} → r ≡ Span s e → statedLine r ≡ lineSpan points starts pointCount lineCount index → (s ≤ e) × (3 * e ≤ length points)
   span-bounds {r} {s} {e} i h =
-      let ends : ok (record { start = s; end = e }) ≡ lineSpan points starts pointCount lineCount index = ap statedLine (sym i) ∙ h in
-      let t = span-ok ends in
-      let same = ends ∙ span-there t in
-      let a : s ≡ lineStart starts index = ap startOf same in
-      let b : e ≡ lineEnd starts pointCount lineCount index = ap endOf same in
+      let answered : ok (record { start = s; end = e }) ≡ lineSpan points starts pointCount lineCount index = ap statedLine (sym i) ∙ h in
+      let t = span-ok answered in
+      let same : record { start = s; end = e } ≡ ends = cc (span-there t) in
+      let a : s ≡ lineStart starts index = ap (λ (x : Ends). x .start) same in
+      let b : e ≡ lineEnd starts pointCount lineCount index = ap (λ (x : Ends). x .end) same in
       (omega arith, omega arith)
-    where
-      startOf : Answer Ends → ℕ
-      startOf (ok x) = x .start
-      startOf (refused k) = 0
-
-      endOf : Answer Ends → ℕ
-      endOf (ok x) = x .end
-      endOf (refused k) = 0
 
   -- the part that an answer gives
-  pub part-is : {r : LineAnswer} {q : LineAnswer} → r ≡ q → statedLine r ≡ lineSpan points starts pointCount lineCount index → partOf points (statedLine q) ≡ lineAt points starts pointCount lineCount index
+  pub part-is : {r q : LineAnswer} → r ≡ q → statedLine r ≡ lineSpan points starts pointCount lineCount index → partOf points (statedLine q) ≡ lineAt points starts pointCount lineCount index
   unfolding lineAt
-  part-is i h = ap (λ (x : LineAnswer). partOf points (statedLine x)) (sym i) ∙ ap (partOf points) h
+  part-is i h = rw (← i, h)

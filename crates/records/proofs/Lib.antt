@@ -1,5 +1,5 @@
 -- What the proofs of this crate share.
-pub mod Laid
+pub mod Flattening
 pub mod Refused
 pub mod Arrays
 pub mod Zeros

@@ -1,6 +1,7 @@
 // Plans, angles and sample points.
 use cases::words::field;
 use cases::words::float;
+use cases::words::is_answered;
 use cases::words::is_refused;
 use cases::words::is_told;
 use cases::words::number;
@@ -48,7 +49,7 @@ pub fn angle(case: &[u64]) -> bool {
     let n = number(numbers, 7);
     match texture::sample::angle(texture, m, n, number(numbers, 8), number(numbers, 9)) {
         AngleAnswer::Angle(angle) => {
-            (word(recorded, 0) == 0) & same_float(angle, float(word(recorded, 1)))
+            is_answered(recorded) & same_float(angle, float(word(recorded, 1)))
         }
         AngleAnswer::Refused(refusal) => is_refused(recorded, refusal),
     }
@@ -68,7 +69,7 @@ pub fn sample_point(case: &[u64]) -> bool {
         SampleAnswer::Point(point) => {
             let u = same_float(point.u, float(word(recorded, 1)));
             let v = same_float(point.v, float(word(recorded, 2)));
-            (word(recorded, 0) == 0) & u & v
+            is_answered(recorded) & u & v
         }
         SampleAnswer::Refused(refusal) => is_refused(recorded, refusal),
     }

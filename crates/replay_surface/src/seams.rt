@@ -2,6 +2,7 @@
 use cases::lists::read_floats;
 use cases::rooms;
 use cases::words::field;
+use cases::words::is_answered;
 use cases::words::is_refused;
 use cases::words::number;
 use cases::words::word;
@@ -22,7 +23,7 @@ fn mapping(numbers: &[u64]) -> CyclicMapping {
 
 fn same_index(answer: MappedIndex, recorded: &[u64]) -> bool {
     match answer {
-        MappedIndex::Index(index) => (word(recorded, 0) == 0) & (number(recorded, 1) == index),
+        MappedIndex::Index(index) => is_answered(recorded) & (number(recorded, 1) == index),
         MappedIndex::Refused(refusal) => is_refused(recorded, refusal),
     }
 }
@@ -39,9 +40,10 @@ pub fn map_index_inv(case: &[u64]) -> bool {
     same_index(answer, field(case, 1))
 }
 
-// Direction (0 where none was found, 1 forward, 2 reverse), offset, steps, comparisons.
-fn same_numbers(recorded: &[u64], kind: u64, offset: usize, steps: usize, made: u64) -> bool {
-    let found = (word(recorded, 0) == kind) & (word(recorded, 3) == made);
+// Whether a recorded seam has this direction (0 where none was found, 1 forward, 2 reverse), offset, steps and count of
+// comparisons.
+fn is_seam(recorded: &[u64], direction: u64, offset: usize, steps: usize, made: u64) -> bool {
+    let found = (word(recorded, 0) == direction) & (word(recorded, 3) == made);
     found & (number(recorded, 1) == offset) & (number(recorded, 2) == steps)
 }
 
@@ -50,13 +52,13 @@ pub fn same_seam(recorded: &[u64], seam: Seam, comparisons: u64) -> bool {
     match seam {
         Seam::Joined(mapping) => match mapping {
             CyclicMapping::Forward(offset, steps) => {
-                same_numbers(recorded, 1, offset, steps, comparisons)
+                is_seam(recorded, 1, offset, steps, comparisons)
             }
             CyclicMapping::Reverse(offset, steps) => {
-                same_numbers(recorded, 2, offset, steps, comparisons)
+                is_seam(recorded, 2, offset, steps, comparisons)
             }
         },
-        Seam::Unjoined => same_numbers(recorded, 0, 0, 0, comparisons),
+        Seam::Unjoined => is_seam(recorded, 0, 0, 0, comparisons),
     }
 }
 
@@ -66,10 +68,10 @@ fn compare_rows(case: &[u64], a: &mut [f64], b: &mut [f64]) -> bool {
     let seam = field(case, 4);
     let told = match CyclicMapping::new_vector(a, b) {
         SeamAnswer::Found(mapping, made) => {
-            (word(answer, 0) == 0) & same_seam(seam, Seam::Joined(mapping), made)
+            is_answered(answer) & same_seam(seam, Seam::Joined(mapping), made)
         }
         SeamAnswer::NotFound(made) => {
-            (word(answer, 0) == 0) & same_seam(seam, Seam::Unjoined, made)
+            is_answered(answer) & same_seam(seam, Seam::Unjoined, made)
         }
         SeamAnswer::Refused(refusal) => is_refused(answer, refusal),
     };

@@ -3,52 +3,38 @@ use mathlib.Core.Path.{_≡_, sym, _∙_}
 use native.Mathlib.Omega.{arith}
 use borrow.Author.Needs.{needs}
 use Rattle.refusal.specs.declared.Check.the-variants.{Passed}
+use Rattle.grid.proofs.Laws.{Shaped}
 use Rattle.path.specs.GridPaths.{pathsCheck}
 use Rattle.path.proofs.Checks.{checked, refused, drawn, passed-shape, passed-room}
 use Rattle.path.proofs.grid_paths.Statement.{statement}
 use Rattle.path.proofs.grid_paths.Tie as tie
 
 -- no refusal applies
-passed : (e : tie.After-enum-told) → let a = e .before .before .before .before .before .before .before .before .before .args in pathsCheck (a .grid .now) (a .m) (a .n) (a .points .now) (a .starts .now) ≡ Passed
+passed : (e : tie.After-enum-told) →
+    let a = e .before .before .before .before .before .before .before .before .before .args in pathsCheck (a .grid .now) (a .m) (a .n) (a .points .now) (a .starts .now) ≡ Passed
 passed e =
     let g = e .before .before in
-    let a = g .before .before .before .before .before .before .before .args in
-    sym (checked (a .grid .now) (a .m) (a .n) (a .points .now) (a .starts .now) (g .before .check-room .ensures) (g .check-grid .ensures)) ∙ e .enum-told .given .1
+    sym (checked _ _ _ _ _ (g .before .check-room .ensures) (g .check-grid .ensures)) ∙ e .enum-told .given .1
 
-add-count : tie.Need-add-count
-add-count c = omega (arith, passed-shape _ _ _ _ _ (passed c) .steps)
-
-add-count-2 : tie.Need-add-count-2
-add-count-2 c = omega (arith, passed-shape _ _ _ _ _ (passed c) .steps)
-
-mul-count : tie.Need-mul-count
-mul-count c = omega (arith, passed-shape _ _ _ _ _ (passed c) .steps)
-
-add-lines : tie.Need-add-lines
-add-lines c = omega (arith, passed-shape _ _ _ _ _ (passed c) .steps)
-
-add-lines-2 : tie.Need-add-lines-2
-add-lines-2 c = omega (arith, passed-shape _ _ _ _ _ (passed c) .steps)
+-- the grid that passed
+shape : (e : tie.After-enum-told) → let a = e .before .before .before .before .before .before .before .before .before .args in Shaped (a .grid .now) (a .m) (a .n)
+shape e = passed-shape _ _ _ _ _ (passed e)
 
 points-requires : tie.Need-points-requires
 points-requires c κs =
-    let s = passed-shape _ _ _ _ _ (passed (c .before)) in
+    let s = shape (c .before) in
     (s .steps .m-most, s .steps .n-most, s .size, passed-room _ _ _ _ _ (passed (c .before)) .0)
 
 starts-requires : tie.Need-starts-requires
 starts-requires c κs =
-    let p = passed (c .before .before .before .before .before) in
-    let s = passed-shape _ _ _ _ _ p .steps in
-    (s .m-most, s .n-most, passed-room _ _ _ _ _ p .1)
-
-mul-t17 : tie.Need-mul-t17
-mul-t17 c = omega (arith, passed-shape _ _ _ _ _ (passed (c .before .before .before .before .before .before .before .before)) .steps)
+    let e = c .before .before .before .before .before in
+    let s = shape e .steps in
+    (s .m-most, s .n-most, passed-room _ _ _ _ _ (passed e) .1)
 
 returns : tie.Need-returns
 returns c =
     let g = c .before .before .before in
-    let a = g .before .before .before .before .before .before .before .args in
-    refused _ _ _ _ _ (checked (a .grid .now) (a .m) (a .n) (a .points .now) (a .starts .now) (g .before .check-room .ensures) (g .check-grid .ensures)) (c .before .k .given .1)
+    refused _ _ _ _ _ (checked _ _ _ _ _ (g .before .check-room .ensures) (g .check-grid .ensures)) (c .before .k .given .1)
 
 returns-2 : tie.Need-returns-2
 returns-2 c =
@@ -64,14 +50,14 @@ grid-paths-spec =
     (λ c κs. search needs)
     (λ c. search needs)
     (λ c. search needs)
-    add-count
-    add-count-2
-    mul-count
-    add-lines
-    add-lines-2
+    (λ c. omega (arith, shape c .steps))
+    (λ c. omega (arith, shape c .steps))
+    (λ c. omega (arith, shape c .steps))
+    (λ c. omega (arith, shape c .steps))
+    (λ c. omega (arith, shape c .steps))
     points-requires
     starts-requires
-    mul-t17
+    (λ c. omega (arith, shape (c .before .before .before .before .before .before .before .before) .steps))
     (λ c. search needs)
     (λ c. search needs)
     returns

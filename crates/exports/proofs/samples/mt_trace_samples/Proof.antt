@@ -48,7 +48,7 @@ use Rattle.trace.proofs.flat.Trace.Laws as Tr′
 use Rattle.records.specs.Records.{pairsOf, marksOf}
 use Rattle.records.specs.declared.Sample.{Sample}
 use Rattle.records.proofs.Sample as T
-use Rattle.records.proofs.Steps.{says-both}
+use Rattle.records.proofs.Steps.{says-both, local}
 use Rattle.records.proofs.trace_samples as rec
 use Rattle.records.proofs.trace_samples.Symbol as rec-def
 use Rattle.records.proofs.trace_samples.Symbol.{name as #records·trace-samples}
@@ -79,7 +79,8 @@ module _ {M : Type 1} (𝓤 : URA M) (H : Heap 𝓤) (A : Atoms 𝓤) (mem : Mem
   Conv = tripleOf 𝓤 H A conv.signature (conv.spec 𝓤 H A mem run)
 
 module _ {M : Type 1} (𝓤 : URA M) (H : Heap 𝓤) (A : Atoms 𝓤) (W : Given 𝓤 H A) (mem : Memory → SProp 𝓤) (run : Routine → Fun 𝓤)
-    (κ₀ κ₃ κ₄ κ₅ κ₆ κ₇ : Lft) (q₀ q₃ q₄ q₅ q₆ q₇ : Share) (b₀ o₀ b₃ o₃ b₄ o₄ b₅ o₅ b₆ o₆ b₇ o₇ : ℕ) (γ₀ γ₃ γ₄ γ₅ γ₆ γ₇ : GName) (d₀ : List Float) (d₁ : ℕ) (d₂ : ℕ) (d₃ : List Sample) (d₄ : List Float) (d₅ : List ℕ) (d₆ : List ℕ) (d₇ : List Float) where
+    (κ₀ κ₃ κ₄ κ₅ κ₆ κ₇ : Lft) (q₀ q₃ q₄ q₅ q₆ q₇ : Share) (b₀ o₀ b₃ o₃ b₄ o₄ b₅ o₅ b₆ o₆ b₇ o₇ : ℕ) (γ₀ γ₃ γ₄ γ₅ γ₆ γ₇ : GName)
+    (d₀ : List Float) (d₁ d₂ : ℕ) (d₃ : List Sample) (d₄ : List Float) (d₅ d₆ : List ℕ) (d₇ : List Float) where
   -- the references, their machine values, and what they own
   abbrev x₀ : RefT (List Float)
   x₀ = record { ptr = (b₀, o₀); name = γ₀; now = d₀ }
@@ -161,11 +162,15 @@ module _ {M : Type 1} (𝓤 : URA M) (H : Heap 𝓤) (A : Atoms 𝓤) (W : Given
   Tokens = (‵ (flft κ₀ q₀) ⊛ (‵ (flft κ₃ q₃) ⊛ (‵ (flft κ₄ q₄) ⊛ (‵ (flft κ₅ q₅) ⊛ (‵ (flft κ₆ q₆) ⊛ (‵ (flft κ₇ q₇) ⊛ ‵ ftrue))))))
 
   abbrev Types : List RattleType
-  Types = ShrSlice (named 0) κ₀ f64 ∷ usize ∷ usize ∷ ShrSlice (named 1) κ₃ T.the-row ∷ MutSlice (named 2) κ₄ f64 ∷ MutSlice (named 3) κ₅ usize ∷ MutSlice (named 4) κ₆ usize ∷ MutSlice (named 5) κ₇ f64 ∷ []
+  Types =
+      ShrSlice (named 0) κ₀ f64 ∷ usize ∷ usize ∷ ShrSlice (named 1) κ₃ T.the-row
+      ∷ MutSlice (named 2) κ₄ f64 ∷ MutSlice (named 3) κ₅ usize ∷ MutSlice (named 4) κ₆ usize ∷ MutSlice (named 5) κ₇ f64 ∷ []
 
   -- at the exit, before the result: the tokens, the slices that are read, and the last lists of the others
   abbrev Left : List Float → List ℕ → List ℕ → List Float → List (Item 𝓤) → List (Item 𝓤)
-  Left w₄ w₅ w₆ w₇ rest = ‵ (flft κ₀ q₀) ∷ ‵ (flft κ₃ q₃) ∷ ‵ (flft κ₄ q₄) ∷ ‵ (flft κ₅ q₅) ∷ ‵ (flft κ₆ q₆) ∷ ‵ (flft κ₇ q₇) ∷ ‵ O₀ ∷ ‵ O₃ ∷ ‵ (finally f64 γ₄ w₄) ∷ ‵ (finally usize γ₅ w₅) ∷ ‵ (finally usize γ₆ w₆) ∷ ‵ (finally f64 γ₇ w₇) ∷ rest
+  Left w₄ w₅ w₆ w₇ rest =
+      ‵ (flft κ₀ q₀) ∷ ‵ (flft κ₃ q₃) ∷ ‵ (flft κ₄ q₄) ∷ ‵ (flft κ₅ q₅) ∷ ‵ (flft κ₆ q₆) ∷ ‵ (flft κ₇ q₇)
+      ∷ ‵ O₀ ∷ ‵ O₃ ∷ ‵ (finally f64 γ₄ w₄) ∷ ‵ (finally usize γ₅ w₅) ∷ ‵ (finally usize γ₆ w₆) ∷ ‵ (finally f64 γ₇ w₇) ∷ rest
 
   -- what `trace_samples` ensures of its answer, at the last lists of the outputs
   abbrev Said : Trace → List Float → List ℕ → List ℕ → List Float → Type 0
@@ -177,21 +182,23 @@ module _ {M : Type 1} (𝓤 : URA M) (H : Heap 𝓤) (A : Atoms 𝓤) (W : Given
   exits g₁ g₂ r c v w₄ w₅ w₆ w₇ said demand e e₄ e₅ e₆ e₇ =
       qed W (Left w₄ w₅ w₆ w₇ (‵ (An.the-row .own c (v ∷ [])) ∷ [])) ∵
       suffices ! _ (ends-at 𝓤 H A f.ended stayed (f.clauses 𝓤 H A mem run) W bound v c (tt, (tt, (tt, (tt, (w₄, (w₅, (w₆, (w₇, tt)))))))) (tt, (tt, (tt, (tt, (e₄, (e₅, (e₆, (e₇, tt))))))))) $
-      says-both !
-      (draws e said)
-      demand $
-      nothing ! $ move ! (6 ∷ 0 ∷ []) $ join ! $ move ! (5 ∷ 0 ∷ []) $ join ! $ move ! (4 ∷ 0 ∷ []) $ join ! $ move ! (3 ∷ 0 ∷ []) $ join ! $ move ! (2 ∷ 0 ∷ []) $ join ! $ move ! (1 ∷ 0 ∷ []) $ join ! $ frame ! $
+      says-both ! (draws e said) demand $
+      nothing ! $ move ! (6 ∷ 0 ∷ []) $ join ! $ move ! (5 ∷ 0 ∷ []) $ join ! $ move ! (4 ∷ 0 ∷ []) $ join ! $ move ! (3 ∷ 0 ∷ []) $ join ! $ move ! (2 ∷ 0 ∷ []) $ join ! $ move ! (1 ∷ 0 ∷ []) $ join ! $
+      frame ! $
       nothing ! $ move ! (6 ∷ 0 ∷ []) $ fjoin ! $ move ! (5 ∷ 0 ∷ []) $ fjoin ! $ move ! (4 ∷ 0 ∷ []) $ fjoin ! $ move ! (3 ∷ 0 ∷ []) $ fjoin ! $ move ! (2 ∷ 0 ∷ []) $ fjoin ! $
-      owned ! usize (Is usize) (uint-makes 𝓤 H A W w64) d₂ _ (refl, g₂) $ fjoin ! $ owned ! usize (Is usize) (uint-makes 𝓤 H A W w64) d₁ _ (refl, g₁) $ fjoin ! $ move ! (1 ∷ 0 ∷ []) $ fjoin ! $ frame ! $ done !
+      owned ! usize (Is usize) (uint-makes 𝓤 H A W w64) d₂ _ (refl, g₂) $ fjoin ! $ owned ! usize (Is usize) (uint-makes 𝓤 H A W w64) d₁ _ (refl, g₁) $ fjoin ! $ move ! (1 ∷ 0 ∷ []) $ fjoin ! $ frame ! $
+      done !
 
   -- ---- `trace_samples`, which takes what this function takes: that the caller has what it asks, and what there is after it
   abbrev to-rec : Rec 𝓤 H A mem run .Ghost
   to-rec = ((κs, qs, tt, a, at), tt)
 
-  goes-rec : d₁ < 2 ^ 64 → d₂ < 2 ^ 64
-      → ent 𝓤 (⋆ 𝓤 H A (‵ (flft κ₀ q₀) ∷ ‵ (flft κ₃ q₃) ∷ ‵ (flft κ₄ q₄) ∷ ‵ (flft κ₅ q₅) ∷ ‵ (flft κ₆ q₆) ∷ ‵ (flft κ₇ q₇) ∷ ‵ O₀ ∷ ‵ O₃ ∷ ‵ O₄ ∷ ‵ O₅ ∷ ‵ O₆ ∷ ‵ O₇ ∷ [])) (Rec 𝓤 H A mem run .pre to-rec)
+  abbrev Rec-given : List (Item 𝓤)
+  Rec-given = ‵ (flft κ₀ q₀) ∷ ‵ (flft κ₃ q₃) ∷ ‵ (flft κ₄ q₄) ∷ ‵ (flft κ₅ q₅) ∷ ‵ (flft κ₆ q₆) ∷ ‵ (flft κ₇ q₇) ∷ ‵ O₀ ∷ ‵ O₃ ∷ ‵ O₄ ∷ ‵ O₅ ∷ ‵ O₆ ∷ ‵ O₇ ∷ []
+
+  goes-rec : d₁ < 2 ^ 64 → d₂ < 2 ^ 64 → ent 𝓤 (⋆ 𝓤 H A Rec-given) (Rec 𝓤 H A mem run .pre to-rec)
   goes-rec g₁ g₂ =
-      qed W (‵ (flft κ₀ q₀) ∷ ‵ (flft κ₃ q₃) ∷ ‵ (flft κ₄ q₄) ∷ ‵ (flft κ₅ q₅) ∷ ‵ (flft κ₆ q₆) ∷ ‵ (flft κ₇ q₇) ∷ ‵ O₀ ∷ ‵ O₃ ∷ ‵ O₄ ∷ ‵ O₅ ∷ ‵ O₆ ∷ ‵ O₇ ∷ []) ∵
+      qed W Rec-given ∵
       nothing ! $ move ! (6 ∷ 0 ∷ []) $ join ! $ move ! (5 ∷ 0 ∷ []) $ join ! $ move ! (4 ∷ 0 ∷ []) $ join ! $ move ! (3 ∷ 0 ∷ []) $ join ! $ move ! (2 ∷ 0 ∷ []) $ join ! $ move ! (1 ∷ 0 ∷ []) $ join ! $
       nothing ! $ move ! (7 ∷ 0 ∷ []) $ fjoin ! $ move ! (6 ∷ 0 ∷ []) $ fjoin ! $ move ! (5 ∷ 0 ∷ []) $ fjoin ! $ move ! (4 ∷ 0 ∷ []) $ fjoin ! $ move ! (3 ∷ 0 ∷ []) $ fjoin ! $
       owned ! usize (Is usize) (uint-makes 𝓤 H A W w64) d₂ _ (refl, g₂) $ fjoin ! $ owned ! usize (Is usize) (uint-makes 𝓤 H A W w64) d₁ _ (refl, g₁) $ fjoin ! $ move ! (2 ∷ 0 ∷ []) $ fjoin ! $
@@ -211,7 +218,9 @@ module _ {M : Type 1} (𝓤 : URA M) (H : Heap 𝓤) (A : Atoms 𝓤) (W : Given
 
   goes-conv : (r : Trace) (v : Val) → ent 𝓤 (⋆ 𝓤 H A (‵ (Tr.the-row .own r (v ∷ [])) ∷ [])) (Conv 𝓤 H A mem run .pre (to-conv r v))
   goes-conv r v =
-      qed W (‵ (Tr.the-row .own r (v ∷ [])) ∷ []) ∵ nothing ! $ nothing ! $ move ! (2 ∷ 0 ∷ []) $ fjoin ! $ move ! (1 ∷ 0 ∷ []) $ join ! $ frame ! $ nothing ! $ done !
+      qed W (‵ (Tr.the-row .own r (v ∷ [])) ∷ []) ∵
+      nothing ! $
+      nothing ! $ move ! (2 ∷ 0 ∷ []) $ fjoin ! $ move ! (1 ∷ 0 ∷ []) $ join ! $ frame ! $ nothing ! $ done !
 
   abbrev After-conv : Trace → Val → PathsAnswer → Item 𝓤
   After-conv r u c = (‵ ftrue ⊛ ‵ (An.the-row .own c (u ∷ []))) ⊛ raw (ensured 𝓤 H A conv.ended (conv.clauses 𝓤 H A mem run) tt (r, tt) tt c)
@@ -219,7 +228,8 @@ module _ {M : Type 1} (𝓤 : URA M) (H : Heap 𝓤) (A : Atoms 𝓤) (W : Given
   abbrev Conv-said : Trace → PathsAnswer → Unit {0} × Unit {0} → Item 𝓤
   Conv-said r c us = ‵ (lasts conv.ended tt (r, tt) us) ⊛ raw (fact 𝓤 (c ≡ traceAnswer (statedTrace r)))
 
-  module _ (C : Calls 𝓤 H) (Λ : Loops 𝓤 H) (fm : FmC 𝓤 H (W .laws) C) (known-rec : Triple 𝓤 (C #records·trace-samples) (Rec 𝓤 H A mem run)) (known-conv : Triple 𝓤 (C #exports·traces·trace-to-c) (Conv 𝓤 H A mem run)) where
+  module _ (C : Calls 𝓤 H) (Λ : Loops 𝓤 H) (fm : FmC 𝓤 H (W .laws) C)
+      (known-rec : Triple 𝓤 (C #records·trace-samples) (Rec 𝓤 H A mem run)) (known-conv : Triple 𝓤 (C #exports·traces·trace-to-c) (Conv 𝓤 H A mem run)) where
     walk : Room f64 (length d₀) → d₁ < 2 ^ 64 → d₂ < 2 ^ 64 → Room T.the-row (length d₃) → Room f64 (length d₄) → Room usize (length d₅) → Room usize (length d₆) → Room f64 (length d₇) →
         ent 𝓤 (onEntry 𝓤 H A f.signature κs qs a at) (WpFn 𝓤 H C Λ code.function args Post)
     walk g₀ g₁ g₂ g₃ g₄ g₅ g₆ g₇ =
@@ -236,13 +246,13 @@ module _ {M : Type 1} (𝓤 : URA M) (H : Heap 𝓤) (A : Atoms 𝓤) (W : Given
         pass1 ! (init ! 18 refl (tt, (tt, (record { fits = g₇ .0 }, tt)))) $ pass0 ! $
         -- what `trace_samples` is passed
         assigns ! (addr ! (from ! (fld ! refl (hop ! (look-in ! 24 (sub ! 0 refl (whole !))) (stop !))))) (from ! (stop !)) (init ! 14 refl (tt, tt)) $
-        assigns ! (agg ! (and-then ! (load ! (from ! (stop !)) (look ! 14 refl)) (and-then ! (load ! (from ! (fld ! refl (stop !))) (look-in ! 24 (sub ! 1 refl (whole !)))) (no-more !)))) (from ! (stop !)) (init ! 12 refl (tt, (tt, (record { fits = g₄ .0 }, tt)))) $
+        assigns ! (agg ! (and-then ! (local ! 14 refl) (and-then ! (load ! (from ! (fld ! refl (stop !))) (look-in ! 24 (sub ! 1 refl (whole !)))) (no-more !)))) (from ! (stop !)) (init ! 12 refl (tt, (tt, (record { fits = g₄ .0 }, tt)))) $
         assigns ! (addr ! (from ! (fld ! refl (hop ! (look-in ! 22 (sub ! 0 refl (whole !))) (stop !))))) (from ! (stop !)) (init ! 10 refl (tt, tt)) $
-        assigns ! (agg ! (and-then ! (load ! (from ! (stop !)) (look ! 10 refl)) (and-then ! (load ! (from ! (fld ! refl (stop !))) (look-in ! 22 (sub ! 1 refl (whole !)))) (no-more !)))) (from ! (stop !)) (init ! 8 refl (tt, (tt, (record { fits = g₅ .0 }, tt)))) $
+        assigns ! (agg ! (and-then ! (local ! 10 refl) (and-then ! (load ! (from ! (fld ! refl (stop !))) (look-in ! 22 (sub ! 1 refl (whole !)))) (no-more !)))) (from ! (stop !)) (init ! 8 refl (tt, (tt, (record { fits = g₅ .0 }, tt)))) $
         assigns ! (addr ! (from ! (fld ! refl (hop ! (look-in ! 20 (sub ! 0 refl (whole !))) (stop !))))) (from ! (stop !)) (init ! 6 refl (tt, tt)) $
-        assigns ! (agg ! (and-then ! (load ! (from ! (stop !)) (look ! 6 refl)) (and-then ! (load ! (from ! (fld ! refl (stop !))) (look-in ! 20 (sub ! 1 refl (whole !)))) (no-more !)))) (from ! (stop !)) (init ! 4 refl (tt, (tt, (record { fits = g₆ .0 }, tt)))) $
+        assigns ! (agg ! (and-then ! (local ! 6 refl) (and-then ! (load ! (from ! (fld ! refl (stop !))) (look-in ! 20 (sub ! 1 refl (whole !)))) (no-more !)))) (from ! (stop !)) (init ! 4 refl (tt, (tt, (record { fits = g₆ .0 }, tt)))) $
         assigns ! (addr ! (from ! (fld ! refl (hop ! (look-in ! 18 (sub ! 0 refl (whole !))) (stop !))))) (from ! (stop !)) (init ! 2 refl (tt, tt)) $
-        assigns ! (agg ! (and-then ! (load ! (from ! (stop !)) (look ! 2 refl)) (and-then ! (load ! (from ! (fld ! refl (stop !))) (look-in ! 18 (sub ! 1 refl (whole !)))) (no-more !)))) (from ! (stop !)) (init ! 0 refl (tt, (tt, (record { fits = g₇ .0 }, tt)))) $
+        assigns ! (agg ! (and-then ! (local ! 2 refl) (and-then ! (load ! (from ! (fld ! refl (stop !))) (look-in ! 18 (sub ! 1 refl (whole !)))) (no-more !)))) (from ! (stop !)) (init ! 0 refl (tt, (tt, (record { fits = g₇ .0 }, tt)))) $
         move ! (37 ∷ []) $ fsplit ! $ move ! (1 ∷ []) $ fsplit ! $ move ! (1 ∷ []) $ fsplit ! $ move ! (1 ∷ []) $ fsplit ! $ move ! (1 ∷ []) $ fsplit ! $ move ! (1 ∷ []) $ fsplit ! $ move ! (1 ∷ []) $
         fsplit ! $ move ! (1 ∷ []) $ fsplit ! $ move ! (45 ∷ []) $ split ! $ move ! (1 ∷ []) $ split ! $ move ! (1 ∷ []) $ split ! $ move ! (1 ∷ []) $ split ! $ move ! (1 ∷ []) $ split ! $ move ! (1 ∷ []) $
         split ! $
@@ -250,7 +260,7 @@ module _ {M : Type 1} (𝓤 : URA M) (H : Heap 𝓤) (A : Atoms 𝓤) (W : Given
         move ! (14 ∷ []) $ use1 W (‵ O₃ ⊛ ‵ O₃) (shr-slice-copy 𝓤 H A W (named 1) κ₃ T.the-row .twice x₃ (s₃ ∷ [])) $ split ! $
         -- `trace_samples`
         move ! (10 ∷ 9 ∷ 8 ∷ 7 ∷ 6 ∷ 4 ∷ 3 ∷ 1 ∷ 15 ∷ 14 ∷ 13 ∷ 11 ∷ []) $ group ! 12 $ use1 W (raw (Rec 𝓤 H A mem run .pre to-rec)) (goes-rec g₁ g₂) $
-        calls-at ! fm (Rec 𝓤 H A mem run) known-rec to-rec (and-then ! (load ! (from ! (stop !)) (look ! 39 refl)) (and-then ! (load ! (from ! (stop !)) (look ! 37 refl)) (and-then ! (load ! (from ! (stop !)) (look ! 35 refl)) (and-then ! (load ! (from ! (stop !)) (look ! 33 refl)) (and-then ! (load ! (from ! (stop !)) (look ! 19 refl)) (and-then ! (load ! (from ! (stop !)) (look ! 15 refl)) (and-then ! (load ! (from ! (stop !)) (look ! 11 refl)) (and-then ! (load ! (from ! (stop !)) (look ! 7 refl)) (no-more !))))))))) (λ v.
+        calls-at ! fm (Rec 𝓤 H A mem run) known-rec to-rec (and-then ! (local ! 39 refl) (and-then ! (local ! 37 refl) (and-then ! (local ! 35 refl) (and-then ! (local ! 33 refl) (and-then ! (local ! 19 refl) (and-then ! (local ! 15 refl) (and-then ! (local ! 11 refl) (and-then ! (local ! 7 refl) (no-more !))))))))) (λ v.
         use1 W (later (some (After-rec v))) (id⊢ 𝓤 _) $ await ! tt $ pick ! (λ r. split ! $ move ! (1 ∷ []) $ use1 W (some (Rec-said r)) (id⊢ 𝓤 _) $ pick ! (λ ws. split ! $ move ! (1 ∷ []) $ split ! $
         heard ! (Said r (ws .1 .1 .1 .1 .0) (ws .1 .1 .1 .1 .1 .0) (ws .1 .1 .1 .1 .1 .1 .0) (ws .1 .1 .1 .1 .1 .1 .1 .0)) (λ said. heard ! (Demand3 d₀ d₁ d₂) (λ demand.
         fsplit ! $ move ! (1 ∷ []) $ fsplit ! $ move ! (1 ∷ []) $ fsplit ! $ move ! (1 ∷ []) $ fsplit ! $ move ! (1 ∷ []) $ fsplit ! $ fsplit ! $ move ! (1 ∷ []) $ feqL ! (λ e₄. move ! (1 ∷ []) $ fsplit ! $
@@ -259,7 +269,7 @@ module _ {M : Type 1} (𝓤 : URA M) (H : Heap 𝓤) (A : Atoms 𝓤) (W : Given
         peeks ! Tr.the-row (Is Tr.the-row) (shows 𝓤 H A Tr.the-row) r (v ∷ []) (λ is. land ! (from ! (stop !)) (init ! 33 refl (EL.lawful Tr.the-type Tr′.the-laws 𝓤 H A W tt .typed r _ is .0)) $
         -- `trace_to_c`
         use1 W (raw (Conv 𝓤 H A mem run .pre (to-conv r v))) (goes-conv r v) $
-        calls-at ! fm (Conv 𝓤 H A mem run) known-conv (to-conv r v) (and-then ! (load ! (from ! (stop !)) (look ! 33 refl)) (no-more !)) (λ u.
+        calls-at ! fm (Conv 𝓤 H A mem run) known-conv (to-conv r v) (and-then ! (local ! 33 refl) (no-more !)) (λ u.
         use1 W (later (some (After-conv r u))) (id⊢ 𝓤 _) $ await ! tt $ pick ! (λ c. split ! $ move ! (1 ∷ []) $ use1 W (some (Conv-said r c)) (id⊢ 𝓤 _) $ pick ! (λ us. split ! $ move ! (1 ∷ []) $
         heard ! (c ≡ traceAnswer (statedTrace r)) (λ e. move ! (1 ∷ []) $ split ! $ move ! (1 ∷ []) $
         peeks ! An.the-row (Is An.the-row) (shows 𝓤 H A An.the-row) c (u ∷ []) (λ is′. land ! (from ! (stop !)) (init ! 53 refl (LL.lawful An.the-type An′.the-laws 𝓤 H A W .typed c _ is′ .0)) $
@@ -275,12 +285,22 @@ module _ {M : Type 1} (𝓤 : URA M) (H : Heap 𝓤) (A : Atoms 𝓤) (W : Given
         by ! (exits g₁ g₂ r c u (ws .1 .1 .1 .1 .0) (ws .1 .1 .1 .1 .1 .0) (ws .1 .1 .1 .1 .1 .1 .0) (ws .1 .1 .1 .1 .1 .1 .1 .0) said demand e e₄ e₅ e₆ e₇))))))))))))))))))))))))))))))))))
 
 module _ {M : Type 1} (𝓤 : URA M) (H : Heap 𝓤) (A : Atoms 𝓤) (W : Given 𝓤 H A) (mem : Memory → SProp 𝓤) (run : Routine → Fun 𝓤) where
-  mt-trace-samples-walks : (C : Calls 𝓤 H) (Λ : Loops 𝓤 H) → FmC 𝓤 H (W .laws) C → Triple 𝓤 (C #records·trace-samples) (Rec 𝓤 H A mem run) → Triple 𝓤 (C #exports·traces·trace-to-c) (Conv 𝓤 H A mem run)
+  mt-trace-samples-walks : (C : Calls 𝓤 H) (Λ : Loops 𝓤 H) → FmC 𝓤 H (W .laws) C
+      → Triple 𝓤 (C #records·trace-samples) (Rec 𝓤 H A mem run) → Triple 𝓤 (C #exports·traces·trace-to-c) (Conv 𝓤 H A mem run)
       → Walks 𝓤 H A f.ended stayed (WpFn 𝓤 H C Λ code.function) (f.clauses 𝓤 H A mem run)
   mt-trace-samples-walks C Λ fm known-rec known-conv = walked 𝓤 H A f.ended stayed (f.clauses 𝓤 H A mem run) (WpFn 𝓤 H C Λ code.function)
       (λ κs. (slice-vals, (uint-vals w64, (uint-vals w64, (slice-vals, (slice-vals, (slice-vals, (slice-vals, (slice-vals, tt)))))))))
       (λ κs. (shr-slice-tells (named 0) (κs .0) f64, (uint-tells w64, (uint-tells w64, (shr-slice-tells (named 1) (κs .1 .0) T.the-row, (mut-slice-tells (named 2) (κs .1 .1 .0) f64, (mut-slice-tells (named 3) (κs .1 .1 .1 .0) usize, (mut-slice-tells (named 4) (κs .1 .1 .1 .1 .0) usize, (mut-slice-tells (named 5) (κs .1 .1 .1 .1 .1 .0) f64, tt)))))))))
-      (λ κs qs bounds a g are. via 𝓤 _ (fst∗ 𝓤 _ (emp 𝓤)) (walk 𝓤 H A W mem run (κs .0) (κs .1 .0) (κs .1 .1 .0) (κs .1 .1 .1 .0) (κs .1 .1 .1 .1 .0) (κs .1 .1 .1 .1 .1 .0) (qs .0) (qs .1 .0) (qs .1 .1 .0) (qs .1 .1 .1 .0) (qs .1 .1 .1 .1 .0) (qs .1 .1 .1 .1 .1 .0) (a .0 .ptr .0) (a .0 .ptr .1) (a .1 .1 .1 .0 .ptr .0) (a .1 .1 .1 .0 .ptr .1) (a .1 .1 .1 .1 .0 .ptr .0) (a .1 .1 .1 .1 .0 .ptr .1) (a .1 .1 .1 .1 .1 .0 .ptr .0) (a .1 .1 .1 .1 .1 .0 .ptr .1) (a .1 .1 .1 .1 .1 .1 .0 .ptr .0) (a .1 .1 .1 .1 .1 .1 .0 .ptr .1) (a .1 .1 .1 .1 .1 .1 .1 .0 .ptr .0) (a .1 .1 .1 .1 .1 .1 .1 .0 .ptr .1) (a .0 .name) (a .1 .1 .1 .0 .name) (a .1 .1 .1 .1 .0 .name) (a .1 .1 .1 .1 .1 .0 .name) (a .1 .1 .1 .1 .1 .1 .0 .name) (a .1 .1 .1 .1 .1 .1 .1 .0 .name) (a .0 .now) (a .1 .0) (a .1 .1 .0) (a .1 .1 .1 .0 .now) (a .1 .1 .1 .1 .0 .now) (a .1 .1 .1 .1 .1 .0 .now) (a .1 .1 .1 .1 .1 .1 .0 .now) (a .1 .1 .1 .1 .1 .1 .1 .0 .now) C Λ fm known-rec known-conv (are .0 .0 .1) (are .1 .0 .1) (are .1 .1 .0 .1) (are .1 .1 .1 .0 .0 .1) (are .1 .1 .1 .1 .0 .0 .1) (are .1 .1 .1 .1 .1 .0 .0 .1) (are .1 .1 .1 .1 .1 .1 .0 .0 .1) (are .1 .1 .1 .1 .1 .1 .1 .0 .0 .1)))
+      (λ κs qs bounds a g are. via 𝓤 _ (fst∗ 𝓤 _ (emp 𝓤))
+      (walk 𝓤 H A W mem run
+      (κs .0) (κs .1 .0) (κs .1 .1 .0) (κs .1 .1 .1 .0) (κs .1 .1 .1 .1 .0) (κs .1 .1 .1 .1 .1 .0)
+      (qs .0) (qs .1 .0) (qs .1 .1 .0) (qs .1 .1 .1 .0) (qs .1 .1 .1 .1 .0) (qs .1 .1 .1 .1 .1 .0)
+      (a .0 .ptr .0) (a .0 .ptr .1) (a .1 .1 .1 .0 .ptr .0) (a .1 .1 .1 .0 .ptr .1) (a .1 .1 .1 .1 .0 .ptr .0) (a .1 .1 .1 .1 .0 .ptr .1)
+      (a .1 .1 .1 .1 .1 .0 .ptr .0) (a .1 .1 .1 .1 .1 .0 .ptr .1) (a .1 .1 .1 .1 .1 .1 .0 .ptr .0) (a .1 .1 .1 .1 .1 .1 .0 .ptr .1) (a .1 .1 .1 .1 .1 .1 .1 .0 .ptr .0) (a .1 .1 .1 .1 .1 .1 .1 .0 .ptr .1)
+      (a .0 .name) (a .1 .1 .1 .0 .name) (a .1 .1 .1 .1 .0 .name) (a .1 .1 .1 .1 .1 .0 .name) (a .1 .1 .1 .1 .1 .1 .0 .name) (a .1 .1 .1 .1 .1 .1 .1 .0 .name)
+      (a .0 .now) (a .1 .0) (a .1 .1 .0) (a .1 .1 .1 .0 .now) (a .1 .1 .1 .1 .0 .now) (a .1 .1 .1 .1 .1 .0 .now) (a .1 .1 .1 .1 .1 .1 .0 .now) (a .1 .1 .1 .1 .1 .1 .1 .0 .now)
+      C Λ fm known-rec known-conv
+      (are .0 .0 .1) (are .1 .0 .1) (are .1 .1 .0 .1) (are .1 .1 .1 .0 .0 .1) (are .1 .1 .1 .1 .0 .0 .1) (are .1 .1 .1 .1 .1 .0 .0 .1) (are .1 .1 .1 .1 .1 .1 .0 .0 .1) (are .1 .1 .1 .1 .1 .1 .1 .0 .0 .1)))
 
 mt-trace-samples-meets : {M : Type 1} (𝓤 : URA M) (H : Heap 𝓤) (A : Atoms 𝓤) → Given 𝓤 H A → (mem : Memory → SProp 𝓤) (run : Routine → Fun 𝓤) (𝓣 : Tables 𝓤 H)
     → Triple 𝓤 (𝓣 .C #records·trace-samples) (Rec 𝓤 H A mem run) → Triple 𝓤 (𝓣 .C #exports·traces·trace-to-c) (Conv 𝓤 H A mem run)

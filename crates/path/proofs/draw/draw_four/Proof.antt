@@ -22,47 +22,18 @@ loop-holds c = (refl, refl, refl, omega arith, refl)
 less : (t : tie.In-loop Inv-loop μ-loop) → Fewer 1 (t .before .loop .left) (t .before .before .before .before .args .step)
 less t = fewer 1 _ _ (t .loop-test .taken)
 
-point-at-requires : tie.Need-point-at-requires Inv-loop μ-loop
-point-at-requires c κs = let t = c .before in omega (arith, less t, t)
+-- the turn, seen from before the second, the third and the fourth point, and from after the last
+abbrev turn₂ : tie.After-slice-known2 Inv-loop μ-loop → tie.In-loop Inv-loop μ-loop
+turn₂ c = c .before .before .before .before .before
 
-put-requires : tie.Need-put-requires Inv-loop μ-loop
-put-requires c κs = omega (arith, c .before .before)
+abbrev turn₃ : tie.After-slice-known3 Inv-loop μ-loop → tie.In-loop Inv-loop μ-loop
+turn₃ c = turn₂ (c .before .before .before .before .before)
 
-point-at-requires-2 : tie.Need-point-at-requires-2 Inv-loop μ-loop
-point-at-requires-2 c κs = let t = c .before .before .before .before .before .before in omega (arith, less t, t)
+abbrev turn₄ : tie.After-slice-known4 Inv-loop μ-loop → tie.In-loop Inv-loop μ-loop
+turn₄ c = turn₃ (c .before .before .before .before .before)
 
-put-requires-2 : tie.Need-put-requires-2 Inv-loop μ-loop
-put-requires-2 c κs = omega (arith, c .before .before .before .before .before .before .before)
-
-point-at-requires-3 : tie.Need-point-at-requires-3 Inv-loop μ-loop
-point-at-requires-3 c κs =
-    let t = c .before .before .before .before .before .before .before .before .before .before .before in
-    omega (arith, less t, t)
-
-put-requires-3 : tie.Need-put-requires-3 Inv-loop μ-loop
-put-requires-3 c κs = omega (arith, c .before .before .before .before .before .before .before .before .before .before .before .before)
-
-point-at-requires-4 : tie.Need-point-at-requires-4 Inv-loop μ-loop
-point-at-requires-4 c κs =
-    let t = c .before .before .before .before .before .before .before .before .before .before .before .before .before .before .before .before in
-    omega (arith, less t, t)
-
-put-requires-4 : tie.Need-put-requires-4 Inv-loop μ-loop
-put-requires-4 c κs = omega (arith, c .before .before .before .before .before .before .before .before .before .before .before .before .before .before .before .before .before)
-
-add-number : tie.Need-add-number Inv-loop μ-loop
-add-number c =
-    let t = c .before .before .before .before .before .before .before .before .before .before .before .before .before .before .before .before .before .before .before .before in
-    omega (arith, less t, t)
-
-add-place : tie.Need-add-place Inv-loop μ-loop
-add-place c = omega (arith, c .before .before .before .before .before .before .before .before .before .before .before .before .before .before .before .before .before .before .before .before)
-
-sub-left : tie.Need-sub-left Inv-loop μ-loop
-sub-left c = omega (arith, c .before .before .before .before .before .before .before .before .before .before .before .before .before .before .before .before .before .before .before .before)
-
-loop-less : tie.Need-loop-less Inv-loop μ-loop
-loop-less c = omega (arith, c .before .before .before .before .before .before .before .before .before .before .before .before .before .before .before .before .before .before .before .before)
+abbrev turn₅ : tie.After-slice-known5 Inv-loop μ-loop → tie.In-loop Inv-loop μ-loop
+turn₅ c = turn₄ (c .before .before .before .before .before)
 
 loop-again : tie.Need-loop-again Inv-loop μ-loop
 loop-again c =
@@ -82,9 +53,6 @@ loop-again c =
           (u1 .before .point-at .ensures) (u1 .put .ensures) (u2 .before .point-at2 .ensures) (u2 .put2 .ensures)
           (u3 .before .point-at3 .ensures) (u3 .put3 .ensures) (u4 .before .point-at4 .ensures) (u4 .put4 .ensures),
     )
-
-same-length : tie.Need-same-length Inv-loop μ-loop
-same-length c = c .before .loop .inv .0
 
 returns : tie.Need-returns Inv-loop μ-loop
 returns c =
@@ -107,18 +75,18 @@ draw-four-spec =
     (λ c. omega arith)
     (λ c. omega arith)
     (λ c. omega arith)
-    point-at-requires
-    put-requires
-    point-at-requires-2
-    put-requires-2
-    point-at-requires-3
-    put-requires-3
-    point-at-requires-4
-    put-requires-4
-    add-number
-    add-place
-    sub-left
-    loop-less
+    (λ c κs. let t = c .before in omega (arith, less t, t))
+    (λ c κs. omega (arith, c .before .before))
+    (λ c κs. let t = turn₂ (c .before) in omega (arith, less t, t))
+    (λ c κs. omega (arith, turn₂ (c .before .before)))
+    (λ c κs. let t = turn₃ (c .before) in omega (arith, less t, t))
+    (λ c κs. omega (arith, turn₃ (c .before .before)))
+    (λ c κs. let t = turn₄ (c .before) in omega (arith, less t, t))
+    (λ c κs. omega (arith, turn₄ (c .before .before)))
+    (λ c. let t = turn₅ c in omega (arith, less t, t))
+    (λ c. omega (arith, turn₅ c))
+    (λ c. omega (arith, turn₅ c))
+    (λ c. omega (arith, turn₅ c))
     loop-again
-    same-length
+    (λ c. omega arith)
     returns)

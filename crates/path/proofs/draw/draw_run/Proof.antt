@@ -25,12 +25,6 @@ loop-holds c = (refl, refl, refl, refl)
 less : (t : tie.In-loop Inv-loop μ-loop) → Fewer 1 (t .before .loop .left) (t .before .before .before .before .args .step)
 less t = fewer 1 _ _ (t .loop-test .taken)
 
-point-at-requires : tie.Need-point-at-requires Inv-loop μ-loop
-point-at-requires c κs = omega (arith, less (c .before))
-
-add-number : tie.Need-add-number Inv-loop μ-loop
-add-number c = omega (arith, less (c .before .before .before .before .before))
-
 loop-again : tie.Need-loop-again Inv-loop μ-loop
 loop-again c =
     let u = c .before .before in
@@ -42,9 +36,6 @@ loop-again c =
       l .inv .3 ∙ run-turn _ _ _ _ _ (l .left) (t .loop-test .taken) (u .before .point-at .ensures) (u .put .ensures),
     )
 
-same-length : tie.Need-same-length Inv-loop μ-loop
-same-length c = c .before .loop .inv .0
-
 returns : tie.Need-returns Inv-loop μ-loop
 returns c = let l = c .before .loop in sym (l .inv .3 ∙ run-done _ _ _ _ _ (l .left) (c .loop-test .left))
 
@@ -55,12 +46,12 @@ draw-run-spec =
     Inv-loop
     μ-loop
     loop-holds
-    point-at-requires
+    (λ c κs. omega (arith, less (c .before)))
     (λ c κs. omega arith)
-    add-number
+    (λ c. omega (arith, less (c .before .before .before .before .before)))
     (λ c. omega arith)
     (λ c. omega arith)
     (λ c. omega arith)
     loop-again
-    same-length
+    (λ c. omega arith)
     returns)

@@ -30,24 +30,14 @@ abbrev μ-loop2 : tie.MeasureT-loop2
 loop-holds : tie.Need-loop-holds Inv-loop μ-loop Inv-loop2 μ-loop2
 loop-holds c = (refl, omega arith, refl, refl)
 
--- in a turn of either loop
-four-less : (t : tie.In-loop Inv-loop μ-loop Inv-loop2 μ-loop2) → Fewer 4 (t .before .loop .left) (t .before .before .before .before .args .apart) × Fewer 4 (t .before .loop .left) (3 * t .before .before .before .before .args .count)
+-- in a turn of the first loop, and of the second
+four-less : (t : tie.In-loop Inv-loop μ-loop Inv-loop2 μ-loop2) →
+    let a = t .before .before .before .before .args in let left = t .before .loop .left in Fewer 4 left (a .apart) × Fewer 4 left (3 * a .count)
 four-less t = (fewer 4 _ _ (t .loop-test .taken), fewer 4 _ _ (t .loop-test .taken))
 
-one-less : (t : tie.In-loop2 Inv-loop μ-loop Inv-loop2 μ-loop2) → Fewer 1 (t .before .loop2 .left) (t .before .before .before .before .before .before .args .apart) × Fewer 1 (t .before .loop2 .left) (3 * t .before .before .before .before .before .before .args .count)
+one-less : (t : tie.In-loop2 Inv-loop μ-loop Inv-loop2 μ-loop2) →
+    let a = t .before .before .before .before .before .before .args in let left = t .before .loop2 .left in Fewer 1 left (a .apart) × Fewer 1 left (3 * a .count)
 one-less t = (fewer 1 _ _ (t .loop2-test .taken), fewer 1 _ _ (t .loop2-test .taken))
-
-draw-four-requires : tie.Need-draw-four-requires Inv-loop μ-loop Inv-loop2 μ-loop2
-draw-four-requires c κs = omega (arith, four-less (c .before))
-
-add-first : tie.Need-add-first Inv-loop μ-loop Inv-loop2 μ-loop2
-add-first c = omega (arith, four-less (c .before .before .before .before))
-
-mul-place : tie.Need-mul-place Inv-loop μ-loop Inv-loop2 μ-loop2
-mul-place c = omega (arith, four-less (c .before .before .before .before))
-
-add-place : tie.Need-add-place Inv-loop μ-loop Inv-loop2 μ-loop2
-add-place c = omega (arith, four-less (c .before .before .before .before))
 
 loop-again : tie.Need-loop-again Inv-loop μ-loop Inv-loop2 μ-loop2
 loop-again c =
@@ -62,15 +52,6 @@ loop-again c =
 
 loop2-holds : tie.Need-loop2-holds Inv-loop μ-loop Inv-loop2 μ-loop2
 loop2-holds c = let l = c .before .loop in (refl, l .inv .1, l .inv .2, refl)
-
-draw-run-requires : tie.Need-draw-run-requires Inv-loop μ-loop Inv-loop2 μ-loop2
-draw-run-requires c κs = let t = c .before in omega (arith, one-less t, t)
-
-add-first-2 : tie.Need-add-first-2 Inv-loop μ-loop Inv-loop2 μ-loop2
-add-first-2 c = let t = c .before .before .before .before in omega (arith, one-less t, t)
-
-add-place-2 : tie.Need-add-place-2 Inv-loop μ-loop Inv-loop2 μ-loop2
-add-place-2 c = let t = c .before .before .before .before in omega (arith, one-less t, t)
 
 loop2-again : tie.Need-loop2-again Inv-loop μ-loop Inv-loop2 μ-loop2
 loop2-again c =
@@ -99,17 +80,17 @@ draw-runs-spec =
     μ-loop2
     (λ c. omega arith)
     loop-holds
-    draw-four-requires
+    (λ c κs. omega (arith, four-less (c .before)))
     (λ c. omega arith)
-    add-first
-    mul-place
-    add-place
+    (λ c. omega (arith, four-less (c .before .before .before .before)))
+    (λ c. omega (arith, four-less (c .before .before .before .before)))
+    (λ c. omega (arith, four-less (c .before .before .before .before)))
     (λ c. omega arith)
     loop-again
     loop2-holds
-    draw-run-requires
-    add-first-2
-    add-place-2
+    (λ c κs. let t = c .before in omega (arith, one-less t, t))
+    (λ c. let t = c .before .before .before .before in omega (arith, one-less t, t))
+    (λ c. let t = c .before .before .before .before in omega (arith, one-less t, t))
     (λ c. omega arith)
     (λ c. omega arith)
     loop2-again

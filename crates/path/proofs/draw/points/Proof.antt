@@ -10,7 +10,7 @@ returns c =
     let d2 = z .before .before .before .before in
     let d1 = d2 .before .before .before .before in
     let s = d1 .before .before .before .before in
-    points-drawn (s .args .grid .now) (s .args .m) (s .args .n) (s .args .points .now) (s .pre .3) (d1 .draw-runs .ensures) (d2 .draw-runs2 .ensures) (z .zero-floats .ensures)
+    points-drawn _ _ _ _ (s .pre .3) (d1 .draw-runs .ensures) (d2 .draw-runs2 .ensures) (z .zero-floats .ensures)
 
 pub points-spec : {M : Type 1} → statement M
 points-spec =

@@ -8,12 +8,6 @@ use borrow.Author.Needs.{needs}
 use Rattle.path.proofs.draw.put.Statement.{statement}
 use Rattle.path.proofs.draw.put.Tie as tie
 
-slice-write-points-2 : tie.Need-slice-write-points-2
-slice-write-points-2 c = simp length-set (omega arith)
-
-slice-write-points-3 : tie.Need-slice-write-points-3
-slice-write-points-3 c = simp length-set (omega arith)
-
 returns : tie.Need-returns
 unfolding coordinates
 returns c =
@@ -30,9 +24,9 @@ put-spec =
     (λ c. search needs)
     (λ c. search needs)
     (λ c. search needs)
-    slice-write-points-2
+    (λ c. simp length-set (omega arith))
     (λ c. search needs)
     (λ c. search needs)
-    slice-write-points-3
+    (λ c. simp length-set (omega arith))
     (λ c. search needs)
     returns)

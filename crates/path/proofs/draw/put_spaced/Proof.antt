@@ -5,7 +5,7 @@ use native.Mathlib.Omega.{arith}
 use lib.ListN.{length, length-set}
 use lib.Seq.{sets}
 use Rattle.path.specs.Runs.{spaced}
-use Rattle.path.proofs.Stores.{fewer, spaced-turn, spaced-done}
+use Rattle.path.proofs.Stores.{Fewer, fewer, spaced-turn, spaced-done}
 use Rattle.path.proofs.draw.put_spaced.Statement.{statement}
 use Rattle.path.proofs.draw.put_spaced.Tie as tie
 
@@ -20,22 +20,18 @@ abbrev μ-loop : tie.MeasureT-loop
 loop-holds : tie.Need-loop-holds Inv-loop μ-loop
 loop-holds c = (refl, refl, refl, refl)
 
-add-number : tie.Need-add-number Inv-loop μ-loop
-add-number c =
-    let l = c .before .loop in
-    omega (arith, fewer 1 (l .left) (c .before .before .args .step) (c .loop-test .taken))
+-- in a turn of the loop
+less : (t : tie.In-loop Inv-loop μ-loop) → Fewer 1 (t .before .loop .left) (t .before .before .args .step)
+less t = fewer 1 _ _ (t .loop-test .taken)
 
 loop-again : tie.Need-loop-again Inv-loop μ-loop
 loop-again c =
     let l = c .before .loop in (
       simp length-set (l .inv .0),
-      omega (arith, fewer 1 (l .left) (c .before .before .args .step) (c .loop-test .taken)),
+      omega (arith, less c),
       omega arith,
       l .inv .3 ∙ spaced-turn _ _ _ _ (l .left) (c .loop-test .taken),
     )
-
-same-length : tie.Need-same-length Inv-loop μ-loop
-same-length c = c .before .loop .inv .0
 
 returns : tie.Need-returns Inv-loop μ-loop
 returns c = let l = c .before .loop in sym (l .inv .3 ∙ spaced-done _ _ _ _ (l .left) (c .loop-test .left))
@@ -49,10 +45,10 @@ put-spaced-spec =
     loop-holds
     (λ c. omega arith)
     (λ c. omega arith)
-    add-number
+    (λ c. omega (arith, less c))
     (λ c. omega arith)
     (λ c. omega arith)
     (λ c. omega arith)
     loop-again
-    same-length
+    (λ c. omega arith)
     returns)

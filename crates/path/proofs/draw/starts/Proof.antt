@@ -1,4 +1,5 @@
 -- `path::draw::starts` meets its contract: the lines along u have M+1 points each, those along v N+1, and the rest is zeroed.
+use Prim.Native.Nat.{_+_, _*_, _≤_}
 use native.Mathlib.Omega.{arith}
 use Rattle.grid.proofs.Laws.{points-most}
 use Rattle.path.proofs.Lines.{starts-drawn}
@@ -6,14 +7,9 @@ use borrow.Author.Needs.{needs}
 use Rattle.path.proofs.draw.starts.Statement.{statement}
 use Rattle.path.proofs.draw.starts.Tie as tie
 
-put-spaced-requires : tie.Need-put-spaced-requires
-put-spaced-requires c κs = let s = c .before .before in omega (arith, points-most (s .args .m) (s .args .n) (s .pre .0) (s .pre .1))
-
-mul-put-spaced : tie.Need-mul-put-spaced
-mul-put-spaced c = let s = c .before .before .before .before .before .before in omega (arith, points-most (s .args .m) (s .args .n) (s .pre .0) (s .pre .1))
-
-put-spaced-requires-2 : tie.Need-put-spaced-requires-2
-put-spaced-requires-2 c κs = let s = c .before .before .before .before .before .before in omega (arith, points-most (s .args .m) (s .args .n) (s .pre .0) (s .pre .1))
+-- at most 65,536 points
+most : (s : tie.Start) → (s .args .m + 1) * (s .args .n + 1) ≤ 65536
+most s = points-most (s .args .m) (s .args .n) (s .pre .0) (s .pre .1)
 
 returns : tie.Need-returns
 returns c =
@@ -21,7 +17,7 @@ returns c =
     let d2 = z .before .before .before .before in
     let d1 = d2 .before .before .before .before in
     let s = d1 .before .before .before in
-    starts-drawn (s .args .m) (s .args .n) (s .args .starts .now) (s .pre .2) (d1 .put-spaced .ensures) (d2 .put-spaced2 .ensures) (z .zero-numbers .ensures)
+    starts-drawn _ _ _ (s .pre .2) (d1 .put-spaced .ensures) (d2 .put-spaced2 .ensures) (z .zero-numbers .ensures)
 
 pub starts-spec : {M : Type 1} → statement M
 starts-spec =
@@ -29,9 +25,9 @@ starts-spec =
     (tie.spec
     (λ c. search needs)
     (λ c. search needs)
-    put-spaced-requires
-    mul-put-spaced
-    put-spaced-requires-2
+    (λ c κs. omega (arith, most (c .before .before)))
+    (λ c. omega (arith, most (c .before .before .before .before .before .before)))
+    (λ c κs. omega (arith, most (c .before .before .before .before .before .before)))
     (λ c. search needs)
     (λ c κs. search needs)
     (λ c. search needs)

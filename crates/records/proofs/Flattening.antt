@@ -20,27 +20,27 @@ pub marks-count : (ss : List Sample) → length (marksOf ss) ≡ length ss
 marks-count [] = refl
 marks-count (s ∷ ss) = ap suc (marks-count ss)
 
-long : {A : Type 0} (b : Bool) (x y : List A) (n : ℕ) → length x ≡ n → length y ≡ n → length (cond b x y) ≡ n
-long true x y n p q = p
-long false x y n p q = q
+length-cond : {A : Type 0} (b : Bool) (x y : List A) (n : ℕ) → length x ≡ n → length y ≡ n → length (cond b x y) ≡ n
+length-cond true x y n p q = p
+length-cond false x y n p q = q
 
 pairs-long : (ss : List Sample) (ps : List Float) (i : ℕ) → length (pairsUpTo ss ps i) ≡ length ps
 pairs-long ss ps zero = refl
-pairs-long ss ps (suc i) = long (ltb i 65537) _ _ _ (length-set (set (pairsUpTo ss ps i) (2 * i) _) (2 * i + 1) _ ∙ length-set (pairsUpTo ss ps i) (2 * i) _ ∙ pairs-long ss ps i) (pairs-long ss ps i)
+pairs-long ss ps (suc i) = length-cond (ltb i 65537) _ _ _ (simp length-set (pairs-long ss ps i)) (pairs-long ss ps i)
 
 marks-long : (ss : List Sample) (ms : List ℕ) (i : ℕ) → length (marksUpTo ss ms i) ≡ length ms
 marks-long ss ms zero = refl
-marks-long ss ms (suc i) = long (ltb i 65537) _ _ _ (length-set (marksUpTo ss ms i) i _ ∙ marks-long ss ms i) (marks-long ss ms i)
+marks-long ss ms (suc i) = length-cond (ltb i 65537) _ _ _ (simp length-set (marks-long ss ms i)) (marks-long ss ms i)
 
 -- ---- the flat lists of one record more
 
 pairs-snoc : (ss : List Sample) (s : Sample) → pairsOf (ss ++ s ∷ []) ≡ (pairsOf ss ++ s .point .u ∷ []) ++ s .point .v ∷ []
 pairs-snoc [] s = refl
-pairs-snoc (t ∷ ss) s = ap (λ (l : List Float). t .point .u ∷ t .point .v ∷ l) (pairs-snoc ss s)
+pairs-snoc (t ∷ ss) s = rw (pairs-snoc ss s)
 
 marks-snoc : (ss : List Sample) (s : Sample) → marksOf (ss ++ s ∷ []) ≡ marksOf ss ++ s .mark ∷ []
 marks-snoc [] s = refl
-marks-snoc (t ∷ ss) s = ap (λ (l : List ℕ). t .mark ∷ l) (marks-snoc ss s)
+marks-snoc (t ∷ ss) s = rw (marks-snoc ss s)
 
 -- ---- the first i records, put into lists with room for them
 
@@ -49,32 +49,26 @@ two-more : (ps : List Float) (i : ℕ) (u v : Float) → 2 * suc i ≤ length ps
 two-more ps i u v k =
     let e : 2 * suc i ≡ suc (suc (2 * i)) = omega arith in
     let o : 2 * i + 1 ≡ suc (2 * i) = omega arith in
-    let near : 2 * i < length ps = omega (arith, k) in
-    let far : suc (2 * i) < length (set ps (2 * i) u) = rw (length-set ps (2 * i) u) (omega (arith, k)) in
-    rw (e, o) (take-suc-set (set ps (2 * i) u) (suc (2 * i)) v far ∙ ap (λ (l : List Float). l ++ v ∷ []) (take-suc-set ps (2 * i) u near))
+    let near : 2 * i < length ps = omega arith in
+    let far : suc (2 * i) < length (set ps (2 * i) u) = simp length-set (omega arith) in
+    rw (e, o, take-suc-set (set ps (2 * i) u) (suc (2 * i)) v far, take-suc-set ps (2 * i) u near)
 
 module _ (ss : List Sample) (few : length ss ≤ 65537) where
   pairs-first : (ps : List Float) → length ps ≡ 131074 → (i : ℕ) → i ≤ length ss → take (2 * i) (pairsUpTo ss ps i) ≡ pairsOf (take i ss)
   pairs-first ps lp zero h = refl
   pairs-first ps lp (suc i) h =
       let s : Sample = getD ss i nowhere in
-      let room : 2 * suc i ≤ length (pairsUpTo ss ps i) = rw (pairs-long ss ps i, lp) (omega (arith, h, few)) in
-      let in-range : ltb i 65537 ≡ true = lt-ltb i 65537 (omega (arith, h, few)) in
-      ap (λ (b : Bool). take (2 * suc i) (cond b (set (set (pairsUpTo ss ps i) (2 * i) (s .point .u)) (2 * i + 1) (s .point .v)) (pairsUpTo ss ps i))) in-range
-      ∙ two-more (pairsUpTo ss ps i) i (s .point .u) (s .point .v) room
-      ∙ ap (λ (l : List Float). (l ++ s .point .u ∷ []) ++ s .point .v ∷ []) (pairs-first ps lp i (omega (arith, h)))
-      ∙ sym (pairs-snoc (take i ss) s) ∙ ap pairsOf (sym (take-suc ss i nowhere h))
+      let room : 2 * suc i ≤ length (pairsUpTo ss ps i) = rw (pairs-long ss ps i, lp) (omega arith) in
+      let in-range : ltb i 65537 ≡ true = lt-ltb i 65537 (omega arith) in
+      rw (in-range, two-more (pairsUpTo ss ps i) i (s .point .u) (s .point .v) room, pairs-first ps lp i (omega arith), take-suc ss i nowhere h) (sym (pairs-snoc (take i ss) s))
 
   marks-first : (ms : List ℕ) → length ms ≡ 65537 → (i : ℕ) → i ≤ length ss → take i (marksUpTo ss ms i) ≡ marksOf (take i ss)
   marks-first ms lm zero h = refl
   marks-first ms lm (suc i) h =
       let s : Sample = getD ss i nowhere in
-      let room : i < length (marksUpTo ss ms i) = rw (marks-long ss ms i, lm) (omega (arith, h, few)) in
-      let in-range : ltb i 65537 ≡ true = lt-ltb i 65537 (omega (arith, h, few)) in
-      ap (λ (b : Bool). take (suc i) (cond b (set (marksUpTo ss ms i) i (s .mark)) (marksUpTo ss ms i))) in-range
-      ∙ take-suc-set (marksUpTo ss ms i) i (s .mark) room
-      ∙ ap (λ (l : List ℕ). l ++ s .mark ∷ []) (marks-first ms lm i (omega (arith, h)))
-      ∙ sym (marks-snoc (take i ss) s) ∙ ap marksOf (sym (take-suc ss i nowhere h))
+      let room : i < length (marksUpTo ss ms i) = rw (marks-long ss ms i, lm) (omega arith) in
+      let in-range : ltb i 65537 ≡ true = lt-ltb i 65537 (omega arith) in
+      rw (in-range, take-suc-set (marksUpTo ss ms i) i (s .mark) room, marks-first ms lm i (omega arith), take-suc ss i nowhere h) (sym (marks-snoc (take i ss) s))
 
 -- ---- all of them
 
