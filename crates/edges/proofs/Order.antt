@@ -1,18 +1,20 @@
 -- Events in order: an insertion keeps them so, and an event goes to the place that is after what it does not precede and before what it precedes. Assumes nothing.
 use mathlib.Core.Path.{_≡_, refl, sym, ap, _∙_, subst, subst⁻¹}
-use mathlib.Core.Bool.{Bool, true, false, true≢false, cond}
+use mathlib.Core.Bool.{Bool, true, false, true≢false}
 use mathlib.Core.List.{List, [], _∷_}
 use Prim.Native.Nat.{ℕ, zero, suc, _+_, _≤_, _<_}
 use native.Mathlib.Omega.{arith}
 use lib.ListN.{length, getD}
-use lib.Ieee.{Float, nan}
+use lib.Ieee.{Float, nan, isNan}
 use Rattle.float.specs.Order.{totalOrder}
 use Rattle.float.specs.declared.order.Ordering.{Ordering}
 use Rattle.float.specs.declared.order.Ordering.the-variants.{Less, Equal, Greater}
+use Rattle.float.proofs.Tests.{cannot}
 use Rattle.float.proofs.Orders.{less-greater, not-less-transitive}
 use Rattle.edges.specs.declared.event.EdgeEvent.{EdgeEvent}
 use Rattle.edges.specs.Events.{precedes, insert, sortInto, Each}
 use Rattle.edges.specs.Scratch.{eventOf, eventsIn, putAt, PlaceOf, AscendFrom, Ascend, Storable, Sorted}
+use Rattle.edges.proofs.Cases.{cond-case}
 use Rattle.edges.proofs.Places.{event-in, events-length}
 use Rattle.edges.proofs.Each.{each-insert}
 
@@ -21,35 +23,32 @@ is-less Less h = refl
 is-less Equal h = absurd (true≢false (sym h))
 is-less Greater h = absurd (true≢false (sym h))
 
-pub not-less : (o : Ordering) → precedes o ≡ false → o ≡ Less → ⊥
+not-less : (o : Ordering) → precedes o ≡ false → o ≡ Less → ⊥
 not-less o h q = true≢false (sym (ap precedes q) ∙ h)
-
-pub is-not : (o : Ordering) → (o ≡ Less → ⊥) → precedes o ≡ false
-is-not Less h = absurd (h refl)
-is-not Equal h = refl
-is-not Greater h = refl
 
 precedes-once : (x y : Float) → precedes (totalOrder x y) ≡ true → precedes (totalOrder y x) ≡ false
 precedes-once x y h = ap precedes (less-greater x y (is-less (totalOrder x y) h))
 
+-- where y does not precede x, nor z y, z does not precede x
+pub not-precedes-transitive : (x y z : Float) → isNan x ≡ false → isNan y ≡ false → isNan z ≡ false → precedes (totalOrder y x) ≡ false → precedes (totalOrder z y) ≡ false →
+    precedes (totalOrder z x) ≡ false
+not-precedes-transitive x y z nx ny nz h k = cannot _ (λ p. not-less-transitive x y z nx ny nz (not-less (totalOrder y x) h) (not-less (totalOrder z y) k) (is-less (totalOrder z x) p))
+
 insert-from : (e : EdgeEvent) (x : Float) (es : List EdgeEvent) → precedes (totalOrder (e .lambda) x) ≡ false → AscendFrom x es → AscendFrom x (insert e es)
 unfolding insert
 insert-from e x [] h k = (h, tt)
-insert-from e x (y ∷ ys) h k = go (λ p. insert-from e (y .lambda) ys p (k .1)) (precedes (totalOrder (e .lambda) (y .lambda))) refl
-  where
-    go : (precedes (totalOrder (e .lambda) (y .lambda)) ≡ false → AscendFrom (y .lambda) (insert e ys)) →
-        (t : Bool) → precedes (totalOrder (e .lambda) (y .lambda)) ≡ t → AscendFrom x (cond t (e ∷ (y ∷ ys)) (y ∷ insert e ys))
-    go f true p = (h, (precedes-once (e .lambda) (y .lambda) p, k .1))
-    go f false p = (k .0, f p)
+insert-from e x (y ∷ ys) h k =
+    cond-case (AscendFrom x) (precedes (totalOrder (e .lambda) (y .lambda))) _ _
+    (λ p. (h, (precedes-once (e .lambda) (y .lambda) p, k .1)))
+    (λ p. (k .0, insert-from e (y .lambda) ys p (k .1)))
 
 pub insert-ascends : (e : EdgeEvent) (es : List EdgeEvent) → Ascend es → Ascend (insert e es)
 unfolding insert
 insert-ascends e [] h = tt
-insert-ascends e (y ∷ ys) h = go (precedes (totalOrder (e .lambda) (y .lambda))) refl
-  where
-    go : (t : Bool) → precedes (totalOrder (e .lambda) (y .lambda)) ≡ t → Ascend (cond t (e ∷ (y ∷ ys)) (y ∷ insert e ys))
-    go true p = (precedes-once (e .lambda) (y .lambda) p, h)
-    go false p = insert-from e (y .lambda) ys p h
+insert-ascends e (y ∷ ys) h =
+    cond-case Ascend (precedes (totalOrder (e .lambda) (y .lambda))) _ _
+    (λ p. (precedes-once (e .lambda) (y .lambda) p, h))
+    (λ p. insert-from e (y .lambda) ys p h)
 
 pub sort-ascends : (es acc : List EdgeEvent) → Ascend acc → Ascend (sortInto es acc)
 unfolding sortInto
@@ -88,10 +87,7 @@ module _ (e d : EdgeEvent) (n : Storable e) where
   not-before x es zero s a l h = h
   not-before x [] (suc i) s a l h = absurd (omega arith)
   not-before x (y ∷ ys) (suc i) s a l h =
-      is-not (totalOrder (e .lambda) (x .lambda))
-      (not-less-transitive (x .lambda) (y .lambda) (e .lambda) (s .0 .1) (s .1 .0 .1) (n .1)
-      (not-less (totalOrder (y .lambda) (x .lambda)) (a .0))
-      (not-less (totalOrder (e .lambda) (y .lambda)) (not-before y ys i (s .1) (a .1) (omega arith) h)))
+      not-precedes-transitive (x .lambda) (y .lambda) (e .lambda) (s .0 .1) (s .1 .0 .1) (n .1) (a .0) (not-before y ys i (s .1) (a .1) (omega arith) h)
 
   put-inserts : (es : List EdgeEvent) (p : ℕ) → Ascend es → Each Storable es → p ≤ length es → ((i : ℕ) → i + 1 ≡ p → ahead (getD es i d) ≡ false) → (p < length es → ahead (getD es p d) ≡ true) → putAt p e es ≡ insert e es
   unfolding insert
