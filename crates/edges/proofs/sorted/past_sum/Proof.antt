@@ -8,7 +8,6 @@ use Rattle.float.specs.Cast.{count}
 use Rattle.edges.specs.Events.{highSum}
 use Rattle.edges.proofs.Gather.{below-top, at-top}
 use borrow.Author.Needs.{needs}
-use borrow.Author.Needs.{needs}
 use Rattle.edges.proofs.sorted.past_sum.Statement.{statement}
 use Rattle.edges.proofs.sorted.past_sum.Tie as tie
 
