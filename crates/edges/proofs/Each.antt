@@ -2,15 +2,12 @@
 use mathlib.Core.Path.{_≡_, refl}
 use mathlib.Core.Bool.{Bool, cond}
 use mathlib.Core.List.{List, [], _∷_, _++_}
-use Prim.Native.Nat.{ℕ, zero, suc, _+_, _-_, _≤_, _<_, min, max}
-use native.Mathlib.Nat.{le-trans}
+use Prim.Native.Nat.{ℕ, zero, suc, _+_, _-_, _≤_, _<_}
 use native.Mathlib.Omega.{arith}
 use lib.ListN.{length, getD, length-append}
 use lib.Ieee.{Float}
 use Rattle.float.specs.Consts.{zero64, one64}
 use Rattle.float.specs.Order.{totalOrder}
-use Rattle.float.specs.Whole.{floorZ, ceilZ}
-use Rattle.float.specs.Cast.{count}
 use Rattle.float.proofs.Tests.{cond-keeps}
 use Rattle.edges.specs.declared.point.ParamPoint.{ParamPoint}
 use Rattle.edges.specs.declared.point.Axis.{Axis}
@@ -18,7 +15,7 @@ use Rattle.edges.specs.declared.point.Axis.the-variants.{AxisU, AxisV}
 use Rattle.edges.specs.declared.event.EdgeEvent.{EdgeEvent}
 use Rattle.edges.specs.declared.event.Candidate.{Candidate}
 use Rattle.edges.specs.declared.event.Candidate.the-variants.{Event, NoEvent}
-use Rattle.edges.specs.Events.{edgeAtPoint, endCandidate, change, lineCandidate, changeOfSum, diagonalCandidate, moves, listed, listFrom, lowSum, highSum, firstSum, pastSum, ends, lines, diagonals, candidates, precedes, insert, sortInto, closeBy, uniqueAfter, unique, sortedEdgeEvents, IfEvent, Each}
+use Rattle.edges.specs.Events.{edgeAtPoint, endCandidate, change, lineCandidate, changeOfSum, diagonalCandidate, moves, listed, listFrom, firstSum, pastSum, ends, lines, diagonals, candidates, precedes, insert, sortInto, closeBy, uniqueAfter, unique, sortedEdgeEvents, IfEvent, Each}
 
 module _ (P : EdgeEvent → Type 0) where
   each-append : (xs ys : List EdgeEvent) → Each P xs → Each P ys → Each P (xs ++ ys)
@@ -149,10 +146,7 @@ unfolding diagonals
 length-diagonals m n a b =
     let first = firstSum a b in
     let past = pastSum m n a b in
-    le-trans (length-tried (moves (changeOfSum a b)) (diagonalCandidate m n a b) (past - first) first) (sums (count (ceilZ (lowSum a b))) (count (floorZ (highSum a b)) + 1))
-  where
-    sums : (x y : ℕ) → min (m + n) y - max 1 x ≤ m + n - 1
-    sums x y = omega arith
+    omega (arith, length-tried (moves (changeOfSum a b)) (diagonalCandidate m n a b) (past - first) first)
 
 pub length-candidates : (m n : ℕ) (a b : ParamPoint) → length (candidates m n a b) ≤ 2 + (m + 1) + (n + 1) + (m + n - 1)
 unfolding candidates

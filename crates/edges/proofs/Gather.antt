@@ -2,12 +2,10 @@
 use mathlib.Core.Path.{_≡_, refl, ap, sym, _∙_}
 use mathlib.Core.Bool.{true, false}
 use mathlib.Core.List.{List, [], _∷_, _++_}
-use Prim.Native.Nat.{ℕ, suc, _+_, _-_, _<_, _≤_, min, max}
+use Prim.Native.Nat.{ℕ, suc, _+_, _-_, _<_, _≤_}
 use native.Mathlib.Omega.{arith}
 use lib.Ieee.{Float, binary64, sub}
 use Rattle.float.specs.Consts.{zero64, one64}
-use Rattle.float.specs.Whole.{floorZ, ceilZ}
-use Rattle.float.specs.Cast.{count}
 use Rattle.edges.specs.declared.point.ParamPoint.{ParamPoint}
 use Rattle.edges.specs.declared.point.Axis.{Axis}
 use Rattle.edges.specs.declared.point.Axis.the-variants.{AxisU, AxisV}
@@ -16,7 +14,7 @@ use Rattle.edges.specs.declared.event.Candidate.{Candidate}
 use Rattle.edges.specs.declared.event.Candidate.the-variants.{Event, NoEvent}
 use Rattle.edges.specs.declared.event.EdgeAtPoint.{EdgeAtPoint}
 use Rattle.edges.specs.Param.{along}
-use Rattle.edges.specs.Events.{edgeAtPoint, endCandidate, change, lineCandidate, changeOfSum, diagonalCandidate, moves, listed, listFrom, lowSum, highSum, firstSum, pastSum, ends, lines, diagonals, candidates, insert, pushed, sortInto, IfEvent}
+use Rattle.edges.specs.Events.{edgeAtPoint, endCandidate, change, lineCandidate, changeOfSum, diagonalCandidate, moves, listed, listFrom, firstSum, pastSum, ends, lines, diagonals, candidates, insert, pushed, sortInto, IfEvent}
 
 pub if-event : (P : EdgeEvent → Type 0) {c : Candidate} {e : EdgeEvent} → c ≡ Event e → IfEvent P c → P e
 if-event P q h = rw q at h
@@ -47,15 +45,11 @@ module _ (f : ℕ → Candidate) (end i : ℕ) (acc : List EdgeEvent) {w : List 
   unfolding listFrom
   gather-turn h p t =
       let s : end - i ≡ suc (end - (i + 1)) = omega arith in
-      q ∙ ap (λ (k : ℕ). sortInto (listFrom f k i) acc) s ∙ sort-listed (f i) (listFrom f (end - (i + 1)) (i + 1)) acc
-      ∙ ap (sortInto (listFrom f (end - (i + 1)) (i + 1))) (ap (λ (x : Candidate). pushed x acc) (sym p) ∙ sym t)
+      rw (q, s, sort-listed, t, p)
 
   pub gather-ends : end ≤ i → acc ≡ w
   unfolding listFrom sortInto
-  gather-ends h = let s : end - i ≡ 0 = omega arith in sym (q ∙ ap (λ (k : ℕ). sortInto (listFrom f k i) acc) s)
-
-gather-starts : (f : ℕ → Candidate) (end : ℕ) (acc : List EdgeEvent) → sortInto (listFrom f end 0) acc ≡ gathering f end 0 acc
-gather-starts f end acc = let s : end ≡ end - 0 = omega arith in ap (λ (k : ℕ). sortInto (listFrom f k 0) acc) s
+  gather-ends h = let s : end - i ≡ 0 = omega arith in rw (q, s)
 
 -- ---- the lines of an axis, d being by how much it was found to change, from the coordinates s and t of the ends
 pub changes : (x : Axis) (a b : ParamPoint) {s t : Float} → s ≡ along x b → t ≡ along x a → sub binary64 s t ≡ change x a b
@@ -68,20 +62,14 @@ module _ (x : Axis) (m n : ℕ) (a b : ParamPoint) (acc : List EdgeEvent) {d : F
 
   pub lines-start : moves d ≡ true → sortInto (lines x m n a b) acc ≡ gathering (lineCandidate x n a b) (m + 1) 0 acc
   unfolding lines
-  lines-start h = rw (ap moves (sym e) ∙ h) (gather-starts (lineCandidate x n a b) (m + 1) acc)
+  lines-start h = let all : m + 1 - 0 ≡ m + 1 = omega arith in rw (ap moves (sym e) ∙ h, all)
 
 -- ---- the four groups
 module _ (m n : ℕ) (a b : ParamPoint) where
   pub ends-pushed : {x y : EdgeAtPoint} {c d : Candidate} {r s : List EdgeEvent} → x ≡ edgeAtPoint m n a → y ≡ edgeAtPoint m n b → c ≡ endCandidate zero64 x → d ≡ endCandidate one64 y →
       r ≡ pushed c [] → s ≡ pushed d r → s ≡ sortInto (ends m n a b) []
   unfolding ends sortInto
-  ends-pushed {x} {y} {c} {d} {r} {s} hx hy hc hd hr hs =
-      let first = endCandidate zero64 (edgeAtPoint m n a) in
-      let second = endCandidate one64 (edgeAtPoint m n b) in
-      let p : c ≡ first = hc ∙ ap (endCandidate zero64) hx in
-      let q : d ≡ second = hd ∙ ap (endCandidate one64) hy in
-      hs ∙ ap (λ (z : List EdgeEvent). pushed d z) hr ∙ ap (λ (z : Candidate). pushed z (pushed c [])) q ∙ ap (λ (z : Candidate). pushed second (pushed z [])) p
-      ∙ sym (sort-listed first (listed second []) [] ∙ sort-listed second [] (pushed first []))
+  ends-pushed hx hy hc hd hr hs = rw (hs, hr, hd, hc, hy, hx, sort-listed, sort-listed)
 
   module _ (acc : List EdgeEvent) where
     pub diagonals-none : moves (changeOfSum a b) ≡ false → acc ≡ sortInto (diagonals m n a b) acc
@@ -97,32 +85,11 @@ module _ (m n : ℕ) (a b : ParamPoint) where
       w ≡ sortInto (candidates m n a b) []
   unfolding candidates
   groups-sorted hr hs ht hw =
-      rw (sort-append (ends m n a b) (lines AxisU m n a b ++ (lines AxisV n m a b ++ diagonals m n a b)), sort-append (lines AxisU m n a b) (lines AxisV n m a b ++ diagonals m n a b), sort-append (lines AxisV n m a b) (diagonals m n a b), ← hr, ← hs, ← ht) hw
+      rw (hw, ht, hs, hr, sort-append, sort-append, sort-append)
 
 -- ---- bounds on the sums tried
 pub first-from : (a b : ParamPoint) {first : ℕ} → first ≡ firstSum a b → 1 ≤ first
-first-from a b q = go (count (ceilZ (lowSum a b))) q
-  where
-    go : (k : ℕ) {first : ℕ} → first ≡ max 1 k → 1 ≤ first
-    go k h = omega arith
+first-from a b q = omega arith
 
 pub past-to : (m n : ℕ) (a b : ParamPoint) {past : ℕ} → past ≡ pastSum m n a b → past ≤ m + n
-past-to m n a b q = go (count (floorZ (highSum a b)) + 1) q
-  where
-    go : (k : ℕ) {past : ℕ} → past ≡ min (m + n) k → past ≤ m + n
-    go k h = omega arith
-
-pub at-least-one : (k : ℕ) {x : ℕ} → x ≡ k → x < 1 → 1 ≡ max 1 k
-at-least-one k p h = omega arith
-
-pub above-one : (k : ℕ) {x : ℕ} → x ≡ k → 1 ≤ x → x ≡ max 1 k
-above-one k p h = omega arith
-
-pub below-top : (top k : ℕ) {x : ℕ} → x ≡ k → x + 1 < top → x + 1 ≡ min top (k + 1)
-below-top top k p h = omega arith
-
-pub at-top : (top k : ℕ) {x : ℕ} → x ≡ k → top ≤ x + 1 → top ≡ min top (k + 1)
-at-top top k p h = omega arith
-
-pub shorter : (end i : ℕ) → i < end → end - (i + 1) < end - i
-shorter end i h = omega arith
+past-to m n a b q = omega arith

@@ -1,21 +1,21 @@
 -- `edges::sorted::push_diagonals` meets its contract: the diagonals from sum on, sorted into the events so far, give what is asked. Assumes nothing.
-use mathlib.Core.Path.{_≡_, sym, ap, _∙_}
-use Prim.Native.Nat.{_≤_, _+_, _-_}
+use mathlib.Core.Path.{_≡_, ap}
+use Prim.Native.Nat.{_≤_, _+_, _-_, max}
 use lib.ListN.{length}
 use lib.Ieee.{lt}
-use borrow.Author.Tests.{not-true, not-false}
 use Rattle.float.specs.Consts.{eps}
+use Rattle.float.proofs.Tests.{held, failed}
 use Rattle.edges.specs.Events.{diagonalCandidate, diagonals, sortInto}
 use Rattle.edges.specs.Scratch.{eventsIn, Sorted}
 use Rattle.edges.proofs.Storable.{diagonal-storable}
-use Rattle.edges.proofs.Gather.{gathering, gather-turn, gather-ends, diagonals-none, diagonals-start, first-from, past-to, shorter}
+use Rattle.edges.proofs.Gather.{gathering, gather-turn, gather-ends, diagonals-none, diagonals-start, first-from, past-to}
 use borrow.Author.Needs.{needs}
 use Rattle.edges.proofs.sorted.push_diagonals.Statement.{statement}
 use Rattle.edges.proofs.sorted.push_diagonals.Tie as tie
 
 abbrev Inv-loop : tie.InvT-loop
 Inv-loop lambdas₀ codes₀ count m n a b total₀ first past sum₀ lambdas codes total sum =
-    (1 ≤ first) × (past ≤ m + n) × (first ≤ sum) × (sum - first ≤ past - first) × (total ≤ count + (sum - first)) × (length lambdas ≡ 1023) × (length codes ≡ 1023)
+    (1 ≤ first) × (past ≤ m + n) × (first ≤ sum) × (sum ≤ max first past) × (total + first ≤ count + sum) × (length lambdas ≡ 1023) × (length codes ≡ 1023)
     × (sortInto (diagonals m n a b) (eventsIn lambdas₀ codes₀ count) ≡ gathering (diagonalCandidate m n a b) past sum (eventsIn lambdas codes total))
     × Sorted (eventsIn lambdas codes total)
 
@@ -26,39 +26,37 @@ returns : tie.Need-returns Inv-loop μ-loop
 unfolding eps
 returns c =
     let a = c .before .before .before .before .before .before .before .before .args in
-    (search needs, diagonals-none (a .m) (a .n) (a .a) (a .b) (eventsIn (a .lambdas .now) (a .codes .now) (a .count)) (ap (lt eps) (sym (c .before .abs .ensures)) ∙ not-true _ (c .if1 .taken)))
+    (search needs, diagonals-none (a .m) (a .n) (a .a) (a .b) (eventsIn (a .lambdas .now) (a .codes .now) (a .count)) (failed (ap (lt eps) (c .before .abs .ensures)) (c .if1 .taken)))
 
 loop-holds : tie.Need-loop-holds Inv-loop μ-loop
 unfolding eps
 loop-holds c =
-    let a = c .before .before .before .before .before .before .before .before .before .before .args in
-    let first : 1 ≤ c .before .first-sum .result = first-from (a .a) (a .b) (c .before .first-sum .ensures) in
-    let past : c .past-sum .result ≤ a .m + a .n = past-to (a .m) (a .n) (a .a) (a .b) (c .past-sum .ensures) in (
-      first,
-      past,
+    let f = c .before in
+    let s = f .before .before .before .before .before .before .before .before .before in
+    let a = s .args in (
+      first-from (a .a) (a .b) (f .first-sum .ensures),
+      past-to (a .m) (a .n) (a .a) (a .b) (c .past-sum .ensures),
       search needs,
       search needs,
       search needs,
       search needs,
       search needs,
-      diagonals-start (a .m) (a .n) (a .a) (a .b) (eventsIn (a .lambdas .now) (a .codes .now) (a .count))
-          (ap (lt eps) (sym (c .before .before .before .abs .ensures)) ∙ not-false _ (c .before .before .if1 .left)) (c .before .first-sum .ensures) (c .past-sum .ensures),
-      c .before .before .before .before .before .before .before .before .before .before .pre .1,
+      diagonals-start (a .m) (a .n) (a .a) (a .b) (eventsIn (a .lambdas .now) (a .codes .now) (a .count)) (held (ap (lt eps) (f .before .before .abs .ensures)) (f .before .if1 .left)) (f .first-sum .ensures) (c .past-sum .ensures),
+      s .pre .1,
     )
 
 push-candidate-requires : tie.Need-push-candidate-requires Inv-loop μ-loop
 push-candidate-requires c κs =
-    let s = c .before .before .before .before .before .before .before .before .before .before .before .before .before .before .before in
-    let l = c .before .before .before .before .loop in
-    (search needs, search needs, diagonal-storable (s .args .m) (s .args .n) (s .pre .0 .u-steps) (s .pre .0 .v-steps) (s .args .a) (s .args .b) (l .sum) (c .diagonal-candidate .ensures), l .inv .8)
-
-loop-less : tie.Need-loop-less Inv-loop μ-loop
-loop-less c = shorter (c .before .before .before .before .before .before .before .before .before .before .past-sum .result) (c .before .before .before .before .before .before .before .before .before .loop .sum) (c .before .before .before .before .before .before .before .before .loop-test .taken)
+    let l = c .before .before .before .before in
+    let s = l .before .before .before .before .before .before .before .before .before .before .before in
+    (search needs, search needs, diagonal-storable (s .args .m) (s .args .n) (s .pre .0 .u-steps) (s .pre .0 .v-steps) (s .args .a) (s .args .b) (l .loop .sum) (c .diagonal-candidate .ensures), l .loop .inv .8)
 
 loop-again : tie.Need-loop-again Inv-loop μ-loop
 loop-again c =
-    let s = c .before .before .before .before .before .before .before .before .before .before .before .before .before .before .before .before .before .before .before .before in
-    let l = c .before .before .before .before .before .before .before .before .before .loop in (
+    let p = c .before .before .before .before in
+    let t = p .before .before .before .before in
+    let l = t .before .loop in
+    let a = t .before .before .before .before .before .before .before .before .before .before .before .before .args in (
       search needs,
       search needs,
       search needs,
@@ -66,16 +64,16 @@ loop-again c =
       search needs,
       search needs,
       search needs,
-      gather-turn (diagonalCandidate (s .args .m) (s .args .n) (s .args .a) (s .args .b)) (c .before .before .before .before .before .before .before .before .before .before .past-sum .result) (l .sum) (eventsIn (l .lambdas) (l .codes) (l .total)) (l .inv .7) (c .before .before .before .before .before .before .before .before .loop-test .taken)
-          (c .before .before .before .before .before .diagonal-candidate .ensures) (c .before .before .before .before .push-candidate .ensures .1),
-      c .before .before .before .before .push-candidate .ensures .2,
+      gather-turn (diagonalCandidate (a .m) (a .n) (a .a) (a .b)) (t .before .before .past-sum .result) (l .sum) (eventsIn (l .lambdas) (l .codes) (l .total)) (l .inv .7) (t .loop-test .taken)
+          (p .before .diagonal-candidate .ensures) (p .push-candidate .ensures .1),
+      p .push-candidate .ensures .2,
     )
 
 returns-2 : tie.Need-returns-2 Inv-loop μ-loop
 returns-2 c =
-    let s = c .before .before .before .before .before .before .before .before .before .before .before .before in
     let l = c .before .loop in
-    (search needs, gather-ends (diagonalCandidate (s .args .m) (s .args .n) (s .args .a) (s .args .b)) (c .before .before .past-sum .result) (l .sum) (eventsIn (l .lambdas) (l .codes) (l .total)) (l .inv .7) (c .loop-test .left))
+    let a = c .before .before .before .before .before .before .before .before .before .before .before .before .args in
+    (search needs, gather-ends (diagonalCandidate (a .m) (a .n) (a .a) (a .b)) (c .before .before .past-sum .result) (l .sum) (eventsIn (l .lambdas) (l .codes) (l .total)) (l .inv .7) (c .loop-test .left))
 
 pub push-diagonals-spec : {M : Type 1} → statement M
 push-diagonals-spec =
@@ -91,7 +89,7 @@ push-diagonals-spec =
     (λ c κs. search needs)
     push-candidate-requires
     (λ c. search needs)
-    loop-less
+    (λ c. search needs)
     loop-again
     (λ c. search needs)
     (λ c. search needs)

@@ -1,10 +1,10 @@
 -- `edges::sorted::push_lines` meets its contract: the lines from `step` on, sorted into the events so far, give what is asked. Assumes nothing.
-use mathlib.Core.Path.{_≡_, sym, ap, _∙_}
+use mathlib.Core.Path.{_≡_, ap}
 use Prim.Native.Nat.{_≤_, _+_, _-_}
 use lib.ListN.{length}
 use lib.Ieee.{binary64, lt, sub}
-use borrow.Author.Tests.{not-true, not-false}
 use Rattle.float.specs.Consts.{eps}
+use Rattle.float.proofs.Tests.{held, failed}
 use Rattle.edges.specs.Events.{change, lineCandidate, lines, sortInto}
 use Rattle.edges.specs.Scratch.{eventsIn, Storable, Sorted}
 use Rattle.edges.proofs.Storable.{line-storable}
@@ -29,20 +29,30 @@ changed c = let a = c .before .before .before .before .before .args in changes (
 returns : tie.Need-returns Inv-loop μ-loop
 unfolding eps
 returns c =
-    let a = c .before .before .before .before .before .before .args in
-    (search needs, lines-none (a .axis) (a .along) (a .across) (a .a) (a .b) (eventsIn (a .lambdas .now) (a .codes .now) (a .count)) (changed (c .before)) (ap (lt eps) (sym (c .before .abs .ensures)) ∙ not-true _ (c .if1 .taken)), c .before .before .before .before .before .before .pre .1)
+    let s = c .before .before .before .before .before .before in
+    let a = s .args in
+    let started = eventsIn (a .lambdas .now) (a .codes .now) (a .count) in
+    (search needs, lines-none (a .axis) (a .along) (a .across) (a .a) (a .b) started (changed (c .before)) (failed (ap (lt eps) (c .before .abs .ensures)) (c .if1 .taken)), s .pre .1)
 
 loop-holds : tie.Need-loop-holds Inv-loop μ-loop
 unfolding eps
 loop-holds c =
-    let a = c .before .before .before .before .before .before .args in
-    (search needs, search needs, search needs, search needs, lines-start (a .axis) (a .along) (a .across) (a .a) (a .b) (eventsIn (a .lambdas .now) (a .codes .now) (a .count)) (changed (c .before)) (ap (lt eps) (sym (c .before .abs .ensures)) ∙ not-false _ (c .if1 .left)), c .before .before .before .before .before .before .pre .1)
+    let s = c .before .before .before .before .before .before in
+    let a = s .args in
+    let started = eventsIn (a .lambdas .now) (a .codes .now) (a .count) in (
+      search needs,
+      search needs,
+      search needs,
+      search needs,
+      lines-start (a .axis) (a .along) (a .across) (a .a) (a .b) started (changed (c .before)) (held (ap (lt eps) (c .before .abs .ensures)) (c .if1 .left)),
+      s .pre .1,
+    )
 
 loop-again : tie.Need-loop-again Inv-loop μ-loop
 loop-again c =
     let t = c .before .before .before in
     let l = t .before .loop in
-    let a = c .before .before .before .before .before .before .before .before .before .before .before .args in (
+    let a = t .before .before .before .before .before .before .before .before .args in (
       search needs,
       search needs,
       search needs,
@@ -56,27 +66,29 @@ insert-event-requires : tie.Need-insert-event-requires Inv-loop μ-loop
 insert-event-requires c κs =
     let e = c .before .before .before in
     let t = e .before .before .before in
-    let s = c .before .before .before .before .before .before .before .before .before .before .before .before .before .before in (
+    let l = t .before .loop in
+    let s = t .before .before .before .before .before .before .before .before in
+    let a = s .args in (
       search needs,
       search needs,
-      if-event Storable (e .event .given .1)
-          (line-storable (s .args .axis) (s .args .along) (s .args .across) (s .args .a) (s .args .b) (t .before .loop .step) (s .pre .0 .u-steps) (t .loop-test .taken) (e .before .before .line-candidate .ensures)),
-      t .before .loop .inv .5,
+      if-event Storable (e .event .given .1) (line-storable (a .axis) (a .along) (a .across) (a .a) (a .b) (l .step) (s .pre .0 .u-steps) (t .loop-test .taken) (e .before .before .line-candidate .ensures)),
+      l .inv .5,
     )
 
 loop-again-2 : tie.Need-loop-again-2 Inv-loop μ-loop
 loop-again-2 c =
+    let p = c .before .before .before .before .insert-event in
     let e = c .before .before .before .before .before .before .before .before in
     let t = e .before .before .before in
     let l = t .before .loop in
-    let a = c .before .before .before .before .before .before .before .before .before .before .before .before .before .before .before .before .before .before .before .args in (
+    let a = t .before .before .before .before .before .before .before .before .args in (
       search needs,
       search needs,
       search needs,
       search needs,
       gather-turn (lineCandidate (a .axis) (a .across) (a .a) (a .b)) (a .along + 1) (l .step) (eventsIn (l .lambdas) (l .codes) (l .total)) (l .inv .4) (t .loop-test .taken)
-          (e .before .before .line-candidate .ensures) (push-yes _ (e .event .given .1) (c .before .before .before .before .insert-event .ensures .0)),
-      c .before .before .before .before .insert-event .ensures .1,
+          (e .before .before .line-candidate .ensures) (push-yes _ (e .event .given .1) (p .ensures .0)),
+      p .ensures .1,
     )
 
 returns-2 : tie.Need-returns-2 Inv-loop μ-loop
