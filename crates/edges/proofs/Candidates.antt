@@ -1,5 +1,5 @@
 -- `edgeAtPoint` and the candidates by what the code found, each fact an argument. Assumes nothing.
-use mathlib.Core.Path.{_≡_, sym, ap, _∙_}
+use mathlib.Core.Path.{_≡_, sym, _∙_}
 use mathlib.Core.Bool.{true, false}
 use Prim.Native.Nat.{ℕ}
 use lib.Ieee.{Float, binary64, sub}
@@ -60,9 +60,7 @@ module _ (a b : ParamPoint) {L r : NormalizedLambda} (e : r ≡ L) where
   module _ {l : Float} {q : ParamPoint} (h : r ≡ Lambda l) (k : q ≡ lerp a b l) where
     pub line-on : (x : Axis) (n step : ℕ) {y : Float} {s : ParamEdge} {c : Candidate} → y ≡ across x q → s ≡ lineAt x step → c ≡ onLine y n (event l s) → c ≡ lineCrossing x n a b step L
     unfolding lineCrossing
-    line-on x n step {y} {s} hy hs t =
-        rw (sym e ∙ h)
-        (t ∙ ap (λ (z : Float). onLine z n (event l s)) (hy ∙ ap (across x) k) ∙ ap (λ (z : ParamEdge). onLine (across x (lerp a b l)) n (event l z)) hs)
+    line-on x n step hy hs t = rw (sym e ∙ h, ← k, ← hy, ← hs) t
 
     pub crossing-out : (m n : ℕ) → paramInBounds m n q ≡ false → NoEvent ≡ diagonalCrossing m n a b L
     unfolding diagonalCrossing

@@ -1,5 +1,5 @@
 -- `indexOf` by the tests of the code, on signed numbers; `tryCell` and `diagonalCellAt` by what the code found; and a diagonal's cell is in the grid. Assumes nothing.
-use mathlib.Core.Path.{_≡_, refl, sym, _∙_, subst}
+use mathlib.Core.Path.{_≡_, refl, sym, _∙_}
 use Prim.Native.Nat.{ℕ, zero, suc, _≤_, _<_}
 use native.Mathlib.Nat.{lt-of-le-of-lt, le-suc}
 use native.Mathlib.Omega.{arith}
@@ -71,7 +71,7 @@ before-out (pos (suc k)) n h = absurd (no-one k h)
 before-out (negsuc k) n h = refl
 
 pub before-fits : (z : ℤ) → leZ (pos 1) z ≡ true → SFits w64 z → SFits w64 (z -ℤ pos 1)
-before-fits z h s = subst (λ (y : ℤ). SFits w64 y) (sym (-ℤ-one z)) (go z h s)
+before-fits z h s = rw -ℤ-one (go z h s)
   where
     go : (y : ℤ) → leZ (pos 1) y ≡ true → SFits w64 y → SFits w64 (predℤ y)
     go (pos zero) g t = absurd (true≢false (sym g))
@@ -132,7 +132,7 @@ module _ {p : ParamPoint} {u0 u1 v0 v1 : CellIndex} {w : DiagonalCell} (h : Firs
     fourth-left c d = d ∙ sym (h .in-order ∙ rw (ab .0, ab .1, c))
 
 -- ---- the cell is in the grid
-abbrev pub IndexBelow : ℕ → CellIndex → Type 0
+abbrev IndexBelow : ℕ → CellIndex → Type 0
 IndexBelow n (Index k) = k < n
 IndexBelow n Outside = Unit
 
@@ -142,7 +142,7 @@ CellInside m n NoCell = Unit
 
 index-below : (z : ℤ) (n : ℕ) → IndexBelow n (indexOf z n)
 unfolding indexOf
-index-below (pos k) n = cond-case (IndexBelow n) (ltb k n) _ Outside (λ t. ltb-true k n t) (λ t. tt)
+index-below (pos k) n = cond-case (IndexBelow n) (ltb k n) _ Outside (ltb-true k n) (λ t. tt)
 index-below (negsuc k) n = tt
 
 try-inside : (p : ParamPoint) (i j : CellIndex) (m n : ℕ) → IndexBelow m i → IndexBelow n j → CellInside m n (tryCell p i j)

@@ -1,5 +1,5 @@
 -- Events in order: an insertion keeps them so, and an event goes to the place that is after what it does not precede and before what it precedes. Assumes nothing.
-use mathlib.Core.Path.{_≡_, refl, sym, ap, _∙_, subst, subst⁻¹}
+use mathlib.Core.Path.{_≡_, refl, sym, ap, _∙_}
 use mathlib.Core.Bool.{Bool, true, false, true≢false}
 use mathlib.Core.List.{List, [], _∷_}
 use Prim.Native.Nat.{ℕ, zero, suc, _+_, _≤_, _<_}
@@ -60,7 +60,7 @@ pub sorted-none : Sorted []
 sorted-none = record { ascend = tt; storable = tt }
 
 pub sorted-insert : (e : EdgeEvent) (acc : List EdgeEvent) {r : List EdgeEvent} → Storable e → Sorted acc → r ≡ insert e acc → Sorted r
-sorted-insert e acc h s q = subst⁻¹ Sorted q (record { ascend = insert-ascends e acc (s .ascend); storable = each-insert Storable e acc h (s .storable) })
+sorted-insert e acc h s q = rw q (record { ascend = insert-ascends e acc (s .ascend); storable = each-insert Storable e acc h (s .storable) })
 
 -- ---- a place that is after what l does not precede
 module _ (l : Float) (ls : List Float) where
@@ -71,7 +71,7 @@ module _ (l : Float) (ls : List Float) where
   after-none i h = absurd (omega arith)
 
   pub after-this : (k p : ℕ) → k + 1 ≡ p → precedes (totalOrder l (getD ls k nan)) ≡ false → After p
-  after-this k p e t i h = let q : k ≡ i = omega arith in subst (λ (j : ℕ). precedes (totalOrder l (getD ls j nan)) ≡ false) q t
+  after-this k p e t i h = let q : k ≡ i = omega arith in rw q at t
 
 -- ---- the place of an event
 tail-ascends : (x : Float) (es : List EdgeEvent) → AscendFrom x es → Ascend es
@@ -105,5 +105,5 @@ placed e ls cs n p q h k s f =
     let d : EdgeEvent = eventOf nan 0 in
     let m : length (eventsIn ls cs n) ≡ n = events-length ls cs n q h in
     put-inserts e d k (eventsIn ls cs n) p (s .ascend) (s .storable) (omega (arith, f .most))
-    (λ i g. subst (λ (x : EdgeEvent). precedes (totalOrder (e .lambda) (x .lambda)) ≡ false) (event-in ls cs n i d q h (omega (arith, f .most))) (f .after i g))
-    (λ g. subst (λ (x : EdgeEvent). precedes (totalOrder (e .lambda) (x .lambda)) ≡ true) (event-in ls cs n p d q h (omega arith)) (f .before (omega arith)))
+    (λ i g. rw (← event-in ls cs n i d q h (omega (arith, f .most))) (f .after i g))
+    (λ g. rw (← event-in ls cs n p d q h (omega arith)) (f .before (omega arith)))

@@ -1,5 +1,5 @@
 -- Every candidate that the code finds, on a grid of at most 255 steps, is an event that the lists take. Assumes nothing.
-use mathlib.Core.Path.{_≡_, ap, _∙_, subst⁻¹}
+use mathlib.Core.Path.{_≡_, ap, _∙_}
 use Prim.Native.Nat.{ℕ, _+_, _≤_, _<_}
 use native.Mathlib.Omega.{arith}
 use native.Mathlib.Nat.{le-trans, lt-of-lt-of-le}
@@ -29,7 +29,7 @@ wider m n (Diagonal u v) hm hn h = (lt-of-lt-of-le (h .0) hm, lt-of-lt-of-le (h 
 -- the candidate c that the code found
 module _ (m n : ℕ) (hm : m ≤ 255) (hn : n ≤ 255) {c : Candidate} where
   is-storable : {d : Candidate} → c ≡ d → IfEvent (OnGrid m n) d → IfEvent OnStep d → IfEvent Storable c
-  is-storable {d} q h k = subst⁻¹ (λ (x : Candidate). IfEvent Storable x) q (go d h k)
+  is-storable {d} q h k = rw q (go d h k)
     where
       go : (x : Candidate) → IfEvent (OnGrid m n) x → IfEvent OnStep x → IfEvent Storable x
       go (Event e) g s = (wider m n (e .edge) hm hn g, le-not-nan zero64 (e .lambda) (s .0) .1)

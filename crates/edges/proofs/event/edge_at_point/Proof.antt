@@ -1,17 +1,17 @@
 -- `edges::event::edge_at_point` meets its contract: the first test that finds a side decides. Assumes nothing.
 use mathlib.Core.Path.{_≡_, sym, _∙_}
 use mathlib.Core.Bool.{true}
+use Rattle.float.proofs.Tests.{held, failed}
 use Rattle.edges.specs.declared.point.WholeStep.the-variants.{Between}
 use Rattle.edges.specs.Param.{paramInBounds, integerStep}
 use Rattle.edges.proofs.Candidates.{edge-out, edge-u, edge-v, edge-diagonal, edge-none}
-use borrow.Author.Tests.{not-true, not-false}
 use borrow.Author.Needs.{needs}
 use Rattle.edges.proofs.event.edge_at_point.Statement.{statement}
 use Rattle.edges.proofs.event.edge_at_point.Tie as tie
 
 -- what the tests that failed on the way say
 inside : (c : tie.Else1) → let a = c .before .before .args in paramInBounds (a .m) (a .n) (a .point) ≡ true
-inside c = sym (c .before .param-in-bounds .ensures) ∙ not-false _ (c .if1 .left)
+inside c = held (c .before .param-in-bounds .ensures) (c .if1 .left)
 
 no-u : (c : tie.After-enum-told) → let a = c .before .before .before .before .before .args in integerStep (a .point .u) (a .m) ≡ Between
 no-u c = sym (c .before .before .integer-step .ensures) ∙ c .enum-told .given .1
@@ -20,7 +20,7 @@ no-v : (c : tie.After-enum-told2) → let a = c .before .before .before .before 
 no-v c = sym (c .before .before .integer-step2 .ensures) ∙ c .enum-told2 .given .1
 
 returns : tie.Need-returns
-returns c = let a = c .before .before .args in edge-out (a .m) (a .n) (a .point) (sym (c .before .param-in-bounds .ensures) ∙ not-true _ (c .if1 .taken))
+returns c = let a = c .before .before .args in edge-out (a .m) (a .n) (a .point) (failed (c .before .param-in-bounds .ensures) (c .if1 .taken))
 
 returns-2 : tie.Need-returns-2
 returns-2 c =
