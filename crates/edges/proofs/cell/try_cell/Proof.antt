@@ -8,13 +8,15 @@ use Rattle.edges.proofs.cell.try_cell.Tie as tie
 
 returns : tie.Need-returns
 returns c =
-    try-yes (c .before .before .before .before .before .before .before .before .args .point) (c .before .before .before .before .before .before .i .given .1) (c .before .before .before .j .given .1)
-    (sym (c .before .on-diagonal .ensures) ∙ c .if1 .taken)
+    let j = c .before .before .before in
+    let i = j .before .before .before in
+    try-yes (i .before .before .args .point) (i .i .given .1) (j .j .given .1) (sym (c .before .on-diagonal .ensures) ∙ c .if1 .taken)
 
 returns-2 : tie.Need-returns-2
 returns-2 c =
-    try-no (c .before .before .before .before .before .before .before .before .args .point) (c .before .before .before .before .before .before .i .given .1) (c .before .before .before .j .given .1)
-    (sym (c .before .on-diagonal .ensures) ∙ c .if1 .left)
+    let j = c .before .before .before in
+    let i = j .before .before .before in
+    try-no (i .before .before .args .point) (i .i .given .1) (j .j .given .1) (sym (c .before .on-diagonal .ensures) ∙ c .if1 .left)
 
 returns-3 : tie.Need-returns-3
 unfolding tryCell
