@@ -96,7 +96,7 @@ module _ (e d : EdgeEvent) (n : Storable e) where
   put-inserts (x ∷ xs) zero a s l f g = let t : ahead x ≡ true = g (omega arith) in rw t
   put-inserts (x ∷ xs) (suc p) a s l f g =
       let t : ahead x ≡ false = not-before x xs p s a (omega arith) (f p (omega arith)) in
-      rw t (ap (λ (r : List EdgeEvent). x ∷ r) (put-inserts xs p (tail-ascends (x .lambda) xs a) (s .1) (omega arith) (λ i h. f (suc i) (omega arith)) (λ h. g (omega arith))))
+      rw (t, put-inserts xs p (tail-ascends (x .lambda) xs a) (s .1) (omega arith) (λ i h. f (suc i) (omega arith)) (λ h. g (omega arith)))
 
 -- e put where the search found its lambda's place among the lambdas
 pub placed : (e : EdgeEvent) (ls : List Float) (cs : List ℕ) (n p : ℕ) → length ls ≡ length cs → n ≤ length ls → Storable e → Sorted (eventsIn ls cs n) → PlaceOf (e .lambda) ls n p →

@@ -23,7 +23,7 @@ held-set [] [] i x y e = refl
 held-set [] (c ∷ cs) i x y e = absurd (omega arith)
 held-set (l ∷ ls) [] i x y e = absurd (omega arith)
 held-set (l ∷ ls) (c ∷ cs) zero x y e = refl
-held-set (l ∷ ls) (c ∷ cs) (suc i) x y e = ap (λ (r : List EdgeEvent). eventOf l c ∷ r) (held-set ls cs i x y (omega arith))
+held-set (l ∷ ls) (c ∷ cs) (suc i) x y e = rw (held-set ls cs i x y (omega arith))
 
 pub held-at : (ls : List Float) (cs : List ℕ) (i : ℕ) (d : EdgeEvent) → length ls ≡ length cs → i < length ls → getD (held ls cs) i d ≡ eventOf (getD ls i nan) (getD cs i 0)
 unfolding held
@@ -90,14 +90,14 @@ held-put zero x y ls cs e = refl
 held-put (suc p) x y [] [] e = refl
 held-put (suc p) x y [] (c ∷ cs) e = absurd (omega arith)
 held-put (suc p) x y (l ∷ ls) [] e = absurd (omega arith)
-held-put (suc p) x y (l ∷ ls) (c ∷ cs) e = ap (λ (r : List EdgeEvent). eventOf l c ∷ r) (held-put p x y ls cs (omega arith))
+held-put (suc p) x y (l ∷ ls) (c ∷ cs) e = rw (held-put p x y ls cs (omega arith))
 
 held-take : (n : ℕ) (ls : List Float) (cs : List ℕ) → take n (held ls cs) ≡ held (take n ls) (take n cs)
 unfolding held
 held-take zero ls cs = refl
 held-take (suc n) [] cs = refl
 held-take (suc n) (l ∷ ls) [] = refl
-held-take (suc n) (l ∷ ls) (c ∷ cs) = ap (λ (r : List EdgeEvent). eventOf l c ∷ r) (held-take n ls cs)
+held-take (suc n) (l ∷ ls) (c ∷ cs) = rw (held-take n ls cs)
 
 pub events-put : (ls : List Float) (cs : List ℕ) (n p : ℕ) (x : Float) (y : ℕ) (ms : List Float) (ds : List ℕ) → length ls ≡ length cs → n ≤ length ls →
     take (n + 1) ms ≡ putAt p x (take n ls) → take (n + 1) ds ≡ putAt p y (take n cs) → eventsIn ms ds (n + 1) ≡ putAt p (eventOf x y) (eventsIn ls cs n)
