@@ -2,8 +2,9 @@
 use mathlib.Core.Path.{_≡_, refl, ap, sym, _∙_}
 use mathlib.Core.Bool.{true, false}
 use mathlib.Core.List.{List, [], _∷_, _++_}
-use Prim.Native.Nat.{ℕ, suc, _+_, _-_, _<_, _≤_}
+use Prim.Native.Nat.{ℕ, suc, _+_, _-_, _<_, _≤_, max}
 use native.Mathlib.Omega.{arith}
+use lib.ListN.{length}
 use lib.Ieee.{Float, binary64, sub}
 use Rattle.float.specs.Consts.{zero64, one64}
 use Rattle.edges.specs.declared.point.ParamPoint.{ParamPoint}
@@ -15,6 +16,7 @@ use Rattle.edges.specs.declared.event.Candidate.the-variants.{Event, NoE
 use Rattle.edges.specs.declared.event.EdgeAtPoint.{EdgeAtPoint}
 use Rattle.edges.specs.Param.{along}
 use Rattle.edges.specs.Events.{edgeAtPoint, endCandidate, change, lineCandidate, changeOfSum, diagonalCandidate, moves, listed, listFrom, firstSum, pastSum, ends, lines, diagonals, candidates, insert, pushed, sortInto, IfEvent}
+use Rattle.edges.specs.Scratch.{eventsIn, Sorted}
 
 pub if-event : (P : EdgeEvent → Type 0) {c : Candidate} {e : EdgeEvent} → c ≡ Event e → IfEvent P c → P e
 if-event P q h = rw q at h
@@ -36,20 +38,35 @@ unfolding sortInto
 sort-append [] ys acc = refl
 sort-append (x ∷ xs) ys acc = sort-append xs ys (insert x acc)
 
--- ---- the candidates of a loop: from number i up to, and without, `end`
-abbrev pub gathering : (ℕ → Candidate) → ℕ → ℕ → List EdgeEvent → List EdgeEvent
-gathering f end i acc = sortInto (listFrom f (end - i) i) acc
+-- ---- a loop over the candidates of numbers from `first` up to, and without, `end`: so far those below i are sorted in, and with the others they give the whole
+pub record Gathering (f : ℕ → Candidate) (first end : ℕ) (whole : List EdgeEvent) (count : ℕ) (ls : List Float) (cs : List ℕ) (total i : ℕ) : Type 0 where
+  pub from : first ≤ i
+  pub to : i ≤ max first end
+  pub few : total + first ≤ count + i
+  pub lambdas-length : length ls ≡ 1023
+  pub codes-length : length cs ≡ 1023
+  pub left : whole ≡ sortInto (listFrom f (end - i) i) (eventsIn ls cs total)
+  pub sorted : Sorted (eventsIn ls cs total)
 
-module _ (f : ℕ → Candidate) (end i : ℕ) (acc : List EdgeEvent) {w : List EdgeEvent} (q : w ≡ gathering f end i acc) where
-  pub gather-turn : i < end → {c : Candidate} {r : List EdgeEvent} → c ≡ f i → r ≡ pushed c acc → w ≡ gathering f end (i + 1) r
+module _ {f : ℕ → Candidate} {first end : ℕ} {whole : List EdgeEvent} {count : ℕ} {ls : List Float} {cs : List ℕ} {total i : ℕ} (g : Gathering f first end whole count ls cs total i) where
+  pub gather-turn : i < end → {c : Candidate} {ms : List Float} {ds : List ℕ} {r : ℕ} → c ≡ f i → length ms ≡ 1023 → length ds ≡ 1023 →
+      (r ≤ total + 1) × (eventsIn ms ds r ≡ pushed c (eventsIn ls cs total)) × Sorted (eventsIn ms ds r) → Gathering f first end whole count ms ds r (i + 1)
   unfolding listFrom
-  gather-turn h p t =
+  gather-turn h p hl hc t =
       let s : end - i ≡ suc (end - (i + 1)) = omega arith in
-      rw (q, s, sort-listed, t, p)
+      record {
+        from = omega arith;
+        to = omega arith;
+        few = omega arith;
+        lambdas-length = hl;
+        codes-length = hc;
+        left = rw (g .left, s, sort-listed, t .1, p);
+        sorted = t .2;
+      }
 
-  pub gather-ends : end ≤ i → acc ≡ w
+  pub gather-ends : end ≤ i → eventsIn ls cs total ≡ whole
   unfolding listFrom sortInto
-  gather-ends h = let s : end - i ≡ 0 = omega arith in rw (q, s)
+  gather-ends h = let s : end - i ≡ 0 = omega arith in rw (g .left, s)
 
 -- ---- the lines of an axis, d being by how much it was found to change, from the coordinates s and t of the ends
 pub changes : (x : Axis) (a b : ParamPoint) {s t : Float} → s ≡ along x b → t ≡ along x a → sub binary64 s t ≡ change x a b
@@ -60,7 +77,7 @@ module _ (x : Axis) (m n : ℕ) (a b : ParamPoint) (acc : List EdgeEvent) {d : F
   unfolding lines sortInto
   lines-none h = rw (ap moves (sym e) ∙ h)
 
-  pub lines-start : moves d ≡ true → sortInto (lines x m n a b) acc ≡ gathering (lineCandidate x n a b) (m + 1) 0 acc
+  pub lines-start : moves d ≡ true → sortInto (lines x m n a b) acc ≡ sortInto (listFrom (lineCandidate x n a b) (m + 1 - 0) 0) acc
   unfolding lines
   lines-start h = let all : m + 1 - 0 ≡ m + 1 = omega arith in rw (ap moves (sym e) ∙ h, all)
 
@@ -77,7 +94,7 @@ module _ (m n : ℕ) (a b : ParamPoint) where
     diagonals-none h = rw h
 
     pub diagonals-start : moves (changeOfSum a b) ≡ true → {first past : ℕ} → first ≡ firstSum a b → past ≡ pastSum m n a b →
-        sortInto (diagonals m n a b) acc ≡ gathering (diagonalCandidate m n a b) past first acc
+        sortInto (diagonals m n a b) acc ≡ sortInto (listFrom (diagonalCandidate m n a b) (past - first) first) acc
     unfolding diagonals
     diagonals-start h p q = rw (h, p, q)
 

@@ -1,23 +1,21 @@
 -- `edges::sorted::push_diagonals` meets its contract: the diagonals from sum on, sorted into the events so far, give what is asked. Assumes nothing.
-use mathlib.Core.Path.{_≡_, ap}
-use Prim.Native.Nat.{_≤_, _+_, _-_, max}
-use lib.ListN.{length}
+use mathlib.Core.Path.{ap}
+use Prim.Native.Nat.{_≤_, _+_, _-_}
 use lib.Ieee.{lt}
 use Rattle.float.specs.Consts.{eps}
 use Rattle.float.proofs.Tests.{held, failed}
 use Rattle.edges.specs.Events.{diagonalCandidate, diagonals, sortInto}
-use Rattle.edges.specs.Scratch.{eventsIn, Sorted}
+use Rattle.edges.specs.Scratch.{eventsIn}
 use Rattle.edges.proofs.Storable.{diagonal-storable}
-use Rattle.edges.proofs.Gather.{gathering, gather-turn, gather-ends, diagonals-none, diagonals-start, first-from, past-to}
+use Rattle.edges.proofs.Gather.{Gathering, gather-turn, gather-ends, diagonals-none, diagonals-start, first-from, past-to}
 use borrow.Author.Needs.{needs}
 use Rattle.edges.proofs.sorted.push_diagonals.Statement.{statement}
 use Rattle.edges.proofs.sorted.push_diagonals.Tie as tie
 
 abbrev Inv-loop : tie.InvT-loop
 Inv-loop lambdas₀ codes₀ count m n a b total₀ first past sum₀ lambdas codes total sum =
-    (1 ≤ first) × (past ≤ m + n) × (first ≤ sum) × (sum ≤ max first past) × (total + first ≤ count + sum) × (length lambdas ≡ 1023) × (length codes ≡ 1023)
-    × (sortInto (diagonals m n a b) (eventsIn lambdas₀ codes₀ count) ≡ gathering (diagonalCandidate m n a b) past sum (eventsIn lambdas codes total))
-    × Sorted (eventsIn lambdas codes total)
+    (1 ≤ first) × (past ≤ m + n)
+    × Gathering (diagonalCandidate m n a b) first past (sortInto (diagonals m n a b) (eventsIn lambdas₀ codes₀ count)) count lambdas codes total sum
 
 abbrev μ-loop : tie.MeasureT-loop
 μ-loop lambdas₀ codes₀ count m n a b total₀ first past sum₀ lambdas codes total sum = past - sum
@@ -33,47 +31,37 @@ unfolding eps
 loop-holds c =
     let f = c .before in
     let s = f .before .before .before .before .before .before .before .before .before in
-    let a = s .args in (
+    let a = s .args in
+    let started = eventsIn (a .lambdas .now) (a .codes .now) (a .count) in (
       first-from (a .a) (a .b) (f .first-sum .ensures),
       past-to (a .m) (a .n) (a .a) (a .b) (c .past-sum .ensures),
-      search needs,
-      search needs,
-      search needs,
-      search needs,
-      search needs,
-      diagonals-start (a .m) (a .n) (a .a) (a .b) (eventsIn (a .lambdas .now) (a .codes .now) (a .count)) (held (ap (lt eps) (f .before .before .abs .ensures)) (f .before .if1 .left)) (f .first-sum .ensures) (c .past-sum .ensures),
-      s .pre .1,
+      record {
+        from = search needs;
+        to = search needs;
+        few = search needs;
+        lambdas-length = s .pre .0 .lambdas-length;
+        codes-length = s .pre .0 .codes-length;
+        left = diagonals-start (a .m) (a .n) (a .a) (a .b) started (held (ap (lt eps) (f .before .before .abs .ensures)) (f .before .if1 .left)) (f .first-sum .ensures) (c .past-sum .ensures);
+        sorted = s .pre .1;
+      },
     )
 
 push-candidate-requires : tie.Need-push-candidate-requires Inv-loop μ-loop
 push-candidate-requires c κs =
     let l = c .before .before .before .before in
     let s = l .before .before .before .before .before .before .before .before .before .before .before in
-    (search needs, search needs, diagonal-storable (s .args .m) (s .args .n) (s .pre .0 .u-steps) (s .pre .0 .v-steps) (s .args .a) (s .args .b) (l .loop .sum) (c .diagonal-candidate .ensures), l .loop .inv .8)
+    let a = s .args in
+    (search needs, search needs, diagonal-storable (a .m) (a .n) (s .pre .0 .u-steps) (s .pre .0 .v-steps) (a .a) (a .b) (l .loop .sum) (c .diagonal-candidate .ensures), l .loop .inv .2 .sorted)
 
 loop-again : tie.Need-loop-again Inv-loop μ-loop
 loop-again c =
     let p = c .before .before .before .before in
     let t = p .before .before .before .before in
     let l = t .before .loop in
-    let a = t .before .before .before .before .before .before .before .before .before .before .before .before .args in (
-      search needs,
-      search needs,
-      search needs,
-      search needs,
-      search needs,
-      search needs,
-      search needs,
-      gather-turn (diagonalCandidate (a .m) (a .n) (a .a) (a .b)) (t .before .before .past-sum .result) (l .sum) (eventsIn (l .lambdas) (l .codes) (l .total)) (l .inv .7) (t .loop-test .taken)
-          (p .before .diagonal-candidate .ensures) (p .push-candidate .ensures .1),
-      p .push-candidate .ensures .2,
-    )
+    (l .inv .0, l .inv .1, gather-turn (l .inv .2) (t .loop-test .taken) (p .before .diagonal-candidate .ensures) (search needs) (search needs) (p .push-candidate .ensures))
 
 returns-2 : tie.Need-returns-2 Inv-loop μ-loop
-returns-2 c =
-    let l = c .before .loop in
-    let a = c .before .before .before .before .before .before .before .before .before .before .before .before .args in
-    (search needs, gather-ends (diagonalCandidate (a .m) (a .n) (a .a) (a .b)) (c .before .before .past-sum .result) (l .sum) (eventsIn (l .lambdas) (l .codes) (l .total)) (l .inv .7) (c .loop-test .left))
+returns-2 c = (search needs, gather-ends (c .before .loop .inv .2) (c .loop-test .left))
 
 pub push-diagonals-spec : {M : Type 1} → statement M
 push-diagonals-spec =

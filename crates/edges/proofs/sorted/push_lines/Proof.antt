@@ -1,23 +1,20 @@
 -- `edges::sorted::push_lines` meets its contract: the lines from `step` on, sorted into the events so far, give what is asked. Assumes nothing.
 use mathlib.Core.Path.{_≡_, ap}
-use Prim.Native.Nat.{_≤_, _+_, _-_}
-use lib.ListN.{length}
+use Prim.Native.Nat.{_-_}
 use lib.Ieee.{binary64, lt, sub}
 use Rattle.float.specs.Consts.{eps}
 use Rattle.float.proofs.Tests.{held, failed}
 use Rattle.edges.specs.Events.{change, lineCandidate, lines, sortInto}
-use Rattle.edges.specs.Scratch.{eventsIn, Storable, Sorted}
+use Rattle.edges.specs.Scratch.{eventsIn, Storable}
 use Rattle.edges.proofs.Storable.{line-storable}
-use Rattle.edges.proofs.Gather.{if-event, push-yes, push-no, gathering, gather-turn, gather-ends, changes, lines-none, lines-start}
+use Rattle.edges.proofs.Gather.{if-event, push-yes, push-no, Gathering, gather-turn, gather-ends, changes, lines-none, lines-start}
 use borrow.Author.Needs.{needs}
 use Rattle.edges.proofs.sorted.push_lines.Statement.{statement}
 use Rattle.edges.proofs.sorted.push_lines.Tie as tie
 
 abbrev Inv-loop : tie.InvT-loop
 Inv-loop lambdas₀ codes₀ count axis along across a b total₀ step₀ step-end lambdas codes total step =
-    (step ≤ step-end) × (total ≤ count + step) × (length lambdas ≡ 1023) × (length codes ≡ 1023)
-    × (sortInto (lines axis along across a b) (eventsIn lambdas₀ codes₀ count) ≡ gathering (lineCandidate axis across a b) step-end step (eventsIn lambdas codes total))
-    × Sorted (eventsIn lambdas codes total)
+    Gathering (lineCandidate axis across a b) 0 step-end (sortInto (lines axis along across a b) (eventsIn lambdas₀ codes₀ count)) count lambdas codes total step
 
 abbrev μ-loop : tie.MeasureT-loop
 μ-loop lambdas₀ codes₀ count axis along across a b total₀ step₀ step-end lambdas codes total step = step-end - step
@@ -39,28 +36,22 @@ unfolding eps
 loop-holds c =
     let s = c .before .before .before .before .before .before in
     let a = s .args in
-    let started = eventsIn (a .lambdas .now) (a .codes .now) (a .count) in (
-      search needs,
-      search needs,
-      search needs,
-      search needs,
-      lines-start (a .axis) (a .along) (a .across) (a .a) (a .b) started (changed (c .before)) (held (ap (lt eps) (c .before .abs .ensures)) (c .if1 .left)),
-      s .pre .1,
-    )
+    let started = eventsIn (a .lambdas .now) (a .codes .now) (a .count) in
+    record {
+      from = search needs;
+      to = search needs;
+      few = search needs;
+      lambdas-length = s .pre .0 .lambdas-length;
+      codes-length = s .pre .0 .codes-length;
+      left = lines-start (a .axis) (a .along) (a .across) (a .a) (a .b) started (changed (c .before)) (held (ap (lt eps) (c .before .abs .ensures)) (c .if1 .left));
+      sorted = s .pre .1;
+    }
 
 loop-again : tie.Need-loop-again Inv-loop μ-loop
 loop-again c =
     let t = c .before .before .before in
-    let l = t .before .loop in
-    let a = t .before .before .before .before .before .before .before .before .args in (
-      search needs,
-      search needs,
-      search needs,
-      search needs,
-      gather-turn (lineCandidate (a .axis) (a .across) (a .a) (a .b)) (a .along + 1) (l .step) (eventsIn (l .lambdas) (l .codes) (l .total)) (l .inv .4) (t .loop-test .taken)
-          (c .before .before .line-candidate .ensures) (push-no _ (c .enum-told .given .1)),
-      l .inv .5,
-    )
+    let g = t .before .loop .inv in
+    gather-turn g (t .loop-test .taken) (c .before .before .line-candidate .ensures) (g .lambdas-length) (g .codes-length) (search needs, push-no _ (c .enum-told .given .1), g .sorted)
 
 insert-event-requires : tie.Need-insert-event-requires Inv-loop μ-loop
 insert-event-requires c κs =
@@ -72,7 +63,7 @@ insert-event-requires c κs =
       search needs,
       search needs,
       if-event Storable (e .event .given .1) (line-storable (a .axis) (a .along) (a .across) (a .a) (a .b) (l .step) (s .pre .0 .u-steps) (t .loop-test .taken) (e .before .before .line-candidate .ensures)),
-      l .inv .5,
+      l .inv .sorted,
     )
 
 loop-again-2 : tie.Need-loop-again-2 Inv-loop μ-loop
@@ -80,22 +71,10 @@ loop-again-2 c =
     let p = c .before .before .before .before .insert-event in
     let e = c .before .before .before .before .before .before .before .before in
     let t = e .before .before .before in
-    let l = t .before .loop in
-    let a = t .before .before .before .before .before .before .before .before .args in (
-      search needs,
-      search needs,
-      search needs,
-      search needs,
-      gather-turn (lineCandidate (a .axis) (a .across) (a .a) (a .b)) (a .along + 1) (l .step) (eventsIn (l .lambdas) (l .codes) (l .total)) (l .inv .4) (t .loop-test .taken)
-          (e .before .before .line-candidate .ensures) (push-yes _ (e .event .given .1) (p .ensures .0)),
-      p .ensures .1,
-    )
+    gather-turn (t .before .loop .inv) (t .loop-test .taken) (e .before .before .line-candidate .ensures) (search needs) (search needs) (search needs, push-yes _ (e .event .given .1) (p .ensures .0), p .ensures .1)
 
 returns-2 : tie.Need-returns-2 Inv-loop μ-loop
-returns-2 c =
-    let l = c .before .loop in
-    let a = c .before .before .before .before .before .before .before .before .args in
-    (search needs, gather-ends (lineCandidate (a .axis) (a .across) (a .a) (a .b)) (a .along + 1) (l .step) (eventsIn (l .lambdas) (l .codes) (l .total)) (l .inv .4) (c .loop-test .left), l .inv .5)
+returns-2 c = let g = c .before .loop .inv in (search needs, gather-ends g (c .loop-test .left), g .sorted)
 
 pub push-lines-spec : {M : Type 1} → statement M
 push-lines-spec =
