@@ -1,11 +1,11 @@
 -- Candidates are sorted in one by one: what remains to be sorted into the events that stand there gives the whole. Assumes nothing.
-use mathlib.Core.Path.{_≡_, refl, ap, sym, _∙_}
+use mathlib.Core.Path.{_≡_, refl}
 use mathlib.Core.Bool.{true, false}
 use mathlib.Core.List.{List, [], _∷_, _++_}
 use Prim.Native.Nat.{ℕ, suc, _+_, _-_, _<_, _≤_, max}
 use native.Mathlib.Omega.{arith}
 use lib.ListN.{length}
-use lib.Ieee.{Float, binary64, sub}
+use lib.Ieee.{Float}
 use Rattle.float.specs.Consts.{zero64, one64}
 use Rattle.edges.specs.declared.point.ParamPoint.{ParamPoint}
 use Rattle.edges.specs.declared.point.Axis.{Axis}
@@ -14,10 +14,10 @@ use Rattle.edges.specs.declared.event.EdgeEvent.{EdgeEvent}
 use Rattle.edges.specs.declared.event.Candidate.{Candidate}
 use Rattle.edges.specs.declared.event.Candidate.the-variants.{Event, NoEvent}
 use Rattle.edges.specs.declared.event.EdgeAtPoint.{EdgeAtPoint}
-use Rattle.edges.specs.Param.{along}
 use Rattle.edges.specs.Events.{edgeAtPoint, endCandidate, change, lineCandidate, changeOfSum, diagonalCandidate, moves, listed, listFrom, firstSum, pastSum, ends, lines, diagonals, candidates, insert, pushed, sortInto, IfEvent}
 use Rattle.edges.specs.Scratch.{eventsIn, Sorted}
 
+-- ---- a candidate by what the code found
 pub if-event : (P : EdgeEvent → Type 0) {c : Candidate} {e : EdgeEvent} → c ≡ Event e → IfEvent P c → P e
 if-event P q h = rw q at h
 
@@ -28,7 +28,7 @@ pub push-no : {c : Candidate} (acc : List EdgeEvent) → c ≡ NoEvent → acc �
 push-no acc q = rw q
 
 -- ---- one candidate, then the rest
-pub sort-listed : (c : Candidate) (rest acc : List EdgeEvent) → sortInto (listed c rest) acc ≡ sortInto rest (pushed c acc)
+sort-listed : (c : Candidate) (rest acc : List EdgeEvent) → sortInto (listed c rest) acc ≡ sortInto rest (pushed c acc)
 unfolding sortInto
 sort-listed (Event e) rest acc = refl
 sort-listed NoEvent rest acc = refl
@@ -68,20 +68,16 @@ module _ {f : ℕ → Candidate} {first end : ℕ} {whole : List EdgeEvent} {cou
   unfolding listFrom sortInto
   gather-ends h = let s : end - i ≡ 0 = omega arith in rw (g .left, s)
 
--- ---- the lines of an axis, d being by how much it was found to change, from the coordinates s and t of the ends
-pub changes : (x : Axis) (a b : ParamPoint) {s t : Float} → s ≡ along x b → t ≡ along x a → sub binary64 s t ≡ change x a b
-changes x a b hs ht = rw (hs, ht)
-
-module _ (x : Axis) (m n : ℕ) (a b : ParamPoint) (acc : List EdgeEvent) {d : Float} (e : d ≡ change x a b) where
-  pub lines-none : moves d ≡ false → acc ≡ sortInto (lines x m n a b) acc
-  unfolding lines sortInto
-  lines-none h = rw (ap moves (sym e) ∙ h)
-
-  pub lines-start : moves d ≡ true → sortInto (lines x m n a b) acc ≡ sortInto (listFrom (lineCandidate x n a b) (m + 1 - 0) 0) acc
-  unfolding lines
-  lines-start h = let all : m + 1 - 0 ≡ m + 1 = omega arith in rw (ap moves (sym e) ∙ h, all)
-
 -- ---- the four groups
+module _ (x : Axis) (m n : ℕ) (a b : ParamPoint) (acc : List EdgeEvent) where
+  pub lines-none : moves (change x a b) ≡ false → acc ≡ sortInto (lines x m n a b) acc
+  unfolding lines sortInto
+  lines-none h = rw h
+
+  pub lines-start : moves (change x a b) ≡ true → sortInto (lines x m n a b) acc ≡ sortInto (listFrom (lineCandidate x n a b) (m + 1 - 0) 0) acc
+  unfolding lines
+  lines-start h = let all : m + 1 - 0 ≡ m + 1 = omega arith in rw (h, all)
+
 module _ (m n : ℕ) (a b : ParamPoint) where
   pub ends-pushed : {x y : EdgeAtPoint} {c d : Candidate} {r s : List EdgeEvent} → x ≡ edgeAtPoint m n a → y ≡ edgeAtPoint m n b → c ≡ endCandidate zero64 x → d ≡ endCandidate one64 y →
       r ≡ pushed c [] → s ≡ pushed d r → s ≡ sortInto (ends m n a b) []
@@ -101,12 +97,4 @@ module _ (m n : ℕ) (a b : ParamPoint) where
   pub groups-sorted : {r s t w : List EdgeEvent} → r ≡ sortInto (ends m n a b) [] → s ≡ sortInto (lines AxisU m n a b) r → t ≡ sortInto (lines AxisV n m a b) s → w ≡ sortInto (diagonals m n a b) t →
       w ≡ sortInto (candidates m n a b) []
   unfolding candidates
-  groups-sorted hr hs ht hw =
-      rw (hw, ht, hs, hr, sort-append, sort-append, sort-append)
-
--- ---- bounds on the sums tried
-pub first-from : (a b : ParamPoint) {first : ℕ} → first ≡ firstSum a b → 1 ≤ first
-first-from a b q = omega arith
-
-pub past-to : (m n : ℕ) (a b : ParamPoint) {past : ℕ} → past ≡ pastSum m n a b → past ≤ m + n
-past-to m n a b q = omega arith
+  groups-sorted hr hs ht hw = rw (hw, ht, hs, hr, sort-append, sort-append, sort-append)

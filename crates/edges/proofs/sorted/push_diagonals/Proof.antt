@@ -1,13 +1,14 @@
 -- `edges::sorted::push_diagonals` meets its contract: the diagonals from sum on, sorted into the events so far, give what is asked. Assumes nothing.
 use mathlib.Core.Path.{ap}
 use Prim.Native.Nat.{_≤_, _+_, _-_}
+use native.Mathlib.Omega.{arith}
 use lib.Ieee.{lt}
 use Rattle.float.specs.Consts.{eps}
 use Rattle.float.proofs.Tests.{held, failed}
 use Rattle.edges.specs.Events.{diagonalCandidate, diagonals, sortInto}
 use Rattle.edges.specs.Scratch.{eventsIn}
 use Rattle.edges.proofs.Storable.{diagonal-storable}
-use Rattle.edges.proofs.Gather.{Gathering, gather-turn, gather-ends, diagonals-none, diagonals-start, first-from, past-to}
+use Rattle.edges.proofs.Gather.{Gathering, gather-turn, gather-ends, diagonals-none, diagonals-start}
 use borrow.Author.Needs.{needs}
 use Rattle.edges.proofs.sorted.push_diagonals.Statement.{statement}
 use Rattle.edges.proofs.sorted.push_diagonals.Tie as tie
@@ -33,8 +34,8 @@ loop-holds c =
     let s = f .before .before .before .before .before .before .before .before .before in
     let a = s .args in
     let started = eventsIn (a .lambdas .now) (a .codes .now) (a .count) in (
-      first-from (a .a) (a .b) (f .first-sum .ensures),
-      past-to (a .m) (a .n) (a .a) (a .b) (c .past-sum .ensures),
+      omega (arith, f .first-sum .ensures),
+      omega (arith, c .past-sum .ensures),
       record {
         from = search needs;
         to = search needs;

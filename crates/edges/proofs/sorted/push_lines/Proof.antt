@@ -1,13 +1,13 @@
 -- `edges::sorted::push_lines` meets its contract: the lines from `step` on, sorted into the events so far, give what is asked. Assumes nothing.
-use mathlib.Core.Path.{_≡_, ap}
+use mathlib.Core.Path.{_≡_}
 use Prim.Native.Nat.{_-_}
-use lib.Ieee.{binary64, lt, sub}
+use lib.Ieee.{lt}
 use Rattle.float.specs.Consts.{eps}
 use Rattle.float.proofs.Tests.{held, failed}
-use Rattle.edges.specs.Events.{change, lineCandidate, lines, sortInto}
+use Rattle.edges.specs.Events.{change, lineCandidate, moves, lines, sortInto}
 use Rattle.edges.specs.Scratch.{eventsIn, Storable}
 use Rattle.edges.proofs.Storable.{line-storable}
-use Rattle.edges.proofs.Gather.{if-event, push-yes, push-no, Gathering, gather-turn, gather-ends, changes, lines-none, lines-start}
+use Rattle.edges.proofs.Gather.{if-event, push-yes, push-no, Gathering, gather-turn, gather-ends, lines-none, lines-start}
 use borrow.Author.Needs.{needs}
 use Rattle.edges.proofs.sorted.push_lines.Statement.{statement}
 use Rattle.edges.proofs.sorted.push_lines.Tie as tie
@@ -19,9 +19,9 @@ Inv-loop lambdas₀ codes₀ count axis along across a b total₀ step₀ step-e
 abbrev μ-loop : tie.MeasureT-loop
 μ-loop lambdas₀ codes₀ count axis along across a b total₀ step₀ step-end lambdas codes total step = step-end - step
 
--- by how much the axis changes, as it was found
-changed : (c : tie.After-abs Inv-loop μ-loop) → let a = c .before .before .before .before .before .args in sub binary64 (c .before .before .along .result) (c .before .along2 .result) ≡ change (a .axis) (a .a) (a .b)
-changed c = let a = c .before .before .before .before .before .args in changes (a .axis) (a .a) (a .b) (c .before .before .along .ensures) (c .before .along2 .ensures)
+-- what is tested is whether the axis moves
+test : (c : tie.After-abs Inv-loop μ-loop) → let a = c .before .before .before .before .before .args in lt eps (c .abs .result) ≡ moves (change (a .axis) (a .a) (a .b))
+test c = cc
 
 returns : tie.Need-returns Inv-loop μ-loop
 unfolding eps
@@ -29,7 +29,7 @@ returns c =
     let s = c .before .before .before .before .before .before in
     let a = s .args in
     let started = eventsIn (a .lambdas .now) (a .codes .now) (a .count) in
-    (search needs, lines-none (a .axis) (a .along) (a .across) (a .a) (a .b) started (changed (c .before)) (failed (ap (lt eps) (c .before .abs .ensures)) (c .if1 .taken)), s .pre .1)
+    (search needs, lines-none (a .axis) (a .along) (a .across) (a .a) (a .b) started (failed (test (c .before)) (c .if1 .taken)), s .pre .1)
 
 loop-holds : tie.Need-loop-holds Inv-loop μ-loop
 unfolding eps
@@ -43,7 +43,7 @@ loop-holds c =
       few = search needs;
       lambdas-length = s .pre .0 .lambdas-length;
       codes-length = s .pre .0 .codes-length;
-      left = lines-start (a .axis) (a .along) (a .across) (a .a) (a .b) started (changed (c .before)) (held (ap (lt eps) (c .before .abs .ensures)) (c .if1 .left));
+      left = lines-start (a .axis) (a .along) (a .across) (a .a) (a .b) started (held (test (c .before)) (c .if1 .left));
       sorted = s .pre .1;
     }
 
