@@ -18,6 +18,7 @@ use Rattle.edges.proofs.Cases.{cond-case}
 use Rattle.edges.proofs.Places.{event-in, events-length}
 use Rattle.edges.proofs.Each.{each-insert}
 
+-- ---- "precedes" is an order of lambdas
 is-less : (o : Ordering) → precedes o ≡ true → o ≡ Less
 is-less Less h = refl
 is-less Equal h = absurd (true≢false (sym h))
@@ -34,6 +35,7 @@ pub not-precedes-transitive : (x y z : Float) → isNan x ≡ false → isNan y 
     precedes (totalOrder z x) ≡ false
 not-precedes-transitive x y z nx ny nz h k = cannot _ (λ p. not-less-transitive x y z nx ny nz (not-less (totalOrder y x) h) (not-less (totalOrder z y) k) (is-less (totalOrder z x) p))
 
+-- ---- an insertion keeps the order
 insert-from : (e : EdgeEvent) (x : Float) (es : List EdgeEvent) → precedes (totalOrder (e .lambda) x) ≡ false → AscendFrom x es → AscendFrom x (insert e es)
 unfolding insert
 insert-from e x [] h k = (h, tt)
@@ -89,7 +91,9 @@ module _ (e d : EdgeEvent) (n : Storable e) where
   not-before x (y ∷ ys) (suc i) s a l h =
       not-precedes-transitive (x .lambda) (y .lambda) (e .lambda) (s .0 .1) (s .1 .0 .1) (n .1) (a .0) (not-before y ys i (s .1) (a .1) (omega arith) h)
 
-  put-inserts : (es : List EdgeEvent) (p : ℕ) → Ascend es → Each Storable es → p ≤ length es → ((i : ℕ) → i + 1 ≡ p → ahead (getD es i d) ≡ false) → (p < length es → ahead (getD es p d) ≡ true) → putAt p e es ≡ insert e es
+  -- put at a place that is after what it does not precede, and before what it precedes, it is inserted
+  put-inserts : (es : List EdgeEvent) (p : ℕ) → Ascend es → Each Storable es → p ≤ length es →
+      ((i : ℕ) → i + 1 ≡ p → ahead (getD es i d) ≡ false) → (p < length es → ahead (getD es p d) ≡ true) → putAt p e es ≡ insert e es
   unfolding insert
   put-inserts [] zero a s l f g = refl
   put-inserts [] (suc p) a s l f g = absurd (omega arith)

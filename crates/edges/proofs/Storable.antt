@@ -21,6 +21,7 @@ use Rattle.edges.specs.Scratch.{Storable}
 use Rattle.edges.proofs.Grid.{end-on-grid, line-on-grid, diagonal-on-grid}
 use Rattle.edges.proofs.Laws.{ZeroToOne, OnStep, normalized, end-on-step, line-on-step, diagonal-on-step}
 
+-- a side of a grid of at most 255 steps has a code
 wider : (m n : ℕ) (e : ParamEdge) → m ≤ 255 → n ≤ 255 → Inside m n e → Inside 255 255 e
 wider m n (U u) hm hn h = le-trans h hm
 wider m n («V» v) hm hn h = le-trans h hn

@@ -1,7 +1,6 @@
 -- `edges::cell::index_before` meets its contract: from 1 on z − 1 is formed and fits, and below 1 it is no index. Assumes nothing.
-use mathlib.Core.Path.{_≡_, sym, ap, _∙_}
+use mathlib.Core.Path.{_≡_}
 use lib.IntN.{pos, _-ℤ_}
-use lib.Signed.{leZ}
 use mir.Syntax.{w64}
 use mir.Val.{toZ, ofZ}
 use mir.ValLaws.{toZ-ofZ}
@@ -14,7 +13,7 @@ back : (c : tie.Start) → toZ w64 (ofZ w64 (c .args .z)) ≡ c .args .z
 back c = toZ-ofZ w64 (c .args .z) (c .fits .z)
 
 sub-index-of : tie.Need-sub-index-of
-sub-index-of c = rw (back (c .before)) (before-fits (c .before .args .z) (ap (leZ (pos 1)) (sym (back (c .before))) ∙ c .if1 .taken) (c .before .fits .z))
+sub-index-of c = rw (back (c .before)) (before-fits (c .before .args .z) (rw (back (c .before)) at (c .if1 .taken)) (c .before .fits .z))
 
 returns : tie.Need-returns
 returns c =
@@ -22,7 +21,7 @@ returns c =
     rw (toZ-ofZ w64 (toZ w64 (ofZ w64 (s .args .z)) -ℤ pos 1) (sub-index-of (c .before)), back s) at (c .index-of .ensures)
 
 returns-2 : tie.Need-returns-2
-returns-2 c = before-out (c .before .args .z) (c .before .args .n) (ap (leZ (pos 1)) (sym (back (c .before))) ∙ c .if1 .left)
+returns-2 c = before-out (c .before .args .z) (c .before .args .n) (rw (back (c .before)) at (c .if1 .left))
 
 pub index-before-spec : {M : Type 1} → statement M
 index-before-spec = tie.close (tie.spec sub-index-of (λ c κs. search needs) returns returns-2)

@@ -1,5 +1,5 @@
 -- `edges::cell::index_of` meets its contract: the number that the code reads back from z's bits is z, and the laws are in proofs/Index.antt. Assumes nothing.
-use mathlib.Core.Path.{_≡_, sym, ap, _∙_}
+use mathlib.Core.Path.{_≡_}
 use mathlib.Core.Bool.{true}
 use lib.IntN.{pos}
 use lib.Signed.{leZ}
@@ -14,7 +14,7 @@ back : (c : tie.Start) → toZ w64 (ofZ w64 (c .args .z)) ≡ c .args .z
 back c = toZ-ofZ w64 (c .args .z) (c .fits .z)
 
 not-below : (c : tie.Then1) → leZ (pos 0) (c .before .args .z) ≡ true
-not-below c = ap (leZ (pos 0)) (sym (back (c .before))) ∙ c .if1 .taken
+not-below c = rw (back (c .before)) at (c .if1 .taken)
 
 cast-k : tie.Need-cast-k
 cast-k c = rw (back (c .before)) (nonneg-of (c .before .args .z) (not-below c), abs-fits (c .before .args .z) (c .before .fits .z))
@@ -30,7 +30,7 @@ returns-2 c =
     index-out (s .args .z) (s .args .n) (rw (back s) at (c .if2 .left))
 
 returns-3 : tie.Need-returns-3
-returns-3 c = index-neg (c .before .args .z) (c .before .args .n) (ap (leZ (pos 0)) (sym (back (c .before))) ∙ c .if1 .left)
+returns-3 c = index-neg (c .before .args .z) (c .before .args .n) (rw (back (c .before)) at (c .if1 .left))
 
 pub index-of-spec : {M : Type 1} → statement M
 index-of-spec = tie.close (tie.spec cast-k returns returns-2 returns-3)
