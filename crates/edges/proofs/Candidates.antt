@@ -2,7 +2,7 @@
 use mathlib.Core.Path.{_≡_, sym, _∙_}
 use mathlib.Core.Bool.{true, false}
 use Prim.Native.Nat.{ℕ}
-use lib.Ieee.{Float, binary64, sub}
+use lib.Ieee.{Float}
 use Rattle.edges.specs.declared.point.ParamPoint.{ParamPoint}
 use Rattle.edges.specs.declared.point.Axis.{Axis}
 use Rattle.edges.specs.declared.point.WholeStep.the-variants.{Step, Between}
@@ -13,9 +13,9 @@ use Rattle.edges.specs.declared.event.NormalizedLambda.{NormalizedLambda
 use Rattle.edges.specs.declared.event.NormalizedLambda.the-variants.{Lambda, Outside}
 use Rattle.edges.specs.declared.event.Candidate.{Candidate}
 use Rattle.edges.specs.declared.event.Candidate.the-variants.{NoEvent}
-use Rattle.edges.specs.Param.{lerp, along, across, paramInBounds, integerStep}
+use Rattle.edges.specs.Param.{lerp, across, paramInBounds, integerStep}
 use Rattle.edges.specs.Cell.{diagonalCellAt}
-use Rattle.edges.specs.Events.{event, diagonalAt, edgeAtPoint, lambdaAt, onLine, lineAt, lineCrossing, change, diagonalEvent, diagonalCrossing}
+use Rattle.edges.specs.Events.{event, diagonalAt, edgeAtPoint, onLine, lineAt, lineCrossing, diagonalEvent, diagonalCrossing}
 
 -- ---- the side at a point
 module _ (m n : ℕ) (p : ParamPoint) where
@@ -36,11 +36,6 @@ module _ (m n : ℕ) (p : ParamPoint) where
       pub edge-diagonal : integerStep (p .v) n ≡ Between → diagonalAt (diagonalCellAt m n p) ≡ edgeAtPoint m n p
       unfolding edgeAtPoint
       edge-diagonal e = rw (h, d, e)
-
--- ---- the lambda of a line, from the coordinates s and t of the ends
-pub line-lambda : (x : Axis) (a b : ParamPoint) (step : ℕ) {s t : Float} {r : NormalizedLambda} → s ≡ along x a → t ≡ along x b → r ≡ lambdaAt step s (sub binary64 t s) →
-    r ≡ lambdaAt step (along x a) (change x a b)
-line-lambda x a b step hs ht h = rw (sym hs, sym ht) h
 
 -- ---- candidates: r is the lambda that was found, and q the point there
 module _ (a b : ParamPoint) {L r : NormalizedLambda} (e : r ≡ L) where

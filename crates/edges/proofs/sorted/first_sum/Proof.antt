@@ -1,5 +1,5 @@
 -- `edges::sorted::first_sum` meets its contract: the ceiling of the smaller sum as a count, and at least 1. Assumes nothing.
-use mathlib.Core.Path.{_≡_, ap, _∙_}
+use mathlib.Core.Path.{_≡_}
 use native.Mathlib.Omega.{arith}
 use mir.Syntax.{w64}
 use mir.ValLaws.{toZ-ofZ}
@@ -11,9 +11,7 @@ use Rattle.edges.proofs.sorted.first_sum.Statement.{statement}
 use Rattle.edges.proofs.sorted.first_sum.Tie as tie
 
 reached : (c : tie.After-count-of) → let a = c .before .before .before .args in c .count-of .result ≡ count (ceilZ (lowSum (a .a) (a .b)))
-reached c =
-    let z = c .before in
-    c .count-of .ensures .0 ∙ ap count (toZ-ofZ w64 (z .ceil-i64 .result) (record { sfits = z .ceil-i64 .ok }) ∙ z .ceil-i64 .ensures ∙ ap ceilZ (z .before .low-sum .ensures))
+reached c = cc (toZ-ofZ w64 (c .before .ceil-i64 .result) (record { sfits = c .before .ceil-i64 .ok }))
 
 returns : tie.Need-returns
 returns c = omega (arith, reached (c .before), c .if1 .taken)

@@ -1,5 +1,5 @@
 -- `edges::sorted::past_sum` meets its contract: one past the floor of the larger sum as a count, and at most M + N. Assumes nothing.
-use mathlib.Core.Path.{_≡_, ap, _∙_}
+use mathlib.Core.Path.{_≡_}
 use native.Mathlib.Omega.{arith}
 use mir.Syntax.{w64}
 use mir.ValLaws.{toZ-ofZ}
@@ -11,9 +11,7 @@ use Rattle.edges.proofs.sorted.past_sum.Statement.{statement}
 use Rattle.edges.proofs.sorted.past_sum.Tie as tie
 
 reached : (c : tie.After-count-of) → let a = c .before .before .before .args in c .count-of .result ≡ count (floorZ (highSum (a .a) (a .b)))
-reached c =
-    let z = c .before in
-    c .count-of .ensures .0 ∙ ap count (toZ-ofZ w64 (z .floor-i64 .result) (record { sfits = z .floor-i64 .ok }) ∙ z .floor-i64 .ensures ∙ ap floorZ (z .before .high-sum .ensures))
+reached c = cc (toZ-ofZ w64 (c .before .floor-i64 .result) (record { sfits = c .before .floor-i64 .ok }))
 
 returns : tie.Need-returns
 returns c = omega (arith, reached (c .before), c .if1 .taken)
