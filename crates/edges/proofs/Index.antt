@@ -3,7 +3,7 @@ use mathlib.Core.Path.{_≡_, refl, sym, _∙_}
 use Prim.Native.Nat.{ℕ, zero, suc, _≤_, _<_}
 use native.Mathlib.Nat.{lt-of-le-of-lt, le-suc}
 use native.Mathlib.Omega.{arith}
-use mathlib.Core.Bool.{Bool, true, false, true≢false, and-false}
+use mathlib.Core.Bool.{Bool, true, false, cond, true≢false, and-false}
 use lib.IntN.{ℤ, pos, negsuc, natAbs, predℤ, _-ℤ_, -ℤ-one}
 use lib.Signed.{nonNeg, leZ}
 use lib.Dec.{T, ltb, leb}
@@ -79,13 +79,9 @@ before-fits z h s = rw -ℤ-one (go z h s)
     go (negsuc k) g t = absurd (true≢false (sym g))
 
 -- ---- a cell by what was found: the facts are arguments, so that `cc` and `rw` have only these to look at
-pub try-yes : (p : ParamPoint) {i j : CellIndex} {u v : ℕ} → i ≡ Index u → j ≡ Index v → onDiagonal p u v ≡ true → Cell u v ≡ tryCell p i j
+pub try-decides : (p : ParamPoint) {i j : CellIndex} {u v : ℕ} {t : Bool} → i ≡ Index u → j ≡ Index v → onDiagonal p u v ≡ t → cond t (Cell u v) NoCell ≡ tryCell p i j
 unfolding tryCell
-try-yes p d e h = rw (d, e, h)
-
-pub try-no : (p : ParamPoint) {i j : CellIndex} {u v : ℕ} → i ≡ Index u → j ≡ Index v → onDiagonal p u v ≡ false → NoCell ≡ tryCell p i j
-unfolding tryCell
-try-no p d e h = rw (d, e, h)
+try-decides p d e h = rw (d, e, h)
 
 pub in-cell : (x : Float) {i : CellIndex} {k : ℕ} {y : Float} {b : Bool} → i ≡ Index k → y ≡ natFloat k → b ≡ within (sub binary64 x y) one64 → b ≡ inCell x i
 unfolding inCell

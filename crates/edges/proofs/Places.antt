@@ -25,7 +25,7 @@ held-set (l ∷ ls) [] i x y e = absurd (omega arith)
 held-set (l ∷ ls) (c ∷ cs) zero x y e = refl
 held-set (l ∷ ls) (c ∷ cs) (suc i) x y e = rw (held-set ls cs i x y (omega arith))
 
-pub held-at : (ls : List Float) (cs : List ℕ) (i : ℕ) (d : EdgeEvent) → length ls ≡ length cs → i < length ls → getD (held ls cs) i d ≡ eventOf (getD ls i nan) (getD cs i 0)
+held-at : (ls : List Float) (cs : List ℕ) (i : ℕ) (d : EdgeEvent) → length ls ≡ length cs → i < length ls → getD (held ls cs) i d ≡ eventOf (getD ls i nan) (getD cs i 0)
 unfolding held
 held-at [] cs i d e h = absurd (omega arith)
 held-at (l ∷ ls) [] i d e h = absurd (omega arith)
