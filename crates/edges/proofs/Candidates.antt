@@ -1,22 +1,21 @@
 -- `edgeAtPoint` and the candidates by what the code found, each fact an argument. Assumes nothing.
-use mathlib.Core.Path.{_≡_, sym, ap, _∙_}
+use mathlib.Core.Path.{_≡_, sym, _∙_}
 use mathlib.Core.Bool.{true, false}
 use Prim.Native.Nat.{ℕ}
-use lib.Ieee.{Float, binary64, sub}
+use lib.Ieee.{Float}
 use Rattle.edges.specs.declared.point.ParamPoint.{ParamPoint}
 use Rattle.edges.specs.declared.point.Axis.{Axis}
 use Rattle.edges.specs.declared.point.WholeStep.the-variants.{Step, Between}
-use Rattle.edges.specs.declared.cell.DiagonalCell.the-variants.{Cell, NoCell}
 use Rattle.edges.specs.declared.event.ParamEdge.{ParamEdge}
-use Rattle.edges.specs.declared.event.ParamEdge.the-variants.{U, «V», Diagonal}
+use Rattle.edges.specs.declared.event.ParamEdge.the-variants.{U, «V»}
 use Rattle.edges.specs.declared.event.EdgeAtPoint.the-variants.{Edge, NoEdge}
 use Rattle.edges.specs.declared.event.NormalizedLambda.{NormalizedLambda}
 use Rattle.edges.specs.declared.event.NormalizedLambda.the-variants.{Lambda, Outside}
 use Rattle.edges.specs.declared.event.Candidate.{Candidate}
-use Rattle.edges.specs.declared.event.Candidate.the-variants.{Event, NoEvent}
-use Rattle.edges.specs.Param.{lerp, along, across, paramInBounds, integerStep}
+use Rattle.edges.specs.declared.event.Candidate.the-variants.{NoEvent}
+use Rattle.edges.specs.Param.{lerp, across, paramInBounds, integerStep}
 use Rattle.edges.specs.Cell.{diagonalCellAt}
-use Rattle.edges.specs.Events.{event, edgeAtPoint, lambdaAt, onLine, lineAt, lineCrossing, change, diagonalCrossing}
+use Rattle.edges.specs.Events.{event, diagonalAt, edgeAtPoint, onLine, lineAt, lineCrossing, diagonalEvent, diagonalCrossing}
 
 -- ---- the side at a point
 module _ (m n : ℕ) (p : ParamPoint) where
@@ -34,18 +33,9 @@ module _ (m n : ℕ) (p : ParamPoint) where
       unfolding edgeAtPoint
       edge-v e = rw (h, d, e)
 
-      pub edge-diagonal : {u v : ℕ} → integerStep (p .v) n ≡ Between → diagonalCellAt m n p ≡ Cell u v → Edge (Diagonal u v) ≡ edgeAtPoint m n p
+      pub edge-diagonal : integerStep (p .v) n ≡ Between → diagonalAt (diagonalCellAt m n p) ≡ edgeAtPoint m n p
       unfolding edgeAtPoint
-      edge-diagonal e f = rw (h, d, e, f)
-
-      pub edge-none : integerStep (p .v) n ≡ Between → diagonalCellAt m n p ≡ NoCell → NoEdge ≡ edgeAtPoint m n p
-      unfolding edgeAtPoint
-      edge-none e f = rw (h, d, e, f)
-
--- ---- the lambda of a line, from the coordinates s and t of the ends
-pub line-lambda : (x : Axis) (a b : ParamPoint) (step : ℕ) {s t : Float} {r : NormalizedLambda} → s ≡ along x a → t ≡ along x b → r ≡ lambdaAt step s (sub binary64 t s) →
-    r ≡ lambdaAt step (along x a) (change x a b)
-line-lambda x a b step hs ht h = rw (sym hs, sym ht) h
+      edge-diagonal e = rw (h, d, e)
 
 -- ---- candidates: r is the lambda that was found, and q the point there
 module _ (a b : ParamPoint) {L r : NormalizedLambda} (e : r ≡ L) where
@@ -60,18 +50,12 @@ module _ (a b : ParamPoint) {L r : NormalizedLambda} (e : r ≡ L) where
   module _ {l : Float} {q : ParamPoint} (h : r ≡ Lambda l) (k : q ≡ lerp a b l) where
     pub line-on : (x : Axis) (n step : ℕ) {y : Float} {s : ParamEdge} {c : Candidate} → y ≡ across x q → s ≡ lineAt x step → c ≡ onLine y n (event l s) → c ≡ lineCrossing x n a b step L
     unfolding lineCrossing
-    line-on x n step {y} {s} hy hs t =
-        rw (sym e ∙ h)
-        (t ∙ ap (λ (z : Float). onLine z n (event l s)) (hy ∙ ap (across x) k) ∙ ap (λ (z : ParamEdge). onLine (across x (lerp a b l)) n (event l z)) hs)
+    line-on x n step hy hs t = rw (sym e ∙ h, ← k, ← hy, ← hs) t
 
     pub crossing-out : (m n : ℕ) → paramInBounds m n q ≡ false → NoEvent ≡ diagonalCrossing m n a b L
     unfolding diagonalCrossing
     crossing-out m n t = rw (sym e ∙ h, ← k, t)
 
-    pub crossing-no : (m n : ℕ) → paramInBounds m n q ≡ true → diagonalCellAt m n q ≡ NoCell → NoEvent ≡ diagonalCrossing m n a b L
+    pub crossing-in : (m n : ℕ) → paramInBounds m n q ≡ true → diagonalEvent l (diagonalCellAt m n q) ≡ diagonalCrossing m n a b L
     unfolding diagonalCrossing
-    crossing-no m n t d = rw (sym e ∙ h, ← k, t, d)
-
-    pub crossing-yes : (m n : ℕ) {u v : ℕ} → paramInBounds m n q ≡ true → diagonalCellAt m n q ≡ Cell u v → Event (event l (Diagonal u v)) ≡ diagonalCrossing m n a b L
-    unfolding diagonalCrossing
-    crossing-yes m n t d = rw (sym e ∙ h, ← k, t, d)
+    crossing-in m n t = rw (sym e ∙ h, ← k, t)

@@ -1,12 +1,12 @@
 -- The code of a side of the grid says which side it is, and what the bound on a side says of its indices. Assumes nothing.
-use mathlib.Core.Path.{_≡_, ap, _∙_}
+use mathlib.Core.Path.{_≡_}
 use Prim.Native.Nat.{ℕ, _+_, _*_, _-_, _/_, _%_, _≤_, _<_}
 use native.Mathlib.Omega.{arith}
 use borrow.Author.Tests.{lt-ltb, le-ltb}
 use Rattle.edges.specs.declared.event.ParamEdge.{ParamEdge}
 use Rattle.edges.specs.declared.event.ParamEdge.the-variants.{U, «V», Diagonal}
 use Rattle.edges.specs.declared.event.EdgeEvent.{EdgeEvent}
-use Rattle.edges.specs.Events.{event, Inside}
+use Rattle.edges.specs.Events.{Inside}
 use Rattle.edges.specs.Scratch.{codeOf, edgeOf, eventOf}
 
 pub code-back : (e : ParamEdge) → Inside 255 255 e → edgeOf (codeOf e) ≡ e
@@ -16,17 +16,16 @@ code-back («V» v) h =
     let t : 256 ≤ 256 + v = omega arith in
     let s : 256 + v < 512 = omega arith in
     let q : 256 + v - 256 ≡ v = omega arith in
-    simp (le-ltb (256 + v) 256 t, lt-ltb (256 + v) 512 s) (ap «V» q)
+    simp (le-ltb (256 + v) 256 t, lt-ltb (256 + v) 512 s, q)
 code-back (Diagonal u v) h =
     let t : 256 ≤ 512 + 256 * u + v = omega arith in
     let s : 512 ≤ 512 + 256 * u + v = omega arith in
     let q : (512 + 256 * u + v - 512) / 256 ≡ u = omega arith in
     let r : (512 + 256 * u + v - 512) % 256 ≡ v = omega arith in
-    simp (le-ltb (512 + 256 * u + v) 256 t, le-ltb (512 + 256 * u + v) 512 s)
-    (ap (λ (x : ℕ). Diagonal x ((512 + 256 * u + v - 512) % 256)) q ∙ ap (Diagonal u) r)
+    simp (le-ltb (512 + 256 * u + v) 256 t, le-ltb (512 + 256 * u + v) 512 s, q, r)
 
 pub event-back : (e : EdgeEvent) {code : ℕ} → code ≡ codeOf (e .edge) → Inside 255 255 (e .edge) → eventOf (e .lambda) code ≡ e
-event-back e q h = ap (λ (x : ℕ). eventOf (e .lambda) x) q ∙ ap (event (e .lambda)) (code-back (e .edge) h)
+event-back e q h = rw (q, code-back (e .edge) h)
 
 -- what the grid's bound says of each kind
 module _ (m n : ℕ) {e : ParamEdge} where

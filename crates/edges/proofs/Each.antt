@@ -1,23 +1,21 @@
--- What holds of every candidate holds of every event: sorting and dropping keep to the candidates. Assumes nothing.
+-- What holds of every candidate holds of every event, and there are no more events than candidates: sorting keeps to the candidates, and dropping to what was sorted. Assumes nothing.
 use mathlib.Core.Path.{_≡_, refl}
-use mathlib.Core.Bool.{Bool, true, false, cond}
+use mathlib.Core.Bool.{Bool, cond}
 use mathlib.Core.List.{List, [], _∷_, _++_}
-use Prim.Native.Nat.{ℕ, zero, suc, _+_, _-_, _≤_, _<_, min, max}
-use native.Mathlib.Nat.{le-trans}
+use Prim.Native.Nat.{ℕ, zero, suc, _+_, _-_, _≤_, _<_}
 use native.Mathlib.Omega.{arith}
 use lib.ListN.{length, getD, length-append}
 use lib.Ieee.{Float}
 use Rattle.float.specs.Consts.{zero64, one64}
 use Rattle.float.specs.Order.{totalOrder}
-use Rattle.float.specs.Whole.{floorZ, ceilZ}
-use Rattle.float.specs.Cast.{count}
+use Rattle.float.proofs.Tests.{cond-keeps}
 use Rattle.edges.specs.declared.point.ParamPoint.{ParamPoint}
 use Rattle.edges.specs.declared.point.Axis.{Axis}
 use Rattle.edges.specs.declared.point.Axis.the-variants.{AxisU, AxisV}
 use Rattle.edges.specs.declared.event.EdgeEvent.{EdgeEvent}
 use Rattle.edges.specs.declared.event.Candidate.{Candidate}
 use Rattle.edges.specs.declared.event.Candidate.the-variants.{Event, NoEvent}
-use Rattle.edges.specs.Events.{edgeAtPoint, endCandidate, change, lineCandidate, changeOfSum, diagonalCandidate, moves, listed, listFrom, lowSum, highSum, firstSum, pastSum, ends, lines, diagonals, candidates, precedes, insert, sortInto, closeBy, uniqueAfter, unique, sortedEdgeEvents, IfEvent, Each}
+use Rattle.edges.specs.Events.{edgeAtPoint, endCandidate, change, lineCandidate, changeOfSum, diagonalCandidate, moves, listed, listFrom, firstSum, pastSum, ends, lines, diagonals, candidates, precedes, insert, sortInto, closeBy, uniqueAfter, unique, sortedEdgeEvents, IfEvent, Each}
 
 module _ (P : EdgeEvent → Type 0) where
   each-append : (xs ys : List EdgeEvent) → Each P xs → Each P ys → Each P (xs ++ ys)
@@ -28,28 +26,19 @@ module _ (P : EdgeEvent → Type 0) where
   each-listed (Event e) es h k = (h, k)
   each-listed NoEvent es h k = k
 
-  each-from : (f : ℕ → Candidate) (k i end : ℕ) → i + k ≤ end → ((j : ℕ) → j < end → IfEvent P (f j)) → Each P (listFrom f k i)
+  each-from : (f : ℕ → Candidate) (k i : ℕ) → ((j : ℕ) → j < i + k → IfEvent P (f j)) → Each P (listFrom f k i)
   unfolding listFrom
-  each-from f zero i end h p = tt
-  each-from f (suc k) i end h p = each-listed (f i) (listFrom f k (i + 1)) (p i (omega arith)) (each-from f k (i + 1) end (omega arith) p)
+  each-from f zero i h = tt
+  each-from f (suc k) i h = each-listed (f i) (listFrom f k (i + 1)) (h i (omega arith)) (each-from f k (i + 1) (λ j l. h j (omega arith)))
 
-  each-if : (b : Bool) (es : List EdgeEvent) → Each P es → Each P (cond b es [])
-  each-if true es h = h
-  each-if false es h = tt
-
-  each-lines : (x : Axis) (m n : ℕ) (a b : ParamPoint) → ((j : ℕ) → j < m + 1 → IfEvent P (lineCandidate x n a b j)) → Each P (lines x m n a b)
-  unfolding lines
-  each-lines x m n a b h =
-      each-if (moves (change x a b)) (listFrom (lineCandidate x n a b) (m + 1) 0) (each-from (lineCandidate x n a b) (m + 1) 0 (m + 1) (omega arith) h)
+  -- candidates in a row, which are tried if an axis moves
+  each-tried : (moved : Bool) (f : ℕ → Candidate) (k i : ℕ) → ((j : ℕ) → j < i + k → IfEvent P (f j)) → Each P (cond moved (listFrom f k i) [])
+  each-tried moved f k i h = cond-keeps (Each P) moved _ [] (each-from f k i h) tt
 
   pub each-insert : (e : EdgeEvent) (es : List EdgeEvent) → P e → Each P es → Each P (insert e es)
   unfolding insert
   each-insert e [] h k = (h, tt)
-  each-insert e (x ∷ xs) h k = go (precedes (totalOrder (e .lambda) (x .lambda))) (each-insert e xs h (k .1))
-    where
-      go : (b : Bool) → Each P (insert e xs) → Each P (cond b (e ∷ (x ∷ xs)) (x ∷ insert e xs))
-      go true t = (h, k)
-      go false t = (k .0, t)
+  each-insert e (x ∷ xs) h k = cond-keeps (Each P) (precedes (totalOrder (e .lambda) (x .lambda))) _ _ (h, k) (k .0, each-insert e xs h (k .1))
 
   pub each-sort : (es acc : List EdgeEvent) → Each P es → Each P acc → Each P (sortInto es acc)
   unfolding sortInto
@@ -59,16 +48,16 @@ module _ (P : EdgeEvent → Type 0) where
   each-after : (kept : Float) (es : List EdgeEvent) → Each P es → Each P (uniqueAfter kept es)
   unfolding uniqueAfter
   each-after kept [] h = tt
-  each-after kept (e ∷ es) h = go (closeBy kept (e .lambda)) (each-after kept es (h .1)) (each-after (e .lambda) es (h .1))
-    where
-      go : (b : Bool) → Each P (uniqueAfter kept es) → Each P (uniqueAfter (e .lambda) es) → Each P (cond b (uniqueAfter kept es) (e ∷ uniqueAfter (e .lambda) es))
-      go true p q = p
-      go false p q = (h .0, q)
+  each-after kept (e ∷ es) h = cond-keeps (Each P) (closeBy kept (e .lambda)) _ _ (each-after kept es (h .1)) (h .0, each-after (e .lambda) es (h .1))
 
   pub each-unique : (es : List EdgeEvent) → Each P es → Each P (unique es)
   unfolding unique
   each-unique [] h = tt
   each-unique (e ∷ es) h = (h .0, each-after (e .lambda) es (h .1))
+
+  each-lines : (x : Axis) (m n : ℕ) (a b : ParamPoint) → ((j : ℕ) → j < m + 1 → IfEvent P (lineCandidate x n a b j)) → Each P (lines x m n a b)
+  unfolding lines
+  each-lines x m n a b h = each-tried (moves (change x a b)) (lineCandidate x n a b) (m + 1) 0 (λ j l. h j (omega arith))
 
   -- the event at i
   pub each-at : (es : List EdgeEvent) (i : ℕ) (d : EdgeEvent) → Each P es → i < length es → P (getD es i d)
@@ -79,17 +68,21 @@ module _ (P : EdgeEvent → Type 0) where
   -- the candidates of a step
   module _ (m n : ℕ) (a b : ParamPoint) (start : IfEvent P (endCandidate zero64 (edgeAtPoint m n a))) (end : IfEvent P (endCandidate one64 (edgeAtPoint m n b)))
       (u : (j : ℕ) → j < m + 1 → IfEvent P (lineCandidate AxisU n a b j)) (v : (j : ℕ) → j < n + 1 → IfEvent P (lineCandidate AxisV m a b j)) (d : (j : ℕ) → IfEvent P (diagonalCandidate m n a b j)) where
+    each-ends : Each P (ends m n a b)
+    unfolding ends
+    each-ends = each-listed (endCandidate zero64 (edgeAtPoint m n a)) _ start (each-listed (endCandidate one64 (edgeAtPoint m n b)) [] end tt)
+
+    each-diagonals : Each P (diagonals m n a b)
+    unfolding diagonals
+    each-diagonals = each-tried (moves (changeOfSum a b)) (diagonalCandidate m n a b) (pastSum m n a b - firstSum a b) (firstSum a b) (λ j h. d j)
+
     pub each-candidate : Each P (candidates m n a b)
-    unfolding candidates ends diagonals
+    unfolding candidates
     each-candidate =
-        let first = firstSum a b in
-        let past = pastSum m n a b in
-        let e : Each P (ends m n a b) = each-listed (endCandidate zero64 (edgeAtPoint m n a)) (listed (endCandidate one64 (edgeAtPoint m n b)) []) start (each-listed (endCandidate one64 (edgeAtPoint m n b)) [] end tt) in
-        let x : Each P (lines AxisU m n a b) = each-lines AxisU m n a b u in
-        let y : Each P (lines AxisV n m a b) = each-lines AxisV n m a b v in
-        let z : Each P (diagonals m n a b) = each-if (moves (changeOfSum a b)) (listFrom (diagonalCandidate m n a b) (past - first) first)
-        (each-from (diagonalCandidate m n a b) (past - first) first (first + (past - first)) (omega arith) (λ j h. d j)) in
-        each-append (ends m n a b) (lines AxisU m n a b ++ (lines AxisV n m a b ++ diagonals m n a b)) e (each-append (lines AxisU m n a b) (lines AxisV n m a b ++ diagonals m n a b) x (each-append (lines AxisV n m a b) (diagonals m n a b) y z))
+        let us = lines AxisU m n a b in
+        let vs = lines AxisV n m a b in
+        let ds = diagonals m n a b in
+        each-append (ends m n a b) (us ++ (vs ++ ds)) each-ends (each-append us (vs ++ ds) (each-lines AxisU m n a b u) (each-append vs ds (each-lines AxisV n m a b v) each-diagonals))
 
     pub each-event : Each P (sortedEdgeEvents m n a b)
     unfolding sortedEdgeEvents
@@ -110,18 +103,12 @@ unfolding listFrom
 length-from f zero i = omega arith
 length-from f (suc k) i = omega (arith, length-listed (f i) (listFrom f k (i + 1)), length-from f k (i + 1))
 
-length-if : (b : Bool) (es : List EdgeEvent) → length (cond b es []) ≤ length es
-length-if true es = omega arith
-length-if false es = omega arith
-
 length-insert : (e : EdgeEvent) (es : List EdgeEvent) → length (insert e es) ≡ length es + 1
 unfolding insert
 length-insert e [] = refl
-length-insert e (x ∷ xs) = go (precedes (totalOrder (e .lambda) (x .lambda))) (length-insert e xs)
-  where
-    go : (b : Bool) → length (insert e xs) ≡ length xs + 1 → length (cond b (e ∷ (x ∷ xs)) (x ∷ insert e xs)) ≡ suc (length xs) + 1
-    go true t = omega arith
-    go false t = omega arith
+length-insert e (x ∷ xs) =
+    cond-keeps (λ (r : List EdgeEvent). length r ≡ suc (length xs) + 1) (precedes (totalOrder (e .lambda) (x .lambda))) (e ∷ (x ∷ xs)) (x ∷ insert e xs)
+    (omega arith) (omega (arith, length-insert e xs))
 
 pub length-sort : (es acc : List EdgeEvent) → length (sortInto es acc) ≡ length es + length acc
 unfolding sortInto
@@ -131,40 +118,37 @@ length-sort (e ∷ es) acc = omega (arith, length-sort es (insert e acc), length
 length-after : (kept : Float) (es : List EdgeEvent) → length (uniqueAfter kept es) ≤ length es
 unfolding uniqueAfter
 length-after kept [] = omega arith
-length-after kept (e ∷ es) = go (closeBy kept (e .lambda)) (length-after kept es) (length-after (e .lambda) es)
-  where
-    go : (b : Bool) → length (uniqueAfter kept es) ≤ length es → length (uniqueAfter (e .lambda) es) ≤ length es →
-        length (cond b (uniqueAfter kept es) (e ∷ uniqueAfter (e .lambda) es)) ≤ suc (length es)
-    go true p q = omega arith
-    go false p q = omega arith
+length-after kept (e ∷ es) =
+    cond-keeps (λ (r : List EdgeEvent). length r ≤ suc (length es)) (closeBy kept (e .lambda)) (uniqueAfter kept es) (e ∷ uniqueAfter (e .lambda) es)
+    (omega (arith, length-after kept es)) (omega (arith, length-after (e .lambda) es))
 
 pub length-unique : (es : List EdgeEvent) → length (unique es) ≤ length es
 unfolding unique
 length-unique [] = omega arith
 length-unique (e ∷ es) = omega (arith, length-after (e .lambda) es)
 
-length-lines : (x : Axis) (m n : ℕ) (a b : ParamPoint) → length (lines x m n a b) ≤ m + 1
-unfolding lines
-length-lines x m n a b = le-trans (length-if (moves (change x a b)) (listFrom (lineCandidate x n a b) (m + 1) 0)) (length-from (lineCandidate x n a b) (m + 1) 0)
+length-tried : (moved : Bool) (f : ℕ → Candidate) (k i : ℕ) → length (cond moved (listFrom f k i) []) ≤ k
+length-tried moved f k i = cond-keeps (λ (r : List EdgeEvent). length r ≤ k) moved _ [] (length-from f k i) (omega arith)
 
--- ends, U, V and diagonals
-pub length-candidates : (m n : ℕ) (a b : ParamPoint) → length (candidates m n a b) ≤ 2 + (m + 1) + (n + 1) + (m + n - 1)
-unfolding candidates ends diagonals
-length-candidates m n a b =
+length-ends : (m n : ℕ) (a b : ParamPoint) → length (ends m n a b) ≤ 2
+unfolding ends
+length-ends m n a b =
     let start = endCandidate zero64 (edgeAtPoint m n a) in
     let end = endCandidate one64 (edgeAtPoint m n b) in
+    omega (arith, length-listed start (listed end []), length-listed end [])
+
+length-lines : (x : Axis) (m n : ℕ) (a b : ParamPoint) → length (lines x m n a b) ≤ m + 1
+unfolding lines
+length-lines x m n a b = length-tried (moves (change x a b)) (lineCandidate x n a b) (m + 1) 0
+
+length-diagonals : (m n : ℕ) (a b : ParamPoint) → length (diagonals m n a b) ≤ m + n - 1
+unfolding diagonals
+length-diagonals m n a b =
     let first = firstSum a b in
     let past = pastSum m n a b in
-    let fd = listFrom (diagonalCandidate m n a b) (past - first) first in
-    let e : length (ends m n a b) ≤ 2 = le-trans (length-listed start (listed end [])) (suc-le (length-listed end [])) in
-    let d : length (diagonals m n a b) ≤ past - first = le-trans (length-if (moves (changeOfSum a b)) fd) (length-from (diagonalCandidate m n a b) (past - first) first) in
-    total (ends m n a b) (lines AxisU m n a b) (lines AxisV n m a b) (diagonals m n a b) e (length-lines AxisU m n a b) (length-lines AxisV n m a b) (le-trans d (sums (count (ceilZ (lowSum a b))) (count (floorZ (highSum a b)) + 1)))
-  where
-    suc-le : {k : ℕ} → k ≤ 1 → k + 1 ≤ 2
-    suc-le h = omega arith
+    omega (arith, length-tried (moves (changeOfSum a b)) (diagonalCandidate m n a b) (past - first) first)
 
-    sums : (x y : ℕ) → min (m + n) y - max 1 x ≤ m + n - 1
-    sums x y = omega arith
-
-    total : (p q r s : List EdgeEvent) → length p ≤ 2 → length q ≤ m + 1 → length r ≤ n + 1 → length s ≤ m + n - 1 → length (p ++ (q ++ (r ++ s))) ≤ 2 + (m + 1) + (n + 1) + (m + n - 1)
-    total p q r s hp hq hr hs = simp length-append (omega arith)
+pub length-candidates : (m n : ℕ) (a b : ParamPoint) → length (candidates m n a b) ≤ 2 + (m + 1) + (n + 1) + (m + n - 1)
+unfolding candidates
+length-candidates m n a b =
+    simp length-append (omega (arith, length-ends m n a b, length-lines AxisU m n a b, length-lines AxisV n m a b, length-diagonals m n a b))

@@ -1,13 +1,12 @@
 -- Candidates are sorted in one by one: what remains to be sorted into the events that stand there gives the whole. Assumes nothing.
-use mathlib.Core.Path.{_≡_, refl, ap, sym, _∙_}
+use mathlib.Core.Path.{_≡_, refl}
 use mathlib.Core.Bool.{true, false}
 use mathlib.Core.List.{List, [], _∷_, _++_}
-use Prim.Native.Nat.{ℕ, suc, _+_, _-_, _<_, _≤_, min, max}
+use Prim.Native.Nat.{ℕ, suc, _+_, _-_, _<_, _≤_, max}
 use native.Mathlib.Omega.{arith}
-use lib.Ieee.{Float, binary64, sub}
+use lib.ListN.{length}
+use lib.Ieee.{Float}
 use Rattle.float.specs.Consts.{zero64, one64}
-use Rattle.float.specs.Whole.{floorZ, ceilZ}
-use Rattle.float.specs.Cast.{count}
 use Rattle.edges.specs.declared.point.ParamPoint.{ParamPoint}
 use Rattle.edges.specs.declared.point.Axis.{Axis}
 use Rattle.edges.specs.declared.point.Axis.the-variants.{AxisU, AxisV}
@@ -15,9 +14,10 @@ use Rattle.edges.specs.declared.event.EdgeEvent.{EdgeEvent}
 use Rattle.edges.specs.declared.event.Candidate.{Candidate}
 use Rattle.edges.specs.declared.event.Candidate.the-variants.{Event, NoEvent}
 use Rattle.edges.specs.declared.event.EdgeAtPoint.{EdgeAtPoint}
-use Rattle.edges.specs.Param.{along}
-use Rattle.edges.specs.Events.{edgeAtPoint, endCandidate, change, lineCandidate, changeOfSum, diagonalCandidate, moves, listed, listFrom, lowSum, highSum, firstSum, pastSum, ends, lines, diagonals, candidates, insert, pushed, sortInto, IfEvent}
+use Rattle.edges.specs.Events.{edgeAtPoint, endCandidate, change, lineCandidate, changeOfSum, diagonalCandidate, moves, listed, listFrom, firstSum, pastSum, ends, lines, diagonals, candidates, insert, pushed, sortInto, IfEvent}
+use Rattle.edges.specs.Scratch.{eventsIn, Sorted}
 
+-- ---- a candidate by what the code found
 pub if-event : (P : EdgeEvent → Type 0) {c : Candidate} {e : EdgeEvent} → c ≡ Event e → IfEvent P c → P e
 if-event P q h = rw q at h
 
@@ -28,7 +28,7 @@ pub push-no : {c : Candidate} (acc : List EdgeEvent) → c ≡ NoEvent → acc �
 push-no acc q = rw q
 
 -- ---- one candidate, then the rest
-pub sort-listed : (c : Candidate) (rest acc : List EdgeEvent) → sortInto (listed c rest) acc ≡ sortInto rest (pushed c acc)
+sort-listed : (c : Candidate) (rest acc : List EdgeEvent) → sortInto (listed c rest) acc ≡ sortInto rest (pushed c acc)
 unfolding sortInto
 sort-listed (Event e) rest acc = refl
 sort-listed NoEvent rest acc = refl
@@ -38,50 +38,51 @@ unfolding sortInto
 sort-append [] ys acc = refl
 sort-append (x ∷ xs) ys acc = sort-append xs ys (insert x acc)
 
--- ---- the candidates of a loop: from number i up to, and without, `end`
-abbrev pub gathering : (ℕ → Candidate) → ℕ → ℕ → List EdgeEvent → List EdgeEvent
-gathering f end i acc = sortInto (listFrom f (end - i) i) acc
+-- ---- a loop over the candidates of numbers from `first` up to, and without, `end`: so far those below i are sorted in, and with the others they give the whole
+pub record Gathering (f : ℕ → Candidate) (first end : ℕ) (whole : List EdgeEvent) (count : ℕ) (ls : List Float) (cs : List ℕ) (total i : ℕ) : Type 0 where
+  pub from : first ≤ i
+  pub to : i ≤ max first end
+  pub few : total + first ≤ count + i
+  pub lambdas-length : length ls ≡ 1023
+  pub codes-length : length cs ≡ 1023
+  pub left : whole ≡ sortInto (listFrom f (end - i) i) (eventsIn ls cs total)
+  pub sorted : Sorted (eventsIn ls cs total)
 
-module _ (f : ℕ → Candidate) (end i : ℕ) (acc : List EdgeEvent) {w : List EdgeEvent} (q : w ≡ gathering f end i acc) where
-  pub gather-turn : i < end → {c : Candidate} {r : List EdgeEvent} → c ≡ f i → r ≡ pushed c acc → w ≡ gathering f end (i + 1) r
+module _ {f : ℕ → Candidate} {first end : ℕ} {whole : List EdgeEvent} {count : ℕ} {ls : List Float} {cs : List ℕ} {total i : ℕ} (g : Gathering f first end whole count ls cs total i) where
+  pub gather-turn : i < end → {c : Candidate} {ms : List Float} {ds : List ℕ} {r : ℕ} → c ≡ f i → length ms ≡ 1023 → length ds ≡ 1023 →
+      (r ≤ total + 1) × (eventsIn ms ds r ≡ pushed c (eventsIn ls cs total)) × Sorted (eventsIn ms ds r) → Gathering f first end whole count ms ds r (i + 1)
   unfolding listFrom
-  gather-turn h p t =
+  gather-turn h p hl hc t =
       let s : end - i ≡ suc (end - (i + 1)) = omega arith in
-      q ∙ ap (λ (k : ℕ). sortInto (listFrom f k i) acc) s ∙ sort-listed (f i) (listFrom f (end - (i + 1)) (i + 1)) acc
-      ∙ ap (sortInto (listFrom f (end - (i + 1)) (i + 1))) (ap (λ (x : Candidate). pushed x acc) (sym p) ∙ sym t)
+      record {
+        from = omega arith;
+        to = omega arith;
+        few = omega arith;
+        lambdas-length = hl;
+        codes-length = hc;
+        left = rw (g .left, s, sort-listed, t .1, p);
+        sorted = t .2;
+      }
 
-  pub gather-ends : end ≤ i → acc ≡ w
+  pub gather-ends : end ≤ i → eventsIn ls cs total ≡ whole
   unfolding listFrom sortInto
-  gather-ends h = let s : end - i ≡ 0 = omega arith in sym (q ∙ ap (λ (k : ℕ). sortInto (listFrom f k i) acc) s)
-
-gather-starts : (f : ℕ → Candidate) (end : ℕ) (acc : List EdgeEvent) → sortInto (listFrom f end 0) acc ≡ gathering f end 0 acc
-gather-starts f end acc = let s : end ≡ end - 0 = omega arith in ap (λ (k : ℕ). sortInto (listFrom f k 0) acc) s
-
--- ---- the lines of an axis, d being by how much it was found to change, from the coordinates s and t of the ends
-pub changes : (x : Axis) (a b : ParamPoint) {s t : Float} → s ≡ along x b → t ≡ along x a → sub binary64 s t ≡ change x a b
-changes x a b hs ht = rw (hs, ht)
-
-module _ (x : Axis) (m n : ℕ) (a b : ParamPoint) (acc : List EdgeEvent) {d : Float} (e : d ≡ change x a b) where
-  pub lines-none : moves d ≡ false → acc ≡ sortInto (lines x m n a b) acc
-  unfolding lines sortInto
-  lines-none h = rw (ap moves (sym e) ∙ h)
-
-  pub lines-start : moves d ≡ true → sortInto (lines x m n a b) acc ≡ gathering (lineCandidate x n a b) (m + 1) 0 acc
-  unfolding lines
-  lines-start h = rw (ap moves (sym e) ∙ h) (gather-starts (lineCandidate x n a b) (m + 1) acc)
+  gather-ends h = let s : end - i ≡ 0 = omega arith in rw (g .left, s)
 
 -- ---- the four groups
+module _ (x : Axis) (m n : ℕ) (a b : ParamPoint) (acc : List EdgeEvent) where
+  pub lines-none : moves (change x a b) ≡ false → acc ≡ sortInto (lines x m n a b) acc
+  unfolding lines sortInto
+  lines-none h = rw h
+
+  pub lines-start : moves (change x a b) ≡ true → sortInto (lines x m n a b) acc ≡ sortInto (listFrom (lineCandidate x n a b) (m + 1 - 0) 0) acc
+  unfolding lines
+  lines-start h = let all : m + 1 - 0 ≡ m + 1 = omega arith in rw (h, all)
+
 module _ (m n : ℕ) (a b : ParamPoint) where
   pub ends-pushed : {x y : EdgeAtPoint} {c d : Candidate} {r s : List EdgeEvent} → x ≡ edgeAtPoint m n a → y ≡ edgeAtPoint m n b → c ≡ endCandidate zero64 x → d ≡ endCandidate one64 y →
       r ≡ pushed c [] → s ≡ pushed d r → s ≡ sortInto (ends m n a b) []
   unfolding ends sortInto
-  ends-pushed {x} {y} {c} {d} {r} {s} hx hy hc hd hr hs =
-      let first = endCandidate zero64 (edgeAtPoint m n a) in
-      let second = endCandidate one64 (edgeAtPoint m n b) in
-      let p : c ≡ first = hc ∙ ap (endCandidate zero64) hx in
-      let q : d ≡ second = hd ∙ ap (endCandidate one64) hy in
-      hs ∙ ap (λ (z : List EdgeEvent). pushed d z) hr ∙ ap (λ (z : Candidate). pushed z (pushed c [])) q ∙ ap (λ (z : Candidate). pushed second (pushed z [])) p
-      ∙ sym (sort-listed first (listed second []) [] ∙ sort-listed second [] (pushed first []))
+  ends-pushed hx hy hc hd hr hs = rw (hs, hr, hd, hc, hy, hx, sort-listed, sort-listed)
 
   module _ (acc : List EdgeEvent) where
     pub diagonals-none : moves (changeOfSum a b) ≡ false → acc ≡ sortInto (diagonals m n a b) acc
@@ -89,40 +90,11 @@ module _ (m n : ℕ) (a b : ParamPoint) where
     diagonals-none h = rw h
 
     pub diagonals-start : moves (changeOfSum a b) ≡ true → {first past : ℕ} → first ≡ firstSum a b → past ≡ pastSum m n a b →
-        sortInto (diagonals m n a b) acc ≡ gathering (diagonalCandidate m n a b) past first acc
+        sortInto (diagonals m n a b) acc ≡ sortInto (listFrom (diagonalCandidate m n a b) (past - first) first) acc
     unfolding diagonals
     diagonals-start h p q = rw (h, p, q)
 
   pub groups-sorted : {r s t w : List EdgeEvent} → r ≡ sortInto (ends m n a b) [] → s ≡ sortInto (lines AxisU m n a b) r → t ≡ sortInto (lines AxisV n m a b) s → w ≡ sortInto (diagonals m n a b) t →
       w ≡ sortInto (candidates m n a b) []
   unfolding candidates
-  groups-sorted hr hs ht hw =
-      rw (sort-append (ends m n a b) (lines AxisU m n a b ++ (lines AxisV n m a b ++ diagonals m n a b)), sort-append (lines AxisU m n a b) (lines AxisV n m a b ++ diagonals m n a b), sort-append (lines AxisV n m a b) (diagonals m n a b), ← hr, ← hs, ← ht) hw
-
--- ---- bounds on the sums tried
-pub first-from : (a b : ParamPoint) {first : ℕ} → first ≡ firstSum a b → 1 ≤ first
-first-from a b q = go (count (ceilZ (lowSum a b))) q
-  where
-    go : (k : ℕ) {first : ℕ} → first ≡ max 1 k → 1 ≤ first
-    go k h = omega arith
-
-pub past-to : (m n : ℕ) (a b : ParamPoint) {past : ℕ} → past ≡ pastSum m n a b → past ≤ m + n
-past-to m n a b q = go (count (floorZ (highSum a b)) + 1) q
-  where
-    go : (k : ℕ) {past : ℕ} → past ≡ min (m + n) k → past ≤ m + n
-    go k h = omega arith
-
-pub at-least-one : (k : ℕ) {x : ℕ} → x ≡ k → x < 1 → 1 ≡ max 1 k
-at-least-one k p h = omega arith
-
-pub above-one : (k : ℕ) {x : ℕ} → x ≡ k → 1 ≤ x → x ≡ max 1 k
-above-one k p h = omega arith
-
-pub below-top : (top k : ℕ) {x : ℕ} → x ≡ k → x + 1 < top → x + 1 ≡ min top (k + 1)
-below-top top k p h = omega arith
-
-pub at-top : (top k : ℕ) {x : ℕ} → x ≡ k → top ≤ x + 1 → top ≡ min top (k + 1)
-at-top top k p h = omega arith
-
-pub shorter : (end i : ℕ) → i < end → end - (i + 1) < end - i
-shorter end i h = omega arith
+  groups-sorted hr hs ht hw = rw (hw, ht, hs, hr, sort-append, sort-append, sort-append)

@@ -1,8 +1,8 @@
 -- Every candidate is on the grid: a whole step is at most the last, a diagonal's cell is in the grid, and lines are tried up to the last. Assumes nothing.
-use mathlib.Core.Bool.{Bool, true, false, cond}
 use Prim.Native.Nat.{ℕ, _^_, _≤_}
 use lib.Ieee.{Float}
 use Rattle.float.specs.Cast.{natFloat}
+use Rattle.float.proofs.Tests.{cond-keeps}
 use Rattle.edges.specs.declared.point.ParamPoint.{ParamPoint}
 use Rattle.edges.specs.declared.point.Axis.{Axis}
 use Rattle.edges.specs.declared.point.WholeStep.{WholeStep}
@@ -40,16 +40,12 @@ diagonal-at m n NoCell h = tt
 
 edge-inside : (m n : ℕ) (p : ParamPoint) → m ≤ 2 ^ 53 → n ≤ 2 ^ 53 → EdgeInside m n (edgeAtPoint m n p)
 unfolding edgeAtPoint
-edge-inside m n p hm hn = go (paramInBounds m n p)
-  where
-    here : EdgeAtPoint
-    here = orU (integerStep (p .u) m) (orV (integerStep (p .v) n) (diagonalAt (diagonalCellAt m n p)))
-
-    go : (b : Bool) → EdgeInside m n (cond b here NoEdge)
-    go true =
-        or-u m n (integerStep (p .u) m) (orV (integerStep (p .v) n) (diagonalAt (diagonalCellAt m n p))) (step-within (p .u) m hm)
-        (or-v m n (integerStep (p .v) n) (diagonalAt (diagonalCellAt m n p)) (step-within (p .v) n hn) (diagonal-at m n (diagonalCellAt m n p) (diagonal-inside m n p)))
-    go false = tt
+edge-inside m n p hm hn =
+    cond-keeps (EdgeInside m n) (paramInBounds m n p) _ NoEdge
+    (or-u m n (integerStep (p .u) m) _ (step-within (p .u) m hm)
+    (or-v m n (integerStep (p .v) n) _ (step-within (p .v) n hn)
+    (diagonal-at m n (diagonalCellAt m n p) (diagonal-inside m n p))))
+    tt
 
 -- ---- candidates
 pub end-on-grid : (m n : ℕ) (l : Float) (p : ParamPoint) → m ≤ 2 ^ 53 → n ≤ 2 ^ 53 → IfEvent (OnGrid m n) (endCandidate l (edgeAtPoint m n p))
@@ -60,11 +56,7 @@ end-on-grid m n l p hm hn = go (edgeAtPoint m n p) (edge-inside m n p hm hn)
     go NoEdge h = tt
 
 pub on-line : (P : EdgeEvent → Type 0) (x : Float) (steps : ℕ) (e : EdgeEvent) → P e → IfEvent P (onLine x steps e)
-on-line P x steps e h = go (within x (natFloat steps))
-  where
-    go : (b : Bool) → IfEvent P (cond b (Event e) NoEvent)
-    go true = h
-    go false = tt
+on-line P x steps e h = cond-keeps (IfEvent P) (within x (natFloat steps)) (Event e) NoEvent h tt
 
 pub line-on-grid : (x : Axis) (m n steps : ℕ) (a b : ParamPoint) (k : ℕ) (r : NormalizedLambda) → Inside m n (lineAt x k) → IfEvent (OnGrid m n) (lineCrossing x steps a b k r)
 unfolding lineCrossing
@@ -74,12 +66,10 @@ line-on-grid x m n steps a b k (Lambda l) h = on-line (OnGrid m n) (across x (le
 pub diagonal-on-grid : (m n : ℕ) (a b : ParamPoint) (r : NormalizedLambda) → IfEvent (OnGrid m n) (diagonalCrossing m n a b r)
 unfolding diagonalCrossing
 diagonal-on-grid m n a b Outside = tt
-diagonal-on-grid m n a b (Lambda l) = go (paramInBounds m n (lerp a b l))
+diagonal-on-grid m n a b (Lambda l) =
+    let p = lerp a b l in
+    cond-keeps (IfEvent (OnGrid m n)) (paramInBounds m n p) _ NoEvent (at (diagonalCellAt m n p) (diagonal-inside m n p)) tt
   where
     at : (c : DiagonalCell) → CellInside m n c → IfEvent (OnGrid m n) (diagonalEvent l c)
     at (Cell u v) h = h
     at NoCell h = tt
-
-    go : (t : Bool) → IfEvent (OnGrid m n) (cond t (diagonalEvent l (diagonalCellAt m n (lerp a b l))) NoEvent)
-    go true = at (diagonalCellAt m n (lerp a b l)) (diagonal-inside m n (lerp a b l))
-    go false = tt

@@ -1,4 +1,5 @@
 -- Laws that belong to no one function.
+pub mod Cases
 pub mod Steps
 pub mod Index
 pub mod Candidates

@@ -1,7 +1,7 @@
--- Events as one list. A store to both lists is a store of an event; a list whose end is moved up by one, so that a value can be put there; and an event put at a place of both lists. Assumes nothing.
+-- Events as one list: a store to both lists is a store of an event. Room for a value is made by moving up what stands from its place on; and a value put at a place of both lists is an event put there. Assumes nothing.
 use mathlib.Core.Path.{_≡_, refl, ap, sym, _∙_}
 use mathlib.Core.List.{List, [], _∷_}
-use Prim.Native.Nat.{ℕ, zero, suc, _+_, _<_, _≤_}
+use Prim.Native.Nat.{ℕ, zero, suc, _+_, _-_, _<_, _≤_}
 use native.Mathlib.Omega.{arith}
 use native.Mathlib.Numerals.{add-one}
 use lib.ListN.{length, take, drop, getD, set, length-set, drop-of-length-le}
@@ -23,9 +23,9 @@ held-set [] [] i x y e = refl
 held-set [] (c ∷ cs) i x y e = absurd (omega arith)
 held-set (l ∷ ls) [] i x y e = absurd (omega arith)
 held-set (l ∷ ls) (c ∷ cs) zero x y e = refl
-held-set (l ∷ ls) (c ∷ cs) (suc i) x y e = ap (λ (r : List EdgeEvent). eventOf l c ∷ r) (held-set ls cs i x y (omega arith))
+held-set (l ∷ ls) (c ∷ cs) (suc i) x y e = rw (held-set ls cs i x y (omega arith))
 
-pub held-at : (ls : List Float) (cs : List ℕ) (i : ℕ) (d : EdgeEvent) → length ls ≡ length cs → i < length ls → getD (held ls cs) i d ≡ eventOf (getD ls i nan) (getD cs i 0)
+held-at : (ls : List Float) (cs : List ℕ) (i : ℕ) (d : EdgeEvent) → length ls ≡ length cs → i < length ls → getD (held ls cs) i d ≡ eventOf (getD ls i nan) (getD cs i 0)
 unfolding held
 held-at [] cs i d e h = absurd (omega arith)
 held-at (l ∷ ls) [] i d e h = absurd (omega arith)
@@ -39,34 +39,49 @@ event-in ls cs count i d e h k = sym (getD-take count (held ls cs) i d k ∙ hel
 pub events-length : (ls : List Float) (cs : List ℕ) (count : ℕ) → length ls ≡ length cs → count ≤ length ls → length (eventsIn ls cs count) ≡ count
 events-length ls cs count e h = length-take-le count (held ls cs) (omega (arith, held-length ls cs e))
 
--- ---- a list whose end is moved up by one, from the back: so far what stood from i on, in a list of which `count` count
-module _ {A : Type 0} (xs : List A) (count : ℕ) where
-  abbrev pub Moved : List A → ℕ → Type 0
-  Moved ys i = (take i ys ≡ take i xs) × (drop (i + 1) (take (count + 1) ys) ≡ drop i (take count xs))
+-- ---- room is made at `place` among the first `count`: from the back, each is moved up by one. So far those from i on are
+pub record Moving {A : Type 0} (xs : List A) (count place : ℕ) (ys : List A) (i : ℕ) : Type 0 where
+  pub from : place ≤ i
+  pub to : i ≤ count
+  pub as-long : length ys ≡ length xs
+  pub below : take i ys ≡ take i xs
+  pub above : drop (i + 1) (take (count + 1) ys) ≡ drop i (take count xs)
 
-  pub moved-none : count < length xs → Moved xs count
-  moved-none h =
+module _ {A : Type 0} {xs : List A} {count place : ℕ} (room : count < length xs) where
+  pub moving-starts : place ≤ count → Moving xs count place xs count
+  moving-starts h =
       let m : length (take (count + 1) xs) ≤ count + 1 = omega (arith, length-take-le (count + 1) xs (omega arith)) in
       let n : length (take count xs) ≤ count = omega (arith, length-take-le count xs (omega arith)) in
-      (refl, drop-of-length-le (take (count + 1) xs) m ∙ sym (drop-of-length-le (take count xs) n))
+      record { from = h; to = omega arith; as-long = refl; below = refl; above = drop-of-length-le (take (count + 1) xs) m ∙ sym (drop-of-length-le (take count xs) n) }
 
-  module _ (ys : List A) (h : count < length ys) where
-    pub moved-on : (i j : ℕ) (d : A) → count < length xs → j + 1 ≡ i → i ≤ count → Moved ys i → Moved (set ys i (getD ys j d)) j
-    moved-on i j d g e k m =
-        let x = getD ys j d in
-        let t = take (count + 1) ys in
-        let n : i < length t = omega (arith, length-take-le (count + 1) ys (omega arith)) in
-        let same : x ≡ getD (take count xs) j d =
-        sym (getD-take i ys j d (omega arith)) ∙ ap (λ (l : List A). getD l j d) (m .0) ∙ getD-take i xs j d (omega arith) ∙ sym (getD-take count xs j d (omega arith)) in (
-          take-set-le j ys i x (omega arith) ∙ sym (take-take j i ys (omega arith)) ∙ ap (take j) (m .0) ∙ take-take j i xs (omega arith),
-          rw (e, take-set-lt (count + 1) ys i x (omega arith), drop-cons (set t i x) i d (omega (arith, length-set t i x)), getD-set-same t i x d n, drop-set-lt (suc i) t i x (omega arith), ← add-one i, m .1, same, ← e, add-one j)
-              (sym (drop-cons (take count xs) j d (omega (arith, length-take-le count xs (omega arith))))),
-        )
+  pub moving-turn : {ys : List A} {i : ℕ} (d : A) → Moving xs count place ys i → place < i → Moving xs count place (set ys i (getD ys (i - 1) d)) (i - 1)
+  moving-turn {ys} {i} d m h =
+      let j = i - 1 in
+      let x = getD ys j d in
+      let t = take (count + 1) ys in
+      let old = take count xs in
+      let e : j + 1 ≡ i = omega arith in
+      let before : j < i = omega arith in
+      let counted : j < count = omega arith in
+      let stood : x ≡ getD old j d = rw (← getD-take i ys j d, m .below, getD-take i xs j d, getD-take count xs j d) in
+      let fits : i < length t = omega (arith, length-take-le (count + 1) ys (omega arith)) in
+      let moved : drop i (take (count + 1) (set ys i x)) ≡ x ∷ drop (i + 1) t =
+      rw (take-set-lt (count + 1) ys i x (omega arith), drop-cons (set t i x) i d (omega (arith, length-set t i x)), getD-set-same t i x d fits, drop-set-lt (suc i) t i x (omega arith), add-one i) in
+      let next : drop j old ≡ getD old j d ∷ drop (j + 1) old = rw add-one (drop-cons old j d (omega (arith, length-take-le count xs (omega arith)))) in
+      record {
+        from = omega arith;
+        to = omega arith;
+        as-long = length-set ys i x ∙ m .as-long;
+        below = take-set-le j ys i x (omega arith) ∙ sym (take-take j i ys (omega arith)) ∙ ap (take j) (m .below) ∙ take-take j i xs (omega arith);
+        above = rw (next, ← stood, e, moved, m .above);
+      }
 
-    pub moved-all : (p : ℕ) (x : A) → p ≤ count → Moved ys p → take (count + 1) (set ys p x) ≡ putAt p x (take count xs)
-    moved-all p x k m =
-        let t = take (count + 1) ys in
-        rw (take-set-lt (count + 1) ys p x (omega arith), set-split t p x (omega (arith, length-take-le (count + 1) ys (omega arith))), take-take p (count + 1) ys (omega arith), m .0, take-take p count xs k, ← add-one p, m .1)
+  pub moving-ends : {ys : List A} {i : ℕ} (x : A) → Moving xs count place ys i → i ≤ place → take (count + 1) (set ys place x) ≡ putAt place x (take count xs)
+  moving-ends {ys} {i} x m h =
+      let e : i ≡ place = omega arith in
+      let t = take (count + 1) ys in
+      let fits : place < length t = omega (arith, length-take-le (count + 1) ys (omega arith)) in
+      rw (take-set-lt (count + 1) ys place x (omega arith), set-split t place x, take-take place (count + 1) ys (omega arith), ← e, m .below, take-take i count xs (omega arith), ← add-one i, m .above)
 
 -- ---- an event put at a place of both lists
 held-put : (p : ℕ) (x : Float) (y : ℕ) (ls : List Float) (cs : List ℕ) → length ls ≡ length cs → held (putAt p x ls) (putAt p y cs) ≡ putAt p (eventOf x y) (held ls cs)
@@ -75,14 +90,14 @@ held-put zero x y ls cs e = refl
 held-put (suc p) x y [] [] e = refl
 held-put (suc p) x y [] (c ∷ cs) e = absurd (omega arith)
 held-put (suc p) x y (l ∷ ls) [] e = absurd (omega arith)
-held-put (suc p) x y (l ∷ ls) (c ∷ cs) e = ap (λ (r : List EdgeEvent). eventOf l c ∷ r) (held-put p x y ls cs (omega arith))
+held-put (suc p) x y (l ∷ ls) (c ∷ cs) e = rw (held-put p x y ls cs (omega arith))
 
 held-take : (n : ℕ) (ls : List Float) (cs : List ℕ) → take n (held ls cs) ≡ held (take n ls) (take n cs)
 unfolding held
 held-take zero ls cs = refl
 held-take (suc n) [] cs = refl
 held-take (suc n) (l ∷ ls) [] = refl
-held-take (suc n) (l ∷ ls) (c ∷ cs) = ap (λ (r : List EdgeEvent). eventOf l c ∷ r) (held-take n ls cs)
+held-take (suc n) (l ∷ ls) (c ∷ cs) = rw (held-take n ls cs)
 
 pub events-put : (ls : List Float) (cs : List ℕ) (n p : ℕ) (x : Float) (y : ℕ) (ms : List Float) (ds : List ℕ) → length ls ≡ length cs → n ≤ length ls →
     take (n + 1) ms ≡ putAt p x (take n ls) → take (n + 1) ds ≡ putAt p y (take n cs) → eventsIn ms ds (n + 1) ≡ putAt p (eventOf x y) (eventsIn ls cs n)

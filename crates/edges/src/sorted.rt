@@ -59,6 +59,7 @@ fn push_lines(
     if !(EPS < abs(b.along(axis) - a.along(axis))) {
         return total;
     }
+    // Most lines are not crossed. They are passed over here, without a call of `push_candidate`.
     for step in 0..along + 1 {
         let Candidate::Event(event) = line_candidate(axis, across, a, b, step) else {
             continue;

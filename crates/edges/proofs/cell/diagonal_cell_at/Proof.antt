@@ -4,8 +4,8 @@ use mathlib.Core.Logic.{⊎-elim}
 use mir.Syntax.{w64}
 use mir.ValLaws.{toZ-ofZ}
 use Rattle.edges.specs.declared.cell.DiagonalCell.the-variants.{NoCell}
-use Rattle.edges.specs.Cell.{tryCell, orCell, diagonalCellAt}
-use Rattle.edges.proofs.Index.{not-in-u, not-in-v, four-cells, first-fits, second-fits, third-fits, fourth-left}
+use Rattle.edges.specs.Cell.{tryCell, diagonalCellAt}
+use Rattle.edges.proofs.Index.{FirstOf, not-in-u, not-in-v, four-cells, first-fits, second-fits, third-fits, fourth-left}
 use borrow.Author.Needs.{needs}
 use Rattle.edges.proofs.cell.diagonal_cell_at.Statement.{statement}
 use Rattle.edges.proofs.cell.diagonal_cell_at.Tie as tie
@@ -17,7 +17,7 @@ cells : (c : tie.After-index-of2) →
     let u1 = c .before .before .index-of .result in
     let v0 = c .before .index-before2 .result in
     let v1 = c .index-of2 .result in
-    diagonalCellAt (a .m) (a .n) (a .point) ≡ orCell (tryCell (a .point) u0 v0) (orCell (tryCell (a .point) u0 v1) (orCell (tryCell (a .point) u1 v0) (tryCell (a .point) u1 v1)))
+    FirstOf (a .point) u0 u1 v0 v1 (diagonalCellAt (a .m) (a .n) (a .point))
 cells c =
     let y = c .before .before .before .before in
     let x = y .before in
@@ -42,43 +42,30 @@ before-none c =
 returns : tie.Need-returns
 returns c =
     let k = c .before .before .before .before .before .before in
-    let a = k .before .before .before .before .before .before .args in
-    let u0 = k .before .before .before .index-before .result in
-    let u1 = k .before .before .index-of .result in
-    let v0 = k .before .index-before2 .result in
-    let v1 = k .index-of2 .result in
-    first-fits (a .point) u0 u1 v0 v1 (cells k) (sym (c .before .before .before .try-cell .ensures) ∙ c .before .u .given .1)
+    first-fits (cells k) (sym (c .before .before .before .try-cell .ensures) ∙ c .before .u .given .1)
 
 returns-2 : tie.Need-returns-2
 returns-2 c =
-    let k = c .before .before .before .before .before .before .before .before .before in
-    let a = k .before .before .before .before .before .before .args in
-    let u0 = k .before .before .before .index-before .result in
-    let u1 = k .before .before .index-of .result in
-    let v0 = k .before .index-before2 .result in
-    let v1 = k .index-of2 .result in
-    second-fits (a .point) u0 u1 v0 v1 (cells k) (sym (c .before .before .before .before .before .before .try-cell .ensures) ∙ c .before .before .before .before .enum-told .given .1) (sym (c .before .before .before .try-cell2 .ensures) ∙ c .before .u2 .given .1)
+    let s = c .before .before .before in
+    let f = s .before .before .before in
+    let k = f .before .before .before in
+    second-fits (cells k) (sym (f .try-cell .ensures) ∙ s .before .enum-told .given .1) (sym (s .try-cell2 .ensures) ∙ c .before .u2 .given .1)
 
 returns-3 : tie.Need-returns-3
 returns-3 c =
-    let k = c .before .before .before .before .before .before .before .before in
-    let a = k .before .before .before .before .before .before .args in
-    let u0 = k .before .before .before .index-before .result in
-    let u1 = k .before .before .index-of .result in
-    let v0 = k .before .index-before2 .result in
-    let v1 = k .index-of2 .result in
-    third-fits (a .point) u0 u1 v0 v1 (cells k) (before-none (c .before .before .before .before .before .before)) (sym (c .before .before .before .try-cell3 .ensures) ∙ c .before .u3 .given .1)
+    let t = c .before .before .before in
+    let j = t .before .before .before in
+    third-fits (cells (j .before .before)) (before-none j) (sym (t .try-cell3 .ensures) ∙ c .before .u3 .given .1)
 
 returns-4 : tie.Need-returns-4
 returns-4 c =
-    let k = c .before .before .before .before .before in
-    let a = k .before .before .before .before .before .before .args in
-    let u0 = k .before .before .before .index-before .result in
+    let j = c .before .before .before in
+    let k = j .before .before in
+    let p = k .before .before .before .before .before .before .args .point in
     let u1 = k .before .before .index-of .result in
     let v0 = k .before .index-before2 .result in
-    let v1 = k .index-of2 .result in
-    let out = ⊎-elim (λ w. sym (w .1 .ensures) ∙ w .3 .given .1) (λ w. not-in-v (a .point) u1 v0 (sym (c .before .before .is-in-cell2 .ensures) ∙ w .left)) (c .before .if2 .came) in
-    fourth-left (a .point) u0 u1 v0 v1 (cells k) (before-none (c .before .before .before)) out (c .try-cell4 .ensures)
+    let out = ⊎-elim (λ w. sym (w .1 .ensures) ∙ w .3 .given .1) (λ w. not-in-v p u1 v0 (sym (c .before .before .is-in-cell2 .ensures) ∙ w .left)) (c .before .if2 .came) in
+    fourth-left (cells k) (before-none j) out (c .try-cell4 .ensures)
 
 pub diagonal-cell-at-spec : {M : Type 1} → statement M
 diagonal-cell-at-spec =

@@ -1,20 +1,22 @@
 -- `edges::cell::try_cell` meets its contract, by cases on the two indices. Assumes nothing.
 use mathlib.Core.Path.{sym, _∙_}
 use Rattle.edges.specs.Cell.{tryCell}
-use Rattle.edges.proofs.Index.{try-yes, try-no}
+use Rattle.edges.proofs.Index.{try-decides}
 use borrow.Author.Needs.{needs}
 use Rattle.edges.proofs.cell.try_cell.Statement.{statement}
 use Rattle.edges.proofs.cell.try_cell.Tie as tie
 
 returns : tie.Need-returns
 returns c =
-    try-yes (c .before .before .before .before .before .before .before .before .args .point) (c .before .before .before .before .before .before .i .given .1) (c .before .before .before .j .given .1)
-    (sym (c .before .on-diagonal .ensures) ∙ c .if1 .taken)
+    let j = c .before .before .before in
+    let i = j .before .before .before in
+    try-decides (i .before .before .args .point) (i .i .given .1) (j .j .given .1) (sym (c .before .on-diagonal .ensures) ∙ c .if1 .taken)
 
 returns-2 : tie.Need-returns-2
 returns-2 c =
-    try-no (c .before .before .before .before .before .before .before .before .args .point) (c .before .before .before .before .before .before .i .given .1) (c .before .before .before .j .given .1)
-    (sym (c .before .on-diagonal .ensures) ∙ c .if1 .left)
+    let j = c .before .before .before in
+    let i = j .before .before .before in
+    try-decides (i .before .before .args .point) (i .i .given .1) (j .j .given .1) (sym (c .before .on-diagonal .ensures) ∙ c .if1 .left)
 
 returns-3 : tie.Need-returns-3
 unfolding tryCell

@@ -1,32 +1,45 @@
 -- `edges::event::diagonal_candidate` meets its contract: where there is a lambda, the point there is in bounds and on a cell's diagonal, or there is no event. Assumes nothing.
-use mathlib.Core.Path.{sym, _∙_}
-use Rattle.edges.proofs.Candidates.{crossing-off, crossing-out, crossing-no, crossing-yes}
-use borrow.Author.Tests.{not-true, not-false}
+use mathlib.Core.Path.{_≡_, ap, sym, _∙_}
+use Rattle.float.proofs.Tests.{held, failed}
+use Rattle.edges.specs.Cell.{diagonalCellAt}
+use Rattle.edges.specs.Events.{diagonalEvent, diagonalCandidate}
+use Rattle.edges.proofs.Candidates.{crossing-off, crossing-out, crossing-in}
 use borrow.Author.Needs.{needs}
 use Rattle.edges.proofs.event.diagonal_candidate.Statement.{statement}
 use Rattle.edges.proofs.event.diagonal_candidate.Tie as tie
 
 returns : tie.Need-returns
-returns c = let a = c .before .before .before .before .before .before .before .before .args in crossing-off (a .a) (a .b) (c .before .before .lambda-at .ensures) (a .m) (a .n) (c .enum-told .given .1)
+returns c =
+    let l = c .before .before in
+    let a = l .before .before .before .before .before .before .args in
+    crossing-off (a .a) (a .b) (l .lambda-at .ensures) (a .m) (a .n) (c .enum-told .given .1)
 
 returns-2 : tie.Need-returns-2
 returns-2 c =
-    let a = c .before .before .before .before .before .before .before .before .before .before .before .before .args in
-    crossing-out (a .a) (a .b) (c .before .before .before .before .before .before .lambda-at .ensures) (c .before .before .before .before .lambda .given .1) (c .before .before .lerp .ensures) (a .m) (a .n) (sym (c .before .param-in-bounds .ensures) ∙ not-true _ (c .if1 .taken))
+    let p = c .before .before in
+    let t = p .before .before in
+    let l = t .before .before in
+    let a = l .before .before .before .before .before .before .args in
+    crossing-out (a .a) (a .b) (l .lambda-at .ensures) (t .lambda .given .1) (p .lerp .ensures) (a .m) (a .n) (failed (c .before .param-in-bounds .ensures) (c .if1 .taken))
+
+-- in bounds, the cell at the point decides
+in-bounds : (c : tie.Else1) →
+    let p = c .before .before in
+    let t = p .before .before in
+    let a = t .before .before .before .before .before .before .before .before .args in
+    diagonalEvent (t .lambda .given .0 .0) (diagonalCellAt (a .m) (a .n) (p .lerp .result)) ≡ diagonalCandidate (a .m) (a .n) (a .a) (a .b) (a .sum)
+in-bounds c =
+    let p = c .before .before in
+    let t = p .before .before in
+    let l = t .before .before in
+    let a = l .before .before .before .before .before .before .args in
+    crossing-in (a .a) (a .b) (l .lambda-at .ensures) (t .lambda .given .1) (p .lerp .ensures) (a .m) (a .n) (held (c .before .param-in-bounds .ensures) (c .if1 .left))
 
 returns-3 : tie.Need-returns-3
-returns-3 c =
-    let e = c .before .before .before in
-    let a = e .before .before .before .before .before .before .before .before .before .before .before .before .args in
-    crossing-no (a .a) (a .b) (e .before .before .before .before .before .before .lambda-at .ensures) (e .before .before .before .before .lambda .given .1) (e .before .before .lerp .ensures) (a .m) (a .n)
-    (sym (e .before .param-in-bounds .ensures) ∙ not-false _ (e .if1 .left)) (sym (c .before .before .diagonal-cell-at .ensures) ∙ c .enum-told2 .given .1)
+returns-3 c = let d = c .before .before in ap (diagonalEvent _) (sym (c .enum-told2 .given .1) ∙ d .diagonal-cell-at .ensures) ∙ in-bounds (d .before)
 
 returns-4 : tie.Need-returns-4
-returns-4 c =
-    let e = c .before .before .before .before in
-    let a = e .before .before .before .before .before .before .before .before .before .before .before .before .args in
-    crossing-yes (a .a) (a .b) (e .before .before .before .before .before .before .lambda-at .ensures) (e .before .before .before .before .lambda .given .1) (e .before .before .lerp .ensures) (a .m) (a .n)
-    (sym (e .before .param-in-bounds .ensures) ∙ not-false _ (e .if1 .left)) (sym (c .before .before .before .diagonal-cell-at .ensures) ∙ c .before .u .given .1)
+returns-4 c = let d = c .before .before .before in ap (diagonalEvent _) (sym (c .before .u .given .1) ∙ d .diagonal-cell-at .ensures) ∙ in-bounds (d .before)
 
 pub diagonal-candidate-spec : {M : Type 1} → statement M
 diagonal-candidate-spec =

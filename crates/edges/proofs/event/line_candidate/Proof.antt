@@ -2,16 +2,14 @@
 use mathlib.Core.Path.{_≡_}
 use Rattle.edges.specs.Param.{along}
 use Rattle.edges.specs.Events.{lambdaAt, change}
-use Rattle.edges.proofs.Candidates.{line-lambda, line-off, line-on}
+use Rattle.edges.proofs.Candidates.{line-off, line-on}
 use borrow.Author.Needs.{needs}
 use Rattle.edges.proofs.event.line_candidate.Statement.{statement}
 use Rattle.edges.proofs.event.line_candidate.Tie as tie
 
 -- the lambda that was found is the line's
 found : (c : tie.After-lambda-at) → let a = c .before .before .before .args in c .lambda-at .result ≡ lambdaAt (a .step) (along (a .axis) (a .a)) (change (a .axis) (a .a) (a .b))
-found c =
-    let a = c .before .before .before .args in
-    line-lambda (a .axis) (a .a) (a .b) (a .step) (c .before .before .along .ensures) (c .before .along2 .ensures) (c .lambda-at .ensures)
+found c = cc
 
 returns : tie.Need-returns
 returns c =

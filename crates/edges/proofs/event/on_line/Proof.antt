@@ -1,5 +1,5 @@
 -- `edges::event::on_line` meets its contract: the event is kept if the test says so. Assumes nothing.
-use mathlib.Core.Path.{_≡_, sym, ap, _∙_}
+use mathlib.Core.Path.{_≡_, _∙_}
 use Rattle.float.specs.Cast.{natFloat}
 use Rattle.edges.specs.Param.{within}
 use borrow.Author.Needs.{needs}
@@ -7,7 +7,7 @@ use Rattle.edges.proofs.event.on_line.Statement.{statement}
 use Rattle.edges.proofs.event.on_line.Tie as tie
 
 test : (c : tie.After-is-within) → within (c .before .before .args .x) (natFloat (c .before .before .args .steps)) ≡ c .is-within .result
-test c = ap (within (c .before .before .args .x)) (sym (c .before .to-f64 .ensures)) ∙ sym (c .is-within .ensures)
+test c = cc
 
 returns : tie.Need-returns
 returns c = simp (test (c .before) ∙ c .if1 .taken)

@@ -13,9 +13,10 @@ use Rattle.edges.proofs.point.integer_step.Statement.{statement}
 use Rattle.edges.proofs.point.integer_step.Tie as tie
 
 tests : (c : tie.After-to-f64) →
-    lt (c .before .abs .result) eps && (le zero64 (c .before .before .round .result) && le (c .before .before .round .result) (c .to-f64 .result))
-    ≡ lt (absolute (sub binary64 (c .before .before .before .args .value) (rounded (c .before .before .before .args .value)))) eps
-    && (le zero64 (rounded (c .before .before .before .args .value)) && le (rounded (c .before .before .before .args .value)) (natFloat (c .before .before .before .args .steps)))
+    let step = c .before .before .round .result in
+    let a = c .before .before .before .args in
+    lt (c .before .abs .result) eps && (le zero64 step && le step (c .to-f64 .result))
+    ≡ lt (absolute (sub binary64 (a .value) (rounded (a .value)))) eps && (le zero64 (rounded (a .value)) && le (rounded (a .value)) (natFloat (a .steps)))
 tests c = cc
 
 returns : tie.Need-returns

@@ -1,38 +1,23 @@
 -- `edges::scratch::insert_code` meets its contract: from the back what stands after the place is moved up, one at a turn. Assumes nothing.
-use mathlib.Core.Path.{_≡_, subst}
-use Prim.Native.Nat.{_≤_, _<_, _-_}
-use native.Mathlib.Omega.{arith}
-use lib.ListN.{length}
-use Rattle.edges.proofs.Places.{Moved, moved-none, moved-on, moved-all}
+use Rattle.edges.proofs.Places.{Moving, moving-starts, moving-turn, moving-ends}
 use borrow.Author.Needs.{needs}
 use Rattle.edges.proofs.scratch.insert_code.Statement.{statement}
 use Rattle.edges.proofs.scratch.insert_code.Tie as tie
 
 abbrev Inv-loop : tie.InvT-loop
-Inv-loop codes₀ count place code i₀ codes i =
-    (place ≤ i) × (i ≤ count) × (length codes ≡ length codes₀) × Moved codes₀ count codes i
+Inv-loop codes₀ count place code i₀ codes i = Moving codes₀ count place codes i
 
 abbrev μ-loop : tie.MeasureT-loop
 μ-loop codes₀ count place code i₀ codes i = i
 
 loop-holds : tie.Need-loop-holds Inv-loop μ-loop
-loop-holds c = (search needs, search needs, search needs, moved-none (c .args .codes .now) (c .args .count) (c .pre .1))
+loop-holds c = moving-starts (c .pre .1) (c .pre .0)
 
 loop-again : tie.Need-loop-again Inv-loop μ-loop
-loop-again c =
-    let s = c .before .before .before in
-    let l = c .before .before .loop in
-    let t : s .args .place < l .i = c .before .loop-test .taken in
-    let h : s .args .count < length (l .codes) = omega (arith, l .inv .2, s .pre .1) in
-    (search needs, search needs, search needs, moved-on (s .args .codes .now) (s .args .count) (l .codes) h (l .i) (l .i - 1) 0 (s .pre .1) (omega arith) (l .inv .1) (l .inv .3))
+loop-again c = moving-turn (c .before .before .before .pre .1) 0 (c .before .before .loop .inv) (c .before .loop-test .taken)
 
 returns : tie.Need-returns Inv-loop μ-loop
-returns c =
-    let s = c .before .before in
-    let l = c .before .loop in
-    let e : l .i ≡ s .args .place = omega (arith, c .loop-test .left, l .inv .0) in
-    let h : s .args .count < length (l .codes) = omega (arith, l .inv .2, s .pre .1) in
-    moved-all (s .args .codes .now) (s .args .count) (l .codes) h (s .args .place) (s .args .code) (s .pre .0) (subst (Moved (s .args .codes .now) (s .args .count) (l .codes)) e (l .inv .3))
+returns c = moving-ends (c .before .before .pre .1) (c .before .before .args .code) (c .before .loop .inv) (c .loop-test .left)
 
 pub insert-code-spec : {M : Type 1} → statement M
 insert-code-spec =

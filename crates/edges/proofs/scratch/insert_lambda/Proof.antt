@@ -1,39 +1,24 @@
 -- `edges::scratch::insert_lambda` meets its contract: from the back what stands after the place is moved up, one at a turn. Assumes nothing.
-use mathlib.Core.Path.{_≡_, subst}
-use Prim.Native.Nat.{_≤_, _<_, _-_}
-use native.Mathlib.Omega.{arith}
-use lib.ListN.{length}
 use lib.Ieee.{nan}
-use Rattle.edges.proofs.Places.{Moved, moved-none, moved-on, moved-all}
+use Rattle.edges.proofs.Places.{Moving, moving-starts, moving-turn, moving-ends}
 use borrow.Author.Needs.{needs}
 use Rattle.edges.proofs.scratch.insert_lambda.Statement.{statement}
 use Rattle.edges.proofs.scratch.insert_lambda.Tie as tie
 
 abbrev Inv-loop : tie.InvT-loop
-Inv-loop lambdas₀ count place lambda i₀ lambdas i =
-    (place ≤ i) × (i ≤ count) × (length lambdas ≡ length lambdas₀) × Moved lambdas₀ count lambdas i
+Inv-loop lambdas₀ count place lambda i₀ lambdas i = Moving lambdas₀ count place lambdas i
 
 abbrev μ-loop : tie.MeasureT-loop
 μ-loop lambdas₀ count place lambda i₀ lambdas i = i
 
 loop-holds : tie.Need-loop-holds Inv-loop μ-loop
-loop-holds c = (search needs, search needs, search needs, moved-none (c .args .lambdas .now) (c .args .count) (c .pre .1))
+loop-holds c = moving-starts (c .pre .1) (c .pre .0)
 
 loop-again : tie.Need-loop-again Inv-loop μ-loop
-loop-again c =
-    let s = c .before .before .before in
-    let l = c .before .before .loop in
-    let t : s .args .place < l .i = c .before .loop-test .taken in
-    let h : s .args .count < length (l .lambdas) = omega (arith, l .inv .2, s .pre .1) in
-    (search needs, search needs, search needs, moved-on (s .args .lambdas .now) (s .args .count) (l .lambdas) h (l .i) (l .i - 1) nan (s .pre .1) (omega arith) (l .inv .1) (l .inv .3))
+loop-again c = moving-turn (c .before .before .before .pre .1) nan (c .before .before .loop .inv) (c .before .loop-test .taken)
 
 returns : tie.Need-returns Inv-loop μ-loop
-returns c =
-    let s = c .before .before in
-    let l = c .before .loop in
-    let e : l .i ≡ s .args .place = omega (arith, c .loop-test .left, l .inv .0) in
-    let h : s .args .count < length (l .lambdas) = omega (arith, l .inv .2, s .pre .1) in
-    moved-all (s .args .lambdas .now) (s .args .count) (l .lambdas) h (s .args .place) (s .args .lambda) (s .pre .0) (subst (Moved (s .args .lambdas .now) (s .args .count) (l .lambdas)) e (l .inv .3))
+returns c = moving-ends (c .before .before .pre .1) (c .before .before .args .lambda) (c .before .loop .inv) (c .loop-test .left)
 
 pub insert-lambda-spec : {M : Type 1} → statement M
 insert-lambda-spec =

@@ -1,14 +1,14 @@
 -- `edges::scratch::place_of` meets its contract: the place is after what `low` has passed, and not after `high`, which the lambda precedes. Assumes nothing.
-use mathlib.Core.Path.{_≡_, refl, sym, _∙_, subst}
+use mathlib.Core.Path.{_≡_, refl, sym, _∙_}
 use mathlib.Core.Bool.{true}
-use Prim.Native.Nat.{ℕ, _≤_, _<_, _-_}
+use Prim.Native.Nat.{_≤_, _<_, _-_}
 use native.Mathlib.Omega.{arith}
 use lib.ListN.{getD}
 use lib.Ieee.{nan}
+use Rattle.float.proofs.Tests.{held, failed}
 use Rattle.float.specs.Order.{totalOrder}
 use Rattle.edges.specs.Events.{precedes}
 use Rattle.edges.proofs.Order.{After, after-none, after-this}
-use borrow.Author.Tests.{not-true, not-false}
 use borrow.Author.Needs.{needs}
 use Rattle.edges.proofs.scratch.place_of.Statement.{statement}
 use Rattle.edges.proofs.scratch.place_of.Tie as tie
@@ -30,14 +30,14 @@ returns-2 c =
     let a = c .before .before .before .before .before .args in
     record {
       most = search needs;
-      after = after-this (a .lambda) (a .lambdas .now) (a .count - 1) (a .count) (omega arith) (sym (c .before .precedes .ensures) ∙ not-true _ (c .if2 .taken));
+      after = after-this (a .lambda) (a .lambdas .now) (a .count - 1) (a .count) (omega arith) (failed (c .before .precedes .ensures) (c .if2 .taken));
       before = λ h. absurd (omega arith);
     }
 
 loop-holds : tie.Need-loop-holds Inv-loop μ-loop
 loop-holds c =
     let a = c .before .before .before .before .before .args in
-    (search needs, search needs, after-none (a .lambda) (a .lambdas .now), sym (c .before .precedes .ensures) ∙ not-false _ (c .if2 .left))
+    (search needs, search needs, after-none (a .lambda) (a .lambdas .now), held (c .before .precedes .ensures) (c .if2 .left))
 
 loop-again : tie.Need-loop-again Inv-loop μ-loop
 loop-again c = (search needs, search needs, c .before .before .before .before .loop .inv .2, sym (c .before .precedes2 .ensures) ∙ c .if3 .taken)
@@ -50,12 +50,11 @@ loop-again-2 c =
 returns-3 : tie.Need-returns-3 Inv-loop μ-loop
 returns-3 c =
     let l = c .before .loop in
-    let a = c .before .before .before .before .before .before .before .args in
     let e : l .high ≡ l .low = omega (arith, c .loop-test .left, l .inv .0) in
     record {
       most = omega (arith, l .inv .0, l .inv .1);
       after = l .inv .2;
-      before = λ h. subst (λ (p : ℕ). precedes (totalOrder (a .lambda) (getD (a .lambdas .now) p nan)) ≡ true) e (l .inv .3);
+      before = λ h. rw e at (l .inv .3);
     }
 
 pub place-of-spec : {M : Type 1} → statement M

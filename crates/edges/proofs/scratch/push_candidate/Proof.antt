@@ -6,10 +6,15 @@ use Rattle.edges.proofs.scratch.push_candidate.Statement.{statement}
 use Rattle.edges.proofs.scratch.push_candidate.Tie as tie
 
 insert-event-requires : tie.Need-insert-event-requires
-insert-event-requires c κs = (search needs, search needs, if-event Storable (c .before .before .before .candidate .given .1) (c .before .before .before .before .before .before .before .pre .2), c .before .before .before .before .before .before .before .pre .3)
+insert-event-requires c κs =
+    let told = c .before .before .before in
+    let s = told .before .before .before .before in
+    (search needs, search needs, if-event Storable (told .candidate .given .1) (s .pre .2), s .pre .3)
 
 returns : tie.Need-returns
-returns c = (search needs, push-yes _ (c .before .before .before .before .before .before .before .before .candidate .given .1) (c .before .before .before .before .insert-event .ensures .0), c .before .before .before .before .insert-event .ensures .1)
+returns c =
+    let put = c .before .before .before .before in
+    (search needs, push-yes _ (put .before .before .before .before .candidate .given .1) (put .insert-event .ensures .0), put .insert-event .ensures .1)
 
 returns-2 : tie.Need-returns-2
 returns-2 c = (search needs, push-no _ (c .enum-told .given .1), c .before .before .before .before .pre .3)

@@ -1,7 +1,5 @@
 -- `edges::sorted::count_of` meets its contract: the number that the code reads back from z's bits is z. Assumes nothing.
-use mathlib.Core.Path.{_≡_, sym, ap, _∙_}
-use lib.IntN.{pos}
-use lib.Signed.{leZ}
+use mathlib.Core.Path.{_≡_}
 use mir.Syntax.{w64}
 use mir.Val.{toZ, ofZ}
 use mir.ValLaws.{toZ-ofZ}
@@ -16,17 +14,17 @@ back c = toZ-ofZ w64 (c .args .z) (c .fits .z)
 cast-result : tie.Need-cast-result
 cast-result c =
     let s = c .before in
-    rw (back s) (nonneg-of (s .args .z) (ap (leZ (pos 0)) (sym (back s)) ∙ c .if1 .taken), abs-fits (s .args .z) (s .fits .z))
+    rw (back s) (nonneg-of (s .args .z) (rw (back s) at (c .if1 .taken)), abs-fits (s .args .z) (s .fits .z))
 
 returns : tie.Need-returns
 returns c =
     let s = c .before in
-    rw (back s) (count-in (s .args .z) (ap (leZ (pos 0)) (sym (back s)) ∙ c .if1 .taken) (s .fits .z))
+    rw (back s) (count-in (s .args .z) (rw (back s) at (c .if1 .taken)) (s .fits .z))
 
 returns-2 : tie.Need-returns-2
 returns-2 c =
     let s = c .before in
-    (count-out (s .args .z) (ap (leZ (pos 0)) (sym (back s)) ∙ c .if1 .left), search needs)
+    (count-out (s .args .z) (rw (back s) at (c .if1 .left)), search needs)
 
 pub count-of-spec : {M : Type 1} → statement M
 count-of-spec = tie.close (tie.spec cast-result returns returns-2)

@@ -1,25 +1,23 @@
 -- `edges::sorted::first_sum` meets its contract: the ceiling of the smaller sum as a count, and at least 1. Assumes nothing.
-use mathlib.Core.Path.{_≡_, ap, _∙_}
+use mathlib.Core.Path.{_≡_}
+use native.Mathlib.Omega.{arith}
 use mir.Syntax.{w64}
 use mir.ValLaws.{toZ-ofZ}
 use Rattle.float.specs.Whole.{ceilZ}
 use Rattle.float.specs.Cast.{count}
 use Rattle.edges.specs.Events.{lowSum}
-use Rattle.edges.proofs.Gather.{at-least-one, above-one}
 use borrow.Author.Needs.{needs}
 use Rattle.edges.proofs.sorted.first_sum.Statement.{statement}
 use Rattle.edges.proofs.sorted.first_sum.Tie as tie
 
 reached : (c : tie.After-count-of) → let a = c .before .before .before .args in c .count-of .result ≡ count (ceilZ (lowSum (a .a) (a .b)))
-reached c =
-    let z = c .before in
-    c .count-of .ensures .0 ∙ ap count (toZ-ofZ w64 (z .ceil-i64 .result) (record { sfits = z .ceil-i64 .ok }) ∙ z .ceil-i64 .ensures ∙ ap ceilZ (z .before .low-sum .ensures))
+reached c = cc (toZ-ofZ w64 (c .before .ceil-i64 .result) (record { sfits = c .before .ceil-i64 .ok }))
 
 returns : tie.Need-returns
-returns c = let a = c .before .before .before .before .args in at-least-one (count (ceilZ (lowSum (a .a) (a .b)))) (reached (c .before)) (c .if1 .taken)
+returns c = omega (arith, reached (c .before), c .if1 .taken)
 
 returns-2 : tie.Need-returns-2
-returns-2 c = let a = c .before .before .before .before .args in above-one (count (ceilZ (lowSum (a .a) (a .b)))) (reached (c .before)) (c .if1 .left)
+returns-2 c = omega (arith, reached (c .before), c .if1 .left)
 
 pub first-sum-spec : {M : Type 1} → statement M
 first-sum-spec =

@@ -1,27 +1,23 @@
 -- `edges::sorted::past_sum` meets its contract: one past the floor of the larger sum as a count, and at most M + N. Assumes nothing.
-use mathlib.Core.Path.{_≡_, ap, _∙_}
+use mathlib.Core.Path.{_≡_}
+use native.Mathlib.Omega.{arith}
 use mir.Syntax.{w64}
 use mir.ValLaws.{toZ-ofZ}
-use Prim.Native.Nat.{_+_}
 use Rattle.float.specs.Whole.{floorZ}
 use Rattle.float.specs.Cast.{count}
 use Rattle.edges.specs.Events.{highSum}
-use Rattle.edges.proofs.Gather.{below-top, at-top}
-use borrow.Author.Needs.{needs}
 use borrow.Author.Needs.{needs}
 use Rattle.edges.proofs.sorted.past_sum.Statement.{statement}
 use Rattle.edges.proofs.sorted.past_sum.Tie as tie
 
 reached : (c : tie.After-count-of) → let a = c .before .before .before .args in c .count-of .result ≡ count (floorZ (highSum (a .a) (a .b)))
-reached c =
-    let z = c .before in
-    c .count-of .ensures .0 ∙ ap count (toZ-ofZ w64 (z .floor-i64 .result) (record { sfits = z .floor-i64 .ok }) ∙ z .floor-i64 .ensures ∙ ap floorZ (z .before .high-sum .ensures))
+reached c = cc (toZ-ofZ w64 (c .before .floor-i64 .result) (record { sfits = c .before .floor-i64 .ok }))
 
 returns : tie.Need-returns
-returns c = let a = c .before .before .before .before .args in below-top (a .m + a .n) (count (floorZ (highSum (a .a) (a .b)))) (reached (c .before)) (c .if1 .taken)
+returns c = omega (arith, reached (c .before), c .if1 .taken)
 
 returns-2 : tie.Need-returns-2
-returns-2 c = let a = c .before .before .before .before .args in at-top (a .m + a .n) (count (floorZ (highSum (a .a) (a .b)))) (reached (c .before)) (c .if1 .left)
+returns-2 c = omega (arith, reached (c .before), c .if1 .left)
 
 pub past-sum-spec : {M : Type 1} → statement M
 past-sum-spec =

@@ -1,22 +1,9 @@
 -- `edges::sorted::push_candidates` meets its contract: group after group is sorted in, and the lists have room for all. Assumes nothing.
-use Prim.Native.Nat.{ℕ, _≤_, _+_, _-_}
 use native.Mathlib.Omega.{arith}
 use Rattle.edges.proofs.Gather.{groups-sorted}
 use borrow.Author.Needs.{needs}
 use Rattle.edges.proofs.sorted.push_candidates.Statement.{statement}
 use Rattle.edges.proofs.sorted.push_candidates.Tie as tie
-
--- 2 + (M + 1) + (N + 1) + (M + N − 1) is at most 1,023
-few : (c : tie.After-push-diagonals) → c .push-diagonals .result ≤ 1023
-few c =
-    let s = c .before .before .before .before .before .before .before .before .before .before .before .before .before .before .before .before .before .before .before .before .before .before .before .before .before .before in
-    let e = c .before .before .before .before .before .before .before .before .before .before .before .before .before .before .before .before .before .before .before .before .before .push-ends in
-    let u = c .before .before .before .before .before .before .before .before .before .before .before .before .before .before .push-lines in
-    let v = c .before .before .before .before .before .before .before .push-lines2 in
-    sum (s .args .m) (s .args .n) (s .pre .u-steps) (s .pre .v-steps) (e .ensures .0) (u .ensures .0) (v .ensures .0) (c .push-diagonals .ensures .0)
-  where
-    sum : (m n : ℕ) {e u v d : ℕ} → m ≤ 255 → n ≤ 255 → e ≤ 2 → u ≤ e + (m + 1) → v ≤ u + (n + 1) → d ≤ v + (m + n - 1) → d ≤ 1023
-    sum m n hm hn he hu hv hd = omega arith
 
 push-lines-requires : tie.Need-push-lines-requires
 push-lines-requires c κs = (search needs, c .before .before .before .before .before .before .push-ends .ensures .2)
@@ -29,9 +16,14 @@ push-diagonals-requires c κs = (search needs, c .before .before .before .before
 
 returns : tie.Need-returns
 returns c =
-    let d = c .before .before .before .before in
-    let a = d .before .before .before .before .before .before .before .before .before .before .before .before .before .before .before .before .before .before .before .before .before .before .before .before .before .before .args in
-    (few d, groups-sorted (a .m) (a .n) (a .a) (a .b) (d .before .before .before .before .before .before .before .before .before .before .before .before .before .before .before .before .before .before .before .before .before .push-ends .ensures .1) (d .before .before .before .before .before .before .before .before .before .before .before .before .before .before .push-lines .ensures .1) (d .before .before .before .before .before .before .before .push-lines2 .ensures .1) (d .push-diagonals .ensures .1))
+    let diagonals = c .before .before .before .before in
+    let vs = diagonals .before .before .before .before .before .before .before in
+    let us = vs .before .before .before .before .before .before .before in
+    let ends = us .before .before .before .before .before .before .before in
+    let s = ends .before .before .before .before .before in (
+      omega (arith, s .pre .u-steps, s .pre .v-steps, ends .push-ends .ensures .0, us .push-lines .ensures .0, vs .push-lines2 .ensures .0, diagonals .push-diagonals .ensures .0),
+      groups-sorted (s .args .m) (s .args .n) (s .args .a) (s .args .b) (ends .push-ends .ensures .1) (us .push-lines .ensures .1) (vs .push-lines2 .ensures .1) (diagonals .push-diagonals .ensures .1),
+    )
 
 pub push-candidates-spec : {M : Type 1} → statement M
 push-candidates-spec =

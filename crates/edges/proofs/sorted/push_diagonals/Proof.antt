@@ -1,23 +1,22 @@
 -- `edges::sorted::push_diagonals` meets its contract: the diagonals from sum on, sorted into the events so far, give what is asked. Assumes nothing.
-use mathlib.Core.Path.{_≡_, sym, ap, _∙_}
+use mathlib.Core.Path.{ap}
 use Prim.Native.Nat.{_≤_, _+_, _-_}
-use lib.ListN.{length}
+use native.Mathlib.Omega.{arith}
 use lib.Ieee.{lt}
-use borrow.Author.Tests.{not-true, not-false}
 use Rattle.float.specs.Consts.{eps}
+use Rattle.float.proofs.Tests.{held, failed}
 use Rattle.edges.specs.Events.{diagonalCandidate, diagonals, sortInto}
-use Rattle.edges.specs.Scratch.{eventsIn, Sorted}
+use Rattle.edges.specs.Scratch.{eventsIn}
 use Rattle.edges.proofs.Storable.{diagonal-storable}
-use Rattle.edges.proofs.Gather.{gathering, gather-turn, gather-ends, diagonals-none, diagonals-start, first-from, past-to, shorter}
+use Rattle.edges.proofs.Gather.{Gathering, gather-turn, gather-ends, diagonals-none, diagonals-start}
 use borrow.Author.Needs.{needs}
 use Rattle.edges.proofs.sorted.push_diagonals.Statement.{statement}
 use Rattle.edges.proofs.sorted.push_diagonals.Tie as tie
 
 abbrev Inv-loop : tie.InvT-loop
 Inv-loop lambdas₀ codes₀ count m n a b total₀ first past sum₀ lambdas codes total sum =
-    (1 ≤ first) × (past ≤ m + n) × (first ≤ sum) × (sum - first ≤ past - first) × (total ≤ count + (sum - first)) × (length lambdas ≡ 1023) × (length codes ≡ 1023)
-    × (sortInto (diagonals m n a b) (eventsIn lambdas₀ codes₀ count) ≡ gathering (diagonalCandidate m n a b) past sum (eventsIn lambdas codes total))
-    × Sorted (eventsIn lambdas codes total)
+    (1 ≤ first) × (past ≤ m + n)
+    × Gathering (diagonalCandidate m n a b) first past (sortInto (diagonals m n a b) (eventsIn lambdas₀ codes₀ count)) count lambdas codes total sum
 
 abbrev μ-loop : tie.MeasureT-loop
 μ-loop lambdas₀ codes₀ count m n a b total₀ first past sum₀ lambdas codes total sum = past - sum
@@ -26,56 +25,44 @@ returns : tie.Need-returns Inv-loop μ-loop
 unfolding eps
 returns c =
     let a = c .before .before .before .before .before .before .before .before .args in
-    (search needs, diagonals-none (a .m) (a .n) (a .a) (a .b) (eventsIn (a .lambdas .now) (a .codes .now) (a .count)) (ap (lt eps) (sym (c .before .abs .ensures)) ∙ not-true _ (c .if1 .taken)))
+    (search needs, diagonals-none (a .m) (a .n) (a .a) (a .b) (eventsIn (a .lambdas .now) (a .codes .now) (a .count)) (failed (ap (lt eps) (c .before .abs .ensures)) (c .if1 .taken)))
 
 loop-holds : tie.Need-loop-holds Inv-loop μ-loop
 unfolding eps
 loop-holds c =
-    let a = c .before .before .before .before .before .before .before .before .before .before .args in
-    let first : 1 ≤ c .before .first-sum .result = first-from (a .a) (a .b) (c .before .first-sum .ensures) in
-    let past : c .past-sum .result ≤ a .m + a .n = past-to (a .m) (a .n) (a .a) (a .b) (c .past-sum .ensures) in (
-      first,
-      past,
-      search needs,
-      search needs,
-      search needs,
-      search needs,
-      search needs,
-      diagonals-start (a .m) (a .n) (a .a) (a .b) (eventsIn (a .lambdas .now) (a .codes .now) (a .count))
-          (ap (lt eps) (sym (c .before .before .before .abs .ensures)) ∙ not-false _ (c .before .before .if1 .left)) (c .before .first-sum .ensures) (c .past-sum .ensures),
-      c .before .before .before .before .before .before .before .before .before .before .pre .1,
+    let f = c .before in
+    let s = f .before .before .before .before .before .before .before .before .before in
+    let a = s .args in
+    let started = eventsIn (a .lambdas .now) (a .codes .now) (a .count) in (
+      omega (arith, f .first-sum .ensures),
+      omega (arith, c .past-sum .ensures),
+      record {
+        from = search needs;
+        to = search needs;
+        few = search needs;
+        lambdas-length = s .pre .0 .lambdas-length;
+        codes-length = s .pre .0 .codes-length;
+        left = diagonals-start (a .m) (a .n) (a .a) (a .b) started (held (ap (lt eps) (f .before .before .abs .ensures)) (f .before .if1 .left)) (f .first-sum .ensures) (c .past-sum .ensures);
+        sorted = s .pre .1;
+      },
     )
 
 push-candidate-requires : tie.Need-push-candidate-requires Inv-loop μ-loop
 push-candidate-requires c κs =
-    let s = c .before .before .before .before .before .before .before .before .before .before .before .before .before .before .before in
-    let l = c .before .before .before .before .loop in
-    (search needs, search needs, diagonal-storable (s .args .m) (s .args .n) (s .pre .0 .u-steps) (s .pre .0 .v-steps) (s .args .a) (s .args .b) (l .sum) (c .diagonal-candidate .ensures), l .inv .8)
-
-loop-less : tie.Need-loop-less Inv-loop μ-loop
-loop-less c = shorter (c .before .before .before .before .before .before .before .before .before .before .past-sum .result) (c .before .before .before .before .before .before .before .before .before .loop .sum) (c .before .before .before .before .before .before .before .before .loop-test .taken)
+    let l = c .before .before .before .before in
+    let s = l .before .before .before .before .before .before .before .before .before .before .before in
+    let a = s .args in
+    (search needs, search needs, diagonal-storable (a .m) (a .n) (s .pre .0 .u-steps) (s .pre .0 .v-steps) (a .a) (a .b) (l .loop .sum) (c .diagonal-candidate .ensures), l .loop .inv .2 .sorted)
 
 loop-again : tie.Need-loop-again Inv-loop μ-loop
 loop-again c =
-    let s = c .before .before .before .before .before .before .before .before .before .before .before .before .before .before .before .before .before .before .before .before in
-    let l = c .before .before .before .before .before .before .before .before .before .loop in (
-      search needs,
-      search needs,
-      search needs,
-      search needs,
-      search needs,
-      search needs,
-      search needs,
-      gather-turn (diagonalCandidate (s .args .m) (s .args .n) (s .args .a) (s .args .b)) (c .before .before .before .before .before .before .before .before .before .before .past-sum .result) (l .sum) (eventsIn (l .lambdas) (l .codes) (l .total)) (l .inv .7) (c .before .before .before .before .before .before .before .before .loop-test .taken)
-          (c .before .before .before .before .before .diagonal-candidate .ensures) (c .before .before .before .before .push-candidate .ensures .1),
-      c .before .before .before .before .push-candidate .ensures .2,
-    )
+    let p = c .before .before .before .before in
+    let t = p .before .before .before .before in
+    let l = t .before .loop in
+    (l .inv .0, l .inv .1, gather-turn (l .inv .2) (t .loop-test .taken) (p .before .diagonal-candidate .ensures) (search needs) (search needs) (p .push-candidate .ensures))
 
 returns-2 : tie.Need-returns-2 Inv-loop μ-loop
-returns-2 c =
-    let s = c .before .before .before .before .before .before .before .before .before .before .before .before in
-    let l = c .before .loop in
-    (search needs, gather-ends (diagonalCandidate (s .args .m) (s .args .n) (s .args .a) (s .args .b)) (c .before .before .past-sum .result) (l .sum) (eventsIn (l .lambdas) (l .codes) (l .total)) (l .inv .7) (c .loop-test .left))
+returns-2 c = (search needs, gather-ends (c .before .loop .inv .2) (c .loop-test .left))
 
 pub push-diagonals-spec : {M : Type 1} → statement M
 push-diagonals-spec =
@@ -91,7 +78,7 @@ push-diagonals-spec =
     (λ c κs. search needs)
     push-candidate-requires
     (λ c. search needs)
-    loop-less
+    (λ c. search needs)
     loop-again
     (λ c. search needs)
     (λ c. search needs)

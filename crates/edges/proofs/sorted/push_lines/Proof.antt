@@ -1,89 +1,80 @@
 -- `edges::sorted::push_lines` meets its contract: the lines from `step` on, sorted into the events so far, give what is asked. Assumes nothing.
-use mathlib.Core.Path.{_≡_, sym, ap, _∙_}
-use Prim.Native.Nat.{_≤_, _+_, _-_}
-use lib.ListN.{length}
-use lib.Ieee.{binary64, lt, sub}
-use borrow.Author.Tests.{not-true, not-false}
+use mathlib.Core.Path.{_≡_}
+use Prim.Native.Nat.{_-_}
+use lib.Ieee.{lt}
 use Rattle.float.specs.Consts.{eps}
-use Rattle.edges.specs.Events.{change, lineCandidate, lines, sortInto}
-use Rattle.edges.specs.Scratch.{eventsIn, Storable, Sorted}
+use Rattle.float.proofs.Tests.{held, failed}
+use Rattle.edges.specs.Events.{change, lineCandidate, moves, lines, sortInto}
+use Rattle.edges.specs.Scratch.{eventsIn, Storable}
 use Rattle.edges.proofs.Storable.{line-storable}
-use Rattle.edges.proofs.Gather.{if-event, push-yes, push-no, gathering, gather-turn, gather-ends, changes, lines-none, lines-start}
+use Rattle.edges.proofs.Gather.{if-event, push-yes, push-no, Gathering, gather-turn, gather-ends, lines-none, lines-start}
 use borrow.Author.Needs.{needs}
 use Rattle.edges.proofs.sorted.push_lines.Statement.{statement}
 use Rattle.edges.proofs.sorted.push_lines.Tie as tie
 
 abbrev Inv-loop : tie.InvT-loop
 Inv-loop lambdas₀ codes₀ count axis along across a b total₀ step₀ step-end lambdas codes total step =
-    (step ≤ step-end) × (total ≤ count + step) × (length lambdas ≡ 1023) × (length codes ≡ 1023)
-    × (sortInto (lines axis along across a b) (eventsIn lambdas₀ codes₀ count) ≡ gathering (lineCandidate axis across a b) step-end step (eventsIn lambdas codes total))
-    × Sorted (eventsIn lambdas codes total)
+    Gathering (lineCandidate axis across a b) 0 step-end (sortInto (lines axis along across a b) (eventsIn lambdas₀ codes₀ count)) count lambdas codes total step
 
 abbrev μ-loop : tie.MeasureT-loop
 μ-loop lambdas₀ codes₀ count axis along across a b total₀ step₀ step-end lambdas codes total step = step-end - step
 
--- by how much the axis changes, as it was found
-changed : (c : tie.After-abs Inv-loop μ-loop) → let a = c .before .before .before .before .before .args in sub binary64 (c .before .before .along .result) (c .before .along2 .result) ≡ change (a .axis) (a .a) (a .b)
-changed c = let a = c .before .before .before .before .before .args in changes (a .axis) (a .a) (a .b) (c .before .before .along .ensures) (c .before .along2 .ensures)
+-- what is tested is whether the axis moves
+test : (c : tie.After-abs Inv-loop μ-loop) → let a = c .before .before .before .before .before .args in lt eps (c .abs .result) ≡ moves (change (a .axis) (a .a) (a .b))
+test c = cc
 
 returns : tie.Need-returns Inv-loop μ-loop
 unfolding eps
 returns c =
-    let a = c .before .before .before .before .before .before .args in
-    (search needs, lines-none (a .axis) (a .along) (a .across) (a .a) (a .b) (eventsIn (a .lambdas .now) (a .codes .now) (a .count)) (changed (c .before)) (ap (lt eps) (sym (c .before .abs .ensures)) ∙ not-true _ (c .if1 .taken)), c .before .before .before .before .before .before .pre .1)
+    let s = c .before .before .before .before .before .before in
+    let a = s .args in
+    let started = eventsIn (a .lambdas .now) (a .codes .now) (a .count) in
+    (search needs, lines-none (a .axis) (a .along) (a .across) (a .a) (a .b) started (failed (test (c .before)) (c .if1 .taken)), s .pre .1)
 
 loop-holds : tie.Need-loop-holds Inv-loop μ-loop
 unfolding eps
 loop-holds c =
-    let a = c .before .before .before .before .before .before .args in
-    (search needs, search needs, search needs, search needs, lines-start (a .axis) (a .along) (a .across) (a .a) (a .b) (eventsIn (a .lambdas .now) (a .codes .now) (a .count)) (changed (c .before)) (ap (lt eps) (sym (c .before .abs .ensures)) ∙ not-false _ (c .if1 .left)), c .before .before .before .before .before .before .pre .1)
+    let s = c .before .before .before .before .before .before in
+    let a = s .args in
+    let started = eventsIn (a .lambdas .now) (a .codes .now) (a .count) in
+    record {
+      from = search needs;
+      to = search needs;
+      few = search needs;
+      lambdas-length = s .pre .0 .lambdas-length;
+      codes-length = s .pre .0 .codes-length;
+      left = lines-start (a .axis) (a .along) (a .across) (a .a) (a .b) started (held (test (c .before)) (c .if1 .left));
+      sorted = s .pre .1;
+    }
 
 loop-again : tie.Need-loop-again Inv-loop μ-loop
 loop-again c =
     let t = c .before .before .before in
-    let l = t .before .loop in
-    let a = c .before .before .before .before .before .before .before .before .before .before .before .args in (
-      search needs,
-      search needs,
-      search needs,
-      search needs,
-      gather-turn (lineCandidate (a .axis) (a .across) (a .a) (a .b)) (a .along + 1) (l .step) (eventsIn (l .lambdas) (l .codes) (l .total)) (l .inv .4) (t .loop-test .taken)
-          (c .before .before .line-candidate .ensures) (push-no _ (c .enum-told .given .1)),
-      l .inv .5,
-    )
+    let g = t .before .loop .inv in
+    gather-turn g (t .loop-test .taken) (c .before .before .line-candidate .ensures) (g .lambdas-length) (g .codes-length) (search needs, push-no _ (c .enum-told .given .1), g .sorted)
 
 insert-event-requires : tie.Need-insert-event-requires Inv-loop μ-loop
 insert-event-requires c κs =
     let e = c .before .before .before in
     let t = e .before .before .before in
-    let s = c .before .before .before .before .before .before .before .before .before .before .before .before .before .before in (
+    let l = t .before .loop in
+    let s = t .before .before .before .before .before .before .before .before in
+    let a = s .args in (
       search needs,
       search needs,
-      if-event Storable (e .event .given .1)
-          (line-storable (s .args .axis) (s .args .along) (s .args .across) (s .args .a) (s .args .b) (t .before .loop .step) (s .pre .0 .u-steps) (t .loop-test .taken) (e .before .before .line-candidate .ensures)),
-      t .before .loop .inv .5,
+      if-event Storable (e .event .given .1) (line-storable (a .axis) (a .along) (a .across) (a .a) (a .b) (l .step) (s .pre .0 .u-steps) (t .loop-test .taken) (e .before .before .line-candidate .ensures)),
+      l .inv .sorted,
     )
 
 loop-again-2 : tie.Need-loop-again-2 Inv-loop μ-loop
 loop-again-2 c =
+    let p = c .before .before .before .before .insert-event in
     let e = c .before .before .before .before .before .before .before .before in
     let t = e .before .before .before in
-    let l = t .before .loop in
-    let a = c .before .before .before .before .before .before .before .before .before .before .before .before .before .before .before .before .before .before .before .args in (
-      search needs,
-      search needs,
-      search needs,
-      search needs,
-      gather-turn (lineCandidate (a .axis) (a .across) (a .a) (a .b)) (a .along + 1) (l .step) (eventsIn (l .lambdas) (l .codes) (l .total)) (l .inv .4) (t .loop-test .taken)
-          (e .before .before .line-candidate .ensures) (push-yes _ (e .event .given .1) (c .before .before .before .before .insert-event .ensures .0)),
-      c .before .before .before .before .insert-event .ensures .1,
-    )
+    gather-turn (t .before .loop .inv) (t .loop-test .taken) (e .before .before .line-candidate .ensures) (search needs) (search needs) (search needs, push-yes _ (e .event .given .1) (p .ensures .0), p .ensures .1)
 
 returns-2 : tie.Need-returns-2 Inv-loop μ-loop
-returns-2 c =
-    let l = c .before .loop in
-    let a = c .before .before .before .before .before .before .before .before .args in
-    (search needs, gather-ends (lineCandidate (a .axis) (a .across) (a .a) (a .b)) (a .along + 1) (l .step) (eventsIn (l .lambdas) (l .codes) (l .total)) (l .inv .4) (c .loop-test .left), l .inv .5)
+returns-2 c = let g = c .before .loop .inv in (search needs, gather-ends g (c .loop-test .left), g .sorted)
 
 pub push-lines-spec : {M : Type 1} → statement M
 push-lines-spec =
