@@ -5,7 +5,7 @@ use native.Mathlib.Nat.{lt-of-le-of-lt, le-suc}
 use native.Mathlib.Omega.{arith}
 use mathlib.Core.Bool.{Bool, true, false, cond, true≢false, and-false}
 use lib.IntN.{ℤ, pos, negsuc, natAbs, predℤ, _-ℤ_, -ℤ-one}
-use lib.Signed.{nonNeg, leZ}
+use lib.Signed.{nonNeg, ltZ, leZ}
 use lib.Dec.{T, ltb, leb}
 use borrow.Author.Tests.{ltb-true, lt-ltb, le-ltb, leb-false}
 use mir.Syntax.{w64}
@@ -36,9 +36,6 @@ abs-fits (negsuc n) s = record { fits = omega (arith, s .sfits) }
 no-zero : (n : ℕ) → leb 0 n ≡ false → ⊥
 no-zero n h = omega (arith, leb-false 0 n h)
 
-no-one : (n : ℕ) → leb 1 (suc n) ≡ false → ⊥
-no-one n h = omega (arith, leb-false 1 (suc n) h)
-
 -- a signed number as a count
 pub count-in : (z : ℤ) → leZ (pos 0) z ≡ true → SFits w64 z → (natAbs z ≡ count z) × (natAbs z < 9223372036854775808)
 count-in (pos n) h s = (refl, s .sfits)
@@ -64,19 +61,22 @@ unfolding indexOf
 index-out (pos k) n l = simp (le-ltb k n l)
 index-out (negsuc k) n l = refl
 
-pub before-out : (z : ℤ) (n : ℕ) → leZ (pos 1) z ≡ false → Outside ≡ indexOf (z -ℤ pos 1) n
+-- the number before z: z is the least i64, or it fits too
+abbrev pub least : ℤ
+least = negsuc 9223372036854775807
+
+pub before-out : (z : ℤ) (n : ℕ) → ltZ least z ≡ false → Outside ≡ indexOf (z -ℤ pos 1) n
 unfolding indexOf
-before-out (pos zero) n h = refl
-before-out (pos (suc k)) n h = absurd (no-one k h)
+before-out (pos k) n h = absurd (true≢false h)
 before-out (negsuc k) n h = refl
 
-pub before-fits : (z : ℤ) → leZ (pos 1) z ≡ true → SFits w64 z → SFits w64 (z -ℤ pos 1)
+pub before-fits : (z : ℤ) → ltZ least z ≡ true → SFits w64 z → SFits w64 (z -ℤ pos 1)
 before-fits z h s = rw -ℤ-one (go z h s)
   where
-    go : (y : ℤ) → leZ (pos 1) y ≡ true → SFits w64 y → SFits w64 (predℤ y)
-    go (pos zero) g t = absurd (true≢false (sym g))
+    go : (y : ℤ) → ltZ least y ≡ true → SFits w64 y → SFits w64 (predℤ y)
+    go (pos zero) g t = record { sfits = omega arith }
     go (pos (suc k)) g t = record { sfits = lt-of-le-of-lt (le-suc k) (t .sfits) }
-    go (negsuc k) g t = absurd (true≢false (sym g))
+    go (negsuc k) g t = record { sfits = omega (arith, ltb-true k 9223372036854775807 g) }
 
 -- ---- a cell by what was found: the facts are arguments, so that `cc` and `rw` have only these to look at
 pub try-decides : (p : ParamPoint) {i j : CellIndex} {u v : ℕ} {t : Bool} → i ≡ Index u → j ≡ Index v → onDiagonal p u v ≡ t → cond t (Cell u v) NoCell ≡ tryCell p i j

@@ -33,15 +33,14 @@ fn index_of(z: i64, n: usize) -> CellIndex
     CellIndex::Outside
 }
 
-// z - 1 as an index below n. It is not formed where it would wrap.
+// z - 1, which is below zero where z is 0, as an index below n. The least i64 has none before it.
 fn index_before(z: i64, n: usize) -> CellIndex
     ensures { λ r. ⌜ r ≡ indexOf (z -ℤ pos 1) n ⌝ }
 {
-    if z >= 1 {
-        index_of(z - 1, n)
-    } else {
-        CellIndex::Outside
+    if i64::MIN < z {
+        return index_of(z - 1, n);
     }
+    CellIndex::Outside
 }
 
 fn on_diagonal(point: ParamPoint, u: usize, v: usize) -> bool

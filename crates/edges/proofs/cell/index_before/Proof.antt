@@ -1,4 +1,4 @@
--- `edges::cell::index_before` meets its contract: from 1 on z − 1 is formed and fits, and below 1 it is no index. Assumes nothing.
+-- `edges::cell::index_before` meets its contract: z − 1 fits where z is not the least i64, and what is before that is no index. Assumes nothing.
 use mathlib.Core.Path.{_≡_}
 use lib.IntN.{pos, _-ℤ_}
 use mir.Syntax.{w64}
