@@ -1,5 +1,5 @@
 -- `cyclic::seam::search` meets its contract: a list of points is a row that starts at 0 with stride 1. Assumes nothing.
-use Prim.Native.Nat.{_-_, _/_}
+use Prim.Native.Nat.{_/_}
 use native.Mathlib.Omega.{arith}
 use mathlib.Core.Path.{_≡_, sym, _∙_}
 use mathlib.Core.Logic.{⊎-elim, inl, inr}
