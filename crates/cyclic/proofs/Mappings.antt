@@ -5,13 +5,13 @@ use native.Mathlib.Nat.{eq-zero-or-pos, eq-or-lt-of-le, mod-lt, mod-self, mod-eq
 use native.Mathlib.Omega.{arith}
 use mathlib.Core.Path.{_≡_, refl, _∙_}
 use mathlib.Core.Logic.{_⊎_, inl, inr, ⊎-elim}
-use mathlib.Core.Bool.{Bool, true, false, _&&_}
+use mathlib.Core.Bool.{Bool, true, false, _&&_, cond}
 use lib.Dec.{ltb, leb}
 use borrow.Author.Tests.{ltb-true, ltb-false, leb-true, eq-eqb, ne-eqb}
 use Rattle.float.proofs.Tests.{and-both}
 use Rattle.cyclic.specs.declared.mapping.CyclicMapping.{CyclicMapping}
 use Rattle.cyclic.specs.declared.mapping.CyclicMapping.the-variants.{Forward, Reverse}
-use Rattle.cyclic.specs.Mapping.{image, inverse, offsetOf, stepsOf, usable, HasIndex}
+use Rattle.cyclic.specs.Mapping.{image, inverse, offsetOf, stepsOf, isReverse, usable, HasIndex}
 
 -- one of three
 abbrev OneOf : Type 0 → Type 0 → Type 0 → Type 0
@@ -128,6 +128,12 @@ pub inverse-within : (m : CyclicMapping) (j : ℕ) → HasIndex m j → inverse 
 inverse-within (Forward o n) j u = three (inverse-at o n j (u .1) (u .2)) (λ w. omega arith) (λ w. omega arith) (λ w. omega arith)
 inverse-within (Reverse o n) j u = rw reverse-same (image-within (Reverse o n) j u)
 
+-- Offset 0, forward or reverse
+
+pub image-zero : (m : CyclicMapping) (j : ℕ) → offsetOf m ≡ 0 → image m j ≡ cond (isReverse m) (stepsOf m - j) j
+image-zero (Forward o n) j z = forward-zero o n j z
+image-zero (Reverse o n) j z = reverse-zero o n j z
+
 -- There and back
 
 -- at offset 0 both ways are one, and an index comes back
@@ -204,11 +210,9 @@ reverse-next o n j h l =
     (λ f. rw (reverse-minus o n (j + 1) (omega arith) f) (mod-lt (o + n - (j + 1)) (omega arith), rw (mod-add-mod, x) (reverse-minus o n j (omega arith) f)))
 
 -- the image of index 0, where the offset is not 0
-pub forward-first : (o n : ℕ) → o < n → (o ≡ 0 → ⊥) → o ≡ image (Forward o n) 0
-forward-first o n h f = three (forward-at o n 0 h (omega arith)) (λ w. absurd (f (w .0))) (λ w. omega arith) (λ w. absurd (omega arith))
-
-pub reverse-first : (o n : ℕ) → o < n → (o ≡ 0 → ⊥) → o ≡ image (Reverse o n) 0
-reverse-first o n h f = three (reverse-at o n 0 h (omega arith)) (λ w. absurd (f (w .0))) (λ w. omega arith) (λ w. absurd (omega arith))
+pub first-image : (m : CyclicMapping) → HasIndex m 0 → (offsetOf m ≡ 0 → ⊥) → offsetOf m ≡ image m 0
+first-image (Forward o n) u f = three (forward-at o n 0 (u .1) (u .2)) (λ w. absurd (f (w .0))) (λ w. omega arith) (λ w. absurd (omega arith))
+first-image (Reverse o n) u f = three (reverse-at o n 0 (u .1) (u .2)) (λ w. absurd (f (w .0))) (λ w. omega arith) (λ w. absurd (omega arith))
 
 -- What the test of an index shows
 
