@@ -22,7 +22,7 @@ use Rattle.crossing.specs.declared.StepIndex.{StepIndex}
 use Rattle.crossing.specs.declared.StepIndex.the-variants.{At, Nothing}
 use Rattle.crossing.specs.declared.Crossing.{Crossing}
 use Rattle.crossing.specs.declared.EdgePoint.the-variants.{On, NoStep}
-use Rattle.crossing.specs.Crossing.{blend, crossing, stepIndex, edgePoint}
+use Rattle.crossing.specs.Crossing.{blend, crossing, stepIndex, edgePoint, GridFits}
 use Rattle.crossing.proofs.Steps.{step-index-below}
 
 pub blend-is : (p q : Vector) (t : Float) {a b r : Vector} → a ≡ scaled p (sub binary64 one64 t) → b ≡ scaled q t → r ≡ plus a b → r ≡ blend p q t
@@ -34,13 +34,9 @@ crossing-is g t ep eq ea eb er = rw (er, ea, eb, ep, eq)
 
 -- ---- both points of a side stand in the grid
 
-place : (g : List Float) (m n u v : ℕ) → length g ≡ 3 * ((m + 1) * (n + 1)) → u ≤ m → v ≤ n → 3 * pointNumber n u v + 3 ≤ length g
-place g m n u v s hu hv = omega (arith, point-below m n u v hu hv)
-
-pub sides-stand : (g : List Float) (m n u0 v0 u1 v1 : ℕ) → m ≤ 255 → n ≤ 255 → length g ≡ 3 * ((m + 1) * (n + 1)) → u0 ≤ m → v0 ≤ n → u1 ≤ m → v1 ≤ n →
+pub sides-stand : (g : List Float) (m n u0 v0 u1 v1 : ℕ) → GridFits g m n → (u0 ≤ m) × (v0 ≤ n) × (u1 ≤ m) × (v1 ≤ n) →
     ((n ≤ 255) × (u0 ≤ 256) × (v0 ≤ 256) × (u1 ≤ 256) × (v1 ≤ 256)) × ((3 * pointNumber n u0 v0 + 3 ≤ length g) × (3 * pointNumber n u1 v1 + 3 ≤ length g))
-sides-stand g m n u0 v0 u1 v1 hm hn s a b c d =
-    ((hn, omega arith, omega arith, omega arith, omega arith), (place g m n u0 v0 s a b, place g m n u1 v1 s c d))
+sides-stand g m n u0 v0 u1 v1 f s = (omega arith, omega (arith, point-below m n u0 v0 (s .0) (s .1), point-below m n u1 v1 (s .2) (s .3)))
 
 module _ (m n : ℕ) {e : ParamEdge} (h : Inside m n e) where
   pub inside-u : {u : ℕ} → e ≡ U u → u ≤ m

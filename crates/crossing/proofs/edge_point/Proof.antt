@@ -28,36 +28,28 @@ cell-v c =
 side-diagonal : (c : tie.After-edge3) → (c .edge3 .given .0 .0 < c .before .before .before .args .m) × (c .edge3 .given .0 .1 .0 < c .before .before .before .args .n)
 side-diagonal c = inside-diagonal _ _ (c .before .before .before .pre .1) (c .edge3 .given .1)
 
-add-between : tie.Need-add-between
-add-between c = omega (arith, cell-u (c .before))
-
 between-requires : tie.Need-between-requires
 between-requires c κs =
-    let s = c .before .before .before .before .before .before .before .before in
+    let e = c .before .before .before .before .before in
+    let s = e .before .before .before in
+    let u = side-u e in
     let v = cell-u (c .before) in
-    sides-stand (now (s .args .grid)) (s .args .m) _ _ _ _ _ (s .pre .0 .0) (s .pre .0 .1) (s .pre .0 .2) (side-u (c .before .before .before .before .before)) (omega arith) (side-u (c .before .before .before .before .before)) (omega arith)
-
-add-between-2 : tie.Need-add-between-2
-add-between-2 c = omega (arith, cell-v (c .before))
+    sides-stand (now (s .args .grid)) (s .args .m) _ _ _ _ _ (s .pre .0) (omega arith)
 
 between-requires-2 : tie.Need-between-requires-2
 between-requires-2 c κs =
-    let s = c .before .before .before .before .before .before .before .before in
+    let e = c .before .before .before .before .before in
+    let s = e .before .before .before in
     let u = cell-v (c .before) in
-    sides-stand (now (s .args .grid)) (s .args .m) _ _ _ _ _ (s .pre .0 .0) (s .pre .0 .1) (s .pre .0 .2) (omega arith) (side-v (c .before .before .before .before .before)) (omega arith) (side-v (c .before .before .before .before .before))
-
-add-between-3 : tie.Need-add-between-3
-add-between-3 c = omega (arith, side-diagonal (c .before .before .before .before))
-
-add-between-4 : tie.Need-add-between-4
-add-between-4 c = omega (arith, side-diagonal (c .before .before .before .before))
+    let v = side-v e in
+    sides-stand (now (s .args .grid)) (s .args .m) _ _ _ _ _ (s .pre .0) (omega arith)
 
 between-requires-3 : tie.Need-between-requires-3
 between-requires-3 c κs =
     let e = c .before .before .before .before in
     let s = e .before .before .before in
     let d = side-diagonal e in
-    sides-stand (now (s .args .grid)) (s .args .m) _ _ _ _ _ (s .pre .0 .0) (s .pre .0 .1) (s .pre .0 .2) (omega arith) (omega arith) (omega arith) (omega arith)
+    sides-stand (now (s .args .grid)) (s .args .m) _ _ _ _ _ (s .pre .0) (omega arith)
 
 returns : tie.Need-returns
 returns c =
@@ -93,20 +85,20 @@ edge-point-spec =
     (λ c. search needs)
     (λ c κs. search needs)
     (λ c. search needs)
-    add-between
+    (λ c. omega (arith, cell-u (c .before)))
     between-requires
     (λ c. search needs)
     (λ c. search needs)
     (λ c κs. search needs)
     (λ c. search needs)
-    add-between-2
+    (λ c. omega (arith, cell-v (c .before)))
     between-requires-2
     (λ c. search needs)
     (λ c. search needs)
     (λ c κs. search needs)
     (λ c κs. search needs)
-    add-between-3
-    add-between-4
+    (λ c. omega (arith, side-diagonal (c .before .before .before .before)))
+    (λ c. omega (arith, side-diagonal (c .before .before .before .before)))
     between-requires-3
     returns
     returns-2
