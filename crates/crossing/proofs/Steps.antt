@@ -54,7 +54,7 @@ module _ (x : Float) (n : ℕ) {top y : Float} {z : ℤ} (et : top ≡ natFloat 
   pub floor-cast-is : natAbs (toZ w64 (ofZ w64 z)) ≡ count (floorZ y)
   floor-cast-is = rw (toZ-ofZ w64 z s, ← ez) (abs-count z nonneg)
 
--- ---- the law
+-- ---- the law: the cell is one of the steps
 
 cell-below : (x : Float) (n : ℕ) → 0 < n → n ≤ 2 ^ 53 → cellOf (clamped x zero64 (natFloat n)) n < n
 unfolding cellOf closeTo
@@ -64,6 +64,7 @@ cell-below x n N h = go (closeTo (clamped x zero64 (natFloat n)) n) refl
     go true p = omega arith
     go false p = floor-count x n N h p
 
+-- the cell of an answer is one of n
 abbrev Below : StepIndex → ℕ → Type 0
 Below (At i t) n = i < n
 Below Nothing n = Unit
