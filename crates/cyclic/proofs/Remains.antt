@@ -44,16 +44,6 @@ pub record Searching (close : Closeness) (a b : Row) (n e c o : ℕ) : Type 0 wh
   pub rest : searchRows close a b n ≡ searchFrom close a b n (e - o) o c
 
 module _ (close : Closeness) (a b : Row) where
-  -- The ends
-
-  pub second-tried : (n : ℕ) → close (a 0) (a n) ≡ true → closed close a b n ≡ tried (close (b 0) (b n)) 2
-  unfolding closed
-  second-tried n h = rw h
-
-  pub first-only : (n : ℕ) → close (a 0) (a n) ≡ false → closed close a b n ≡ tried false 1
-  unfolding closed
-  first-only n h = rw h
-
   -- Points that are known to be close
 
   longer-run : (n : ℕ) (reverse : Bool) (r : ℕ) → Run close a b n reverse r → Meets close a b n reverse r → Run close a b n reverse (r + 1)

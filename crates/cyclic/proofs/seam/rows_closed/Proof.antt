@@ -11,7 +11,9 @@ unfolding closed
 returns c =
     let p = c .before .before in
     let s = p .before .before .before .args in
-    rw (← row-start (now (s .a)) (s .a-start) (s .stride), ← p .points-close .ensures, c .before .if1 .taken, ← row-start (now (s .b)) (s .b-start) (s .stride), ← c .points-close2 .ensures)
+    let first-a = row-start (now (s .a)) (s .a-start) (s .stride) in
+    let first-b = row-start (now (s .b)) (s .b-start) (s .stride) in
+    rw (← first-a, ← p .points-close .ensures, c .before .if1 .taken, ← first-b, ← c .points-close2 .ensures)
 
 returns-2 : tie.Need-returns-2
 unfolding closed
