@@ -1,8 +1,7 @@
 -- `stepIndex` by the tests of the code, and the law for its callers: the cell is one of the steps. Assumes nothing.
-use mathlib.Core.Path.{_≡_, refl, subst}
+use mathlib.Core.Path.{_≡_, refl}
 use mathlib.Core.Bool.{Bool, true, false, _||_, cond}
-use Prim.Native.Nat.{ℕ, zero, suc, _-_, _^_, _≤_, _<_}
-use native.Mathlib.Nat.{zero-lt-suc}
+use Prim.Native.Nat.{ℕ, _-_, _^_, _≤_, _<_}
 use native.Mathlib.Omega.{arith}
 use lib.Dec.{T, eqb}
 use lib.IntN.{ℤ, natAbs}
@@ -34,31 +33,20 @@ module _ (x : Float) (n : ℕ) (z : n ≡ 0 → ⊥) where
   unfolding stepIndex offAxis
   step-none h = simp (ne-eqb n 0 z, h)
 
-  step-close : (lt x (neg eps) || lt (add binary64 (natFloat n) eps) x) ≡ false → closeTo (clamped x zero64 (natFloat n)) n ≡ true → At (n - 1) (sub binary64 (clamped x zero64 (natFloat n)) (natFloat (n - 1))) ≡ stepIndex x n
-  unfolding stepIndex offAxis inCell cellOf
-  step-close h c = simp (ne-eqb n 0 z, h, c)
-
-  step-far : (lt x (neg eps) || lt (add binary64 (natFloat n) eps) x) ≡ false → closeTo (clamped x zero64 (natFloat n)) n ≡ false → At (count (floorZ (clamped x zero64 (natFloat n)))) (sub binary64 (clamped x zero64 (natFloat n)) (natFloat (count (floorZ (clamped x zero64 (natFloat n)))))) ≡ stepIndex x n
-  unfolding stepIndex offAxis inCell cellOf
-  step-far h c = simp (ne-eqb n 0 z, h, c)
-
-  -- the same of what the calls gave
+  -- inside the axis, of what the calls gave
   module _ {top y a : Float} (et : top ≡ natFloat n) (inside : (lt x (neg eps) || lt (add binary64 top eps) x) ≡ false) (ey : y ≡ clamped x zero64 top) (ea : a ≡ absolute (sub binary64 y top)) where
     pub index-close : lt a eps ≡ true → {k : Float} → k ≡ natFloat (n - 1) → At (n - 1) (sub binary64 y k) ≡ stepIndex x n
-    unfolding closeTo
-    index-close h ek = rw (ek, ey, et) (step-close (rw et at inside) (rw (ea, ey, et) at h))
+    unfolding stepIndex offAxis inCell cellOf closeTo
+    index-close h ek = simp (ne-eqb n 0 z, ← et, inside, ← ey, ← ea, h, ek)
 
     pub index-far : lt a eps ≡ false → {i : ℕ} {k : Float} → i ≡ count (floorZ y) → k ≡ natFloat i → At i (sub binary64 y k) ≡ stepIndex x n
-    unfolding closeTo
-    index-far h ei ek = rw (ek, ei, ey, et) (step-far (rw et at inside) (rw (ea, ey, et) at h))
+    unfolding stepIndex offAxis inCell cellOf closeTo
+    index-far h ei ek = simp (ne-eqb n 0 z, ← et, inside, ← ey, ← ea, h, ek, ei)
 
 -- the floor that the code casts is a count
 module _ (x : Float) (n : ℕ) {top y : Float} {z : ℤ} (et : top ≡ natFloat n) (ey : y ≡ clamped x zero64 top) (ez : z ≡ floorZ y) (s : SFits w64 z) where
-  held : z ≡ floorZ (clamped x zero64 (natFloat n))
-  held = rw (ez, ey, et)
-
   nonneg : T (nonNeg z)
-  nonneg = rw held (floor-nonneg (clamped x zero64 (natFloat n)) (clamped-nonneg x n))
+  nonneg = rw (ez, ey, et) (floor-nonneg (clamped x zero64 (natFloat n)) (clamped-nonneg x n))
 
   pub floor-casts : T (nonNeg (toZ w64 (ofZ w64 z))) × Fits w64 (natAbs (toZ w64 (ofZ w64 z)))
   floor-casts = rw (toZ-ofZ w64 z s) (nonneg, abs-fits z s)
@@ -66,7 +54,7 @@ module _ (x : Float) (n : ℕ) {top y : Float} {z : ℤ} (et : top ≡ natFloat 
   pub floor-cast-is : natAbs (toZ w64 (ofZ w64 z)) ≡ count (floorZ y)
   floor-cast-is = rw (toZ-ofZ w64 z s, ← ez) (abs-count z nonneg)
 
--- ---- the law
+-- ---- the law: the cell is one of the steps
 
 cell-below : (x : Float) (n : ℕ) → 0 < n → n ≤ 2 ^ 53 → cellOf (clamped x zero64 (natFloat n)) n < n
 unfolding cellOf closeTo
@@ -76,6 +64,7 @@ cell-below x n N h = go (closeTo (clamped x zero64 (natFloat n)) n) refl
     go true p = omega arith
     go false p = floor-count x n N h p
 
+-- the cell of an answer is one of n
 abbrev Below : StepIndex → ℕ → Type 0
 Below (At i t) n = i < n
 Below Nothing n = Unit
@@ -84,14 +73,10 @@ step-below : (x : Float) (n : ℕ) → n ≤ 2 ^ 53 → Below (stepIndex x n) n
 unfolding stepIndex offAxis inCell
 step-below x n h = go (eqb n 0) (lt x (neg eps) || lt (add binary64 (natFloat n) eps) x) refl
   where
-    some : (k : ℕ) → (k ≡ 0 → ⊥) → 0 < k
-    some zero f = absurd (f refl)
-    some (suc k) f = zero-lt-suc k
-
-    go : (b t : Bool) → eqb n 0 ≡ b → Below (cond (b || t) Nothing (At (cellOf (clamped x zero64 (natFloat n)) n) (sub binary64 (clamped x zero64 (natFloat n)) (natFloat (cellOf (clamped x zero64 (natFloat n)) n))))) n
+    go : (b t : Bool) → eqb n 0 ≡ b → Below (cond (b || t) Nothing (inCell (clamped x zero64 (natFloat n)) n)) n
     go true t p = tt
     go false true p = tt
-    go false false p = cell-below x n (some n (eqb-false n 0 p)) h
+    go false false p = cell-below x n (omega (arith, eqb-false n 0 p)) h
 
 pub step-index-below : (x : Float) (n : ℕ) {i : ℕ} {t : Float} → n ≤ 2 ^ 53 → stepIndex x n ≡ At i t → i < n
-step-index-below x n h p = subst (λ (s : StepIndex). Below s n) p (step-below x n h)
+step-index-below x n h p = rw p at (step-below x n h)

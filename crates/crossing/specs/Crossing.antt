@@ -71,6 +71,7 @@ abbrev pub onDiagonal : List Float → ℕ → ℕ → ℕ → Float → EdgePoi
 onDiagonal g n u v y =
     On (crossing g (pointNumber n (u + 1) v) (pointNumber n u (v + 1)) (clamped (sub binary64 y (natFloat v)) zero64 one64))
 
+-- `edge_point`: the point of an event on its side
 unfoldable pub edgePoint : List Float → ℕ → ℕ → ParamEdge → ParamPoint → EdgePoint
 edgePoint g m n (U u) x = onU g n u (stepIndex (x .v) n)
 edgePoint g m n («V» v) x = onV g n v (stepIndex (x .u) m)

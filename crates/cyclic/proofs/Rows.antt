@@ -21,6 +21,7 @@ use Rattle.refusal.specs.Refusals.{ok, refused, numberOf, unless}
 use Rattle.cyclic.specs.declared.seam.Seam.the-variants.{Unjoined}
 use Rattle.cyclic.specs.declared.seam.SeamSearch.{SeamSearch}
 use Rattle.cyclic.specs.Search.{Row, Rows, Closeness, rowOf, searched, searchRows, search, rowFits, rowsCheck, newVector}
+use Rattle.cyclic.proofs.Remains.{Meets}
 
 -- Points
 
@@ -28,30 +29,38 @@ opposite-within : (n j : ℕ) (reverse : Bool) → j ≤ n → cond reverse (n -
 opposite-within n j true l = omega arith
 opposite-within n j false l = l
 
-module _ {a b : List Float} {aStart bStart stride steps : ℕ} (rows : Rows a aStart b bStart stride steps) (j : ℕ) (l : j ≤ steps) where
-  pub inside : (3 * (aStart + j * stride) + 3 ≤ length a) × (3 * (bStart + j * stride) + 3 ≤ length b)
-  inside = let most = mul-le-mul-right stride l in (omega arith, omega arith)
+-- point i of list a and point k of list b stand in them
+abbrev pub Stand : List Float → ℕ → List Float → ℕ → Type 0
+Stand a i b k = (3 * i + 3 ≤ length a) × (3 * k + 3 ≤ length b)
 
-  -- of rows whose points follow each other in their lists: point j of a, and point k of b that it meets at offset 0
-  pub inside-next : (reverse : Bool) {k : ℕ} → stride ≡ 1 → k ≡ cond reverse (steps - j) j → (3 * (aStart + j) + 3 ≤ length a) × (3 * (bStart + k) + 3 ≤ length b)
-  inside-next reverse {k} e f =
-      let same : steps * stride ≡ steps = rw e (omega arith) in
-      let most : k ≤ steps = rw f (opposite-within steps j reverse l) in
+module _ {a b : List Float} {aStart bStart stride steps : ℕ} (rows : Rows a aStart b bStart stride steps) where
+  -- point j of row a and point k of row b
+  pub inside : (j k : ℕ) → j ≤ steps → k ≤ steps → Stand a (aStart + j * stride) b (bStart + k * stride)
+  inside j k h l =
+      let j-most = mul-le-mul-right stride h in
+      let k-most = mul-le-mul-right stride l in
       (omega arith, omega arith)
 
-pub first-point : (l : List Float) (start stride : ℕ) → pointAt l start ≡ rowOf l start stride 0
-first-point l start stride = ap (pointAt l) (omega arith)
+  -- where points follow each other in their lists: point j of a, and point k of b that it meets at offset 0
+  module _ (next : stride ≡ 1) (reverse : Bool) (j : ℕ) {k : ℕ} (meets : k ≡ cond reverse (steps - j) j) where
+    pub inside-next : j ≤ steps → Stand a (aStart + j) b (bStart + k)
+    inside-next l =
+        let same : steps * stride ≡ steps = rw next (omega arith) in
+        let most : k ≤ steps = rw meets (opposite-within steps j reverse l) in
+        (omega arith, omega arith)
+
+    pub close-next : {i : ℕ} → i ≡ aStart + j → allClose (pointAt a i) (pointAt b (bStart + k)) ≡ true →
+        Meets allClose (rowOf a aStart stride) (rowOf b bStart stride) steps reverse j
+    close-next {i} e h =
+        let x : aStart + j * stride ≡ i = rw next (omega arith) in
+        let y : bStart + cond reverse (steps - j) j * stride ≡ bStart + k = rw (next, ← meets) (omega arith) in
+        rw (x, y) h
+
+pub row-start : (l : List Float) (start stride : ℕ) → pointAt l start ≡ rowOf l start stride 0
+row-start l start stride = ap (pointAt l) (omega arith)
 
 pub whole-row : (l : List Float) → rowOf l 0 1 ≡ pointAt l
 whole-row l = fun-ext (λ j. ap (pointAt l) (omega arith))
-
--- Rows whose points follow each other in their lists
-
-pub close-in-rows : (a : List Float) (aStart : ℕ) (b : List Float) (bStart stride j : ℕ) {i k l : ℕ} → stride ≡ 1 → i ≡ aStart + j → k ≡ l → allClose (pointAt a i) (pointAt b (bStart + k)) ≡ true → allClose (rowOf a aStart stride j) (rowOf b bStart stride l) ≡ true
-close-in-rows a aStart b bStart stride j {i} {k} {l} e f g h =
-    let x : aStart + j * stride ≡ i = rw e (omega arith) in
-    let y : bStart + l * stride ≡ bStart + k = rw e (omega arith) in
-    rw (x, y) h
 
 -- Lengths
 
@@ -87,9 +96,8 @@ module _ (a b : List Float) where
       let u = and-both (rowFits a) (rowFits b) t in
       leb-true (length a) 196608 (and-both (eqb (length a % 3) 0) (leb (length a) 196608) (u .0) .1)
 
--- The answer
+  -- The answer
 
-module _ (a b : List Float) where
   pub refused-is : {k : Refusal} → rowsCheck a b ≡ Failed k → refused (numberOf k) ≡ newVector a b
   unfolding newVector
   refused-is h = rw h

@@ -8,6 +8,7 @@ use lib.Dec.{ltb, leb}
 use lib.ListN.{length, length-set}
 use lib.Ieee.{Float}
 use borrow.Author.Tests.{ltb-true}
+use Rattle.grid.proofs.Laws.{and-both}
 use Rattle.refusal.specs.declared.Refusal.the-variants.{Full}
 use Rattle.crossing.specs.declared.Crossing.{Crossing}
 use Rattle.page.specs.declared.Pen.{Pen}
@@ -16,6 +17,7 @@ use Rattle.page.specs.declared.Penned.the-variants.{Down}
 use Rattle.page.specs.Step.{Step, on, off, follow}
 use Rattle.page.specs.Page.{Page, hasRoom, closeToPending, written, pushPage, kept, dropped, flushPage, Pushed, PenFits}
 
+-- `PenFits` of a page, and of the page after a step that goes on
 abbrev pub Fitting : Page → Type 0
 Fitting g = PenFits (g .points) (g .pen)
 
@@ -23,7 +25,7 @@ abbrev pub Fits : Step Page → Type 0
 Fits (on g) = Fitting g
 Fits (off k g) = Unit {0}
 
--- what a function's answer says of its pen
+-- what a step that goes on says of the pen that its function hands back
 pub fits-down : {x : Step Page} {r : Penned} {p : List Float} {s d : List ℕ} {f : List Float} {pen : Pen} → Pushed x r p s d f → r ≡ Down pen → Fits x → PenFits p pen
 fits-down {x} {r} {p} {s} {d} {f} {pen} u e h = go x u h
   where
@@ -31,12 +33,11 @@ fits-down {x} {r} {p} {s} {d} {f} {pen} u e h = go x u h
     go (on g) u h = let q : g .pen ≡ pen = cc in rw (u .points, ← q) h
     go (off k g) u h = let z : _≡_ {A = ℕ} 0 1 = cc in absurd (omega arith)
 
-and-left : (a b : Bool) → a && b ≡ true → a ≡ true
-and-left true b h = refl
-and-left false b h = h
-
-room : (k l : ℕ) → ltb k (l / 3) ≡ true → 3 * k + 3 ≤ l
-room k l h = omega (arith, ltb-true k (l / 3) h)
+-- where one more point has room, its three numbers stand in the list of points
+has-room : (g : Page) → hasRoom g ≡ true → 3 * (g .pen .count) + 3 ≤ length (g .points)
+has-room g h =
+    let r = and-both (ltb (g .pen .count) (length (g .points) / 3)) (ltb (g .pen .count) (length (g .sides) / 2) && ltb (g .pen .count) (length (g .fractions))) h in
+    omega (arith, ltb-true)
 
 -- ---- push and flush
 
@@ -46,9 +47,7 @@ push-fits c g h = go (closeToPending c g) (hasRoom g) refl
   where
     go : (a b : Bool) → hasRoom g ≡ b → Fits (cond a (on g) (cond b (on (written c g)) (off Full g)))
     go true b e = h
-    go false true e =
-        let one = room (g .pen .count) (length (g .points)) (and-left (ltb (g .pen .count) (length (g .points) / 3)) (ltb (g .pen .count) (length (g .sides) / 2) && ltb (g .pen .count) (length (g .fractions))) e) in
-        (omega arith, simp length-set (omega arith))
+    go false true e = let r = has-room g e in (omega arith, simp length-set (omega arith))
     go false false e = tt
 
 pub flush-fits : (g : Page) → Fitting g → Fits (flushPage g)

@@ -10,7 +10,11 @@ use Rattle.page.specs.declared.Pen.{Pen}
 use Rattle.page.specs.declared.Penned.{Penned}
 use Rattle.page.specs.declared.Penned.the-variants.{Down, Stop}
 use Rattle.page.specs.Step.{Step, on, off, follow}
-use Rattle.page.specs.Page.{Page, pageOf, Pushed}
+use Rattle.page.specs.Page.{Page, pageOf, pageIn, pennedIn, Pushed}
+
+-- a step is what its own answer and lists say
+pub itself : (x : Step Page) → Pushed x (pennedIn x) (pageIn x .points) (pageIn x .starts) (pageIn x .sides) (pageIn x .fractions)
+itself x = record { answer = refl; points = refl; starts = refl; sides = refl; fractions = refl }
 
 module _ (x : Step Page) (k : Page → Step Page) {r : Penned} {p : List Float} {s d : List ℕ} {f : List Float} (h : Pushed x r p s d f) where
   -- what follows a step that went on
@@ -31,7 +35,7 @@ module _ (x : Step Page) (k : Page → Step Page) {r : Penned} {p : List Float} 
 
 -- the page as it is
 pub still : (p : List Float) (s d : List ℕ) (f : List Float) (pen : Pen) {w : Step Page} → w ≡ on (pageOf p s d f pen) → Pushed w (Down pen) p s d f
-still p s d f pen e = rw e (record { answer = refl; points = refl; starts = refl; sides = refl; fractions = refl })
+still p s d f pen e = rw e (itself (on (pageOf p s d f pen)))
 
 pub as-well : {w x : Step Page} {r : Penned} {p : List Float} {s d : List ℕ} {f : List Float} → w ≡ x → Pushed x r p s d f → Pushed w r p s d f
 as-well e u = rw e u

@@ -1,14 +1,17 @@
--- `crossing::edge_point` meets its contract. The side stands in the grid by the requires, and the cell that `step_index` gives is one of the steps. Assumes nothing.
+-- `crossing::edge_point` meets its contract: its cases are those of `edgePoint`, at the variants that the matches found. The side stands in the grid by the
+-- requires, and the cell that `step_index` gives is one of the steps. Assumes nothing.
 use Prim.Native.Nat.{_≤_, _<_}
 use native.Mathlib.Omega.{arith}
 use denote.Ref.{now}
-use Rattle.crossing.proofs.Edges.{sides-stand, inside-u, inside-v, inside-diagonal, cell-inside, on-u, off-u, on-v, off-v, on-diagonal}
+use Rattle.crossing.specs.Crossing.{edgePoint}
+use Rattle.crossing.proofs.Edges.{sides-stand, cell-inside}
 use borrow.Author.Needs.{needs}
 use Rattle.crossing.proofs.edge_point.Statement.{statement}
 use Rattle.crossing.proofs.edge_point.Tie as tie
 
+-- arm by arm: the side's own indices are on the grid, and the cell that `step_index` gave is one of the steps
 side-u : (c : tie.After-edge) → c .edge .given .0 .0 ≤ c .before .before .before .args .m
-side-u c = inside-u _ _ (c .before .before .before .pre .1) (c .edge .given .1)
+side-u c = rw (c .edge .given .1) at (c .before .before .before .pre .1)
 
 cell-u : (c : tie.After-v) → c .v .given .0 .0 < c .before .before .before .before .before .before .before .args .n
 cell-u c =
@@ -17,7 +20,7 @@ cell-u c =
     cell-inside _ _ (s .pre .0 .1) (i .step-index .ensures) (c .v .given .1)
 
 side-v : (c : tie.After-edge2) → c .edge2 .given .0 .0 ≤ c .before .before .before .args .n
-side-v c = inside-v _ _ (c .before .before .before .pre .1) (c .edge2 .given .1)
+side-v c = rw (c .edge2 .given .1) at (c .before .before .before .pre .1)
 
 cell-v : (c : tie.After-u) → c .u .given .0 .0 < c .before .before .before .before .before .before .before .args .m
 cell-v c =
@@ -26,65 +29,62 @@ cell-v c =
     cell-inside _ _ (s .pre .0 .0) (i .step-index2 .ensures) (c .u .given .1)
 
 side-diagonal : (c : tie.After-edge3) → (c .edge3 .given .0 .0 < c .before .before .before .args .m) × (c .edge3 .given .0 .1 .0 < c .before .before .before .args .n)
-side-diagonal c = inside-diagonal _ _ (c .before .before .before .pre .1) (c .edge3 .given .1)
-
-add-between : tie.Need-add-between
-add-between c = omega (arith, cell-u (c .before))
+side-diagonal c = rw (c .edge3 .given .1) at (c .before .before .before .pre .1)
 
 between-requires : tie.Need-between-requires
 between-requires c κs =
-    let s = c .before .before .before .before .before .before .before .before in
+    let e = c .before .before .before .before .before in
+    let s = e .before .before .before in
+    let u = side-u e in
     let v = cell-u (c .before) in
-    sides-stand (now (s .args .grid)) (s .args .m) _ _ _ _ _ (s .pre .0 .0) (s .pre .0 .1) (s .pre .0 .2) (side-u (c .before .before .before .before .before)) (omega arith) (side-u (c .before .before .before .before .before)) (omega arith)
-
-add-between-2 : tie.Need-add-between-2
-add-between-2 c = omega (arith, cell-v (c .before))
+    sides-stand (now (s .args .grid)) (s .args .m) _ _ _ _ _ (s .pre .0) (omega arith)
 
 between-requires-2 : tie.Need-between-requires-2
 between-requires-2 c κs =
-    let s = c .before .before .before .before .before .before .before .before in
+    let e = c .before .before .before .before .before in
+    let s = e .before .before .before in
     let u = cell-v (c .before) in
-    sides-stand (now (s .args .grid)) (s .args .m) _ _ _ _ _ (s .pre .0 .0) (s .pre .0 .1) (s .pre .0 .2) (omega arith) (side-v (c .before .before .before .before .before)) (omega arith) (side-v (c .before .before .before .before .before))
-
-add-between-3 : tie.Need-add-between-3
-add-between-3 c = omega (arith, side-diagonal (c .before .before .before .before))
-
-add-between-4 : tie.Need-add-between-4
-add-between-4 c = omega (arith, side-diagonal (c .before .before .before .before))
+    let v = side-v e in
+    sides-stand (now (s .args .grid)) (s .args .m) _ _ _ _ _ (s .pre .0) (omega arith)
 
 between-requires-3 : tie.Need-between-requires-3
 between-requires-3 c κs =
     let e = c .before .before .before .before in
     let s = e .before .before .before in
     let d = side-diagonal e in
-    sides-stand (now (s .args .grid)) (s .args .m) _ _ _ _ _ (s .pre .0 .0) (s .pre .0 .1) (s .pre .0 .2) (omega arith) (omega arith) (omega arith) (omega arith)
+    sides-stand (now (s .args .grid)) (s .args .m) _ _ _ _ _ (s .pre .0) (omega arith)
 
 returns : tie.Need-returns
+unfolding edgePoint
 returns c =
     let f = c .before .before in
     let i = f .before .before in
-    on-u _ _ _ _ _ _ (i .before .before .edge .given .1) (i .step-index .ensures) (f .v .given .1) (c .between .ensures)
+    rw (c .between .ensures, i .before .before .edge .given .1, ← i .step-index .ensures, f .v .given .1)
 
 returns-2 : tie.Need-returns-2
+unfolding edgePoint
 returns-2 c =
     let i = c .before .before in
-    off-u _ _ _ _ _ (i .before .before .edge .given .1) (i .step-index .ensures) (c .enum-told .given .1)
+    rw (i .before .before .edge .given .1, ← i .step-index .ensures, c .enum-told .given .1)
 
 returns-3 : tie.Need-returns-3
+unfolding edgePoint
 returns-3 c =
     let f = c .before .before in
     let i = f .before .before in
-    on-v _ _ _ _ _ _ (i .before .before .edge2 .given .1) (i .step-index2 .ensures) (f .u .given .1) (c .between2 .ensures)
+    rw (c .between2 .ensures, i .before .before .edge2 .given .1, ← i .step-index2 .ensures, f .u .given .1)
 
 returns-4 : tie.Need-returns-4
+unfolding edgePoint
 returns-4 c =
     let i = c .before .before in
-    off-v _ _ _ _ _ (i .before .before .edge2 .given .1) (i .step-index2 .ensures) (c .enum-told2 .given .1)
+    rw (i .before .before .edge2 .given .1, ← i .step-index2 .ensures, c .enum-told2 .given .1)
 
 returns-5 : tie.Need-returns-5
+unfolding edgePoint
 returns-5 c =
     let k = c .before .before .before in
-    on-diagonal _ _ _ _ _ _ (k .before .before .edge3 .given .1) (k .to-f64 .ensures) (c .before .clamp .ensures) (c .between3 .ensures)
+    rw (c .between3 .ensures, k .before .before .edge3 .given .1, c .before .clamp .ensures, k .to-f64 .ensures)
 
 pub edge-point-spec : {M : Type 1} → statement M
 edge-point-spec =
@@ -93,20 +93,20 @@ edge-point-spec =
     (λ c. search needs)
     (λ c κs. search needs)
     (λ c. search needs)
-    add-between
+    (λ c. omega (arith, cell-u (c .before)))
     between-requires
     (λ c. search needs)
     (λ c. search needs)
     (λ c κs. search needs)
     (λ c. search needs)
-    add-between-2
+    (λ c. omega (arith, cell-v (c .before)))
     between-requires-2
     (λ c. search needs)
     (λ c. search needs)
     (λ c κs. search needs)
     (λ c κs. search needs)
-    add-between-3
-    add-between-4
+    (λ c. omega (arith, side-diagonal (c .before .before .before .before)))
+    (λ c. omega (arith, side-diagonal (c .before .before .before .before)))
     between-requires-3
     returns
     returns-2

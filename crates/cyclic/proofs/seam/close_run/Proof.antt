@@ -1,16 +1,15 @@
 -- `cyclic::seam::close_run` meets its contract: each turn of the loop adds two points that are close. Assumes nothing.
-use Prim.Native.Nat.{ℕ, _+_, _-_, _*_, _≤_}
+use Prim.Native.Nat.{_+_, _-_, _≤_}
 use native.Mathlib.Omega.{arith}
 use mathlib.Core.Path.{refl}
 use borrow.Author.Needs.{needs}
 use borrow.Author.Tests.{not-false}
 use denote.Ref.{now}
-use lib.ListN.{length}
 use Rattle.vector.specs.Vectors.{allClose}
-use Rattle.cyclic.specs.Search.{Row, rowOf}
+use Rattle.cyclic.specs.Search.{rowOf}
 use Rattle.float.proofs.Tests.{and-both}
-use Rattle.cyclic.proofs.Remains.{Run, no-run, two-longer}
-use Rattle.cyclic.proofs.Rows.{close-in-rows, inside-next}
+use Rattle.cyclic.proofs.Remains.{Run, two-longer}
+use Rattle.cyclic.proofs.Rows.{Stand, inside-next, close-next}
 use Rattle.cyclic.proofs.seam.close_run.Statement.{statement}
 use Rattle.cyclic.proofs.seam.close_run.Tie as tie
 
@@ -21,38 +20,30 @@ Inv-loop a a-start b b-start stride steps reverse run₀ run =
 abbrev μ-loop : tie.MeasureT-loop
 μ-loop a a-start b b-start stride steps reverse run₀ run = steps - run
 
--- the two rows
-abbrev rowA : tie.Start Inv-loop μ-loop → Row
-rowA s = rowOf (now (s .args .a)) (s .args .a-start) (s .args .stride)
-
-abbrev rowB : tie.Start Inv-loop μ-loop → Row
-rowB s = rowOf (now (s .args .b)) (s .args .b-start) (s .args .stride)
-
 returns : tie.Need-returns Inv-loop μ-loop
-returns c =
-    let s = c .before .before .before in
-    (omega arith, no-run allClose (rowA s) (rowB s) (s .args .steps) (s .args .reverse))
+returns c = (omega arith, λ j l. absurd (omega arith))
 
 loop-holds : tie.Need-loop-holds Inv-loop μ-loop
-loop-holds c =
-    let s = c .before .before .before in
-    (omega arith, no-run allClose (rowA s) (rowB s) (s .args .steps) (s .args .reverse))
+loop-holds c = (omega arith, λ j l. absurd (omega arith))
 
 -- the two points of either comparison stand in the lists of their rows
-abbrev Stand : tie.Start Inv-loop μ-loop → ℕ → ℕ → Type 0
-Stand s j k = (3 * (s .args .a-start + j) + 3 ≤ length (now (s .args .a))) × (3 * (s .args .b-start + k) + 3 ≤ length (now (s .args .b)))
-
-first : (n : tie.After-opposite2 Inv-loop μ-loop) → Stand (n .before .before .before .before .before .before .before) (n .before .before .before .loop .run) (n .before .opposite .result)
+first : (n : tie.After-opposite2 Inv-loop μ-loop) →
+    let l = n .before .before .before in
+    let s = l .before .before .before .before .args in
+    Stand (now (s .a)) (s .a-start + l .loop .run) (now (s .b)) (s .b-start + n .before .opposite .result)
 first n =
     let l = n .before .before .before in
     let s = l .before .before .before .before in
-    inside-next (s .pre) (l .loop .run) (omega arith) (s .args .reverse) (l .before .if1 .left) (n .before .opposite .ensures)
+    inside-next (s .pre) (l .before .if1 .left) (s .args .reverse) (l .loop .run) (n .before .opposite .ensures) (omega arith)
 
-second : (n : tie.After-opposite2 Inv-loop μ-loop) → Stand (n .before .before .before .before .before .before .before) (n .before .before .before .loop .run + 1) (n .opposite2 .result)
+second : (n : tie.After-opposite2 Inv-loop μ-loop) →
+    let l = n .before .before .before in
+    let s = l .before .before .before .before .args in
+    Stand (now (s .a)) (s .a-start + (l .loop .run + 1)) (now (s .b)) (s .b-start + n .opposite2 .result)
 second n =
     let l = n .before .before .before in
     let s = l .before .before .before .before in
-    inside-next (s .pre) (l .loop .run + 1) (omega arith) (s .args .reverse) (l .before .if1 .left) (n .opposite2 .ensures)
+    inside-next (s .pre) (l .before .if1 .left) (s .args .reverse) (l .loop .run + 1) (n .opposite2 .ensures) (omega arith)
 
 returns-2 : tie.Need-returns-2 Inv-loop μ-loop
 returns-2 c = c .before .before .before .before .before .before .loop .inv
@@ -65,11 +56,13 @@ loop-again c =
     let o = n .before in
     let l = o .before .before in
     let s = l .before .before .before .before in
+    let a = rowOf (now (s .args .a)) (s .args .a-start) (s .args .stride) in
+    let b = rowOf (now (s .args .b)) (s .args .b-start) (s .args .stride) in
     let both = and-both (p .points-near .result) (q .points-near2 .result) (not-false _ (c .if2 .left)) in (
       omega arith,
-      two-longer allClose (rowA s) (rowB s) (s .args .steps) (s .args .reverse) (l .loop .run) (l .loop .inv .1)
-          (close-in-rows (now (s .args .a)) (s .args .a-start) (now (s .args .b)) (s .args .b-start) (s .args .stride) (l .loop .run) (l .before .if1 .left) refl (o .opposite .ensures) (p .points-near .ensures (both .0)))
-          (close-in-rows (now (s .args .a)) (s .args .a-start) (now (s .args .b)) (s .args .b-start) (s .args .stride) (l .loop .run + 1) (l .before .if1 .left) (omega arith) (n .opposite2 .ensures) (q .points-near2 .ensures (both .1))),
+      two-longer allClose a b (s .args .steps) (s .args .reverse) (l .loop .run) (l .loop .inv .1)
+          (close-next (s .pre) (l .before .if1 .left) (s .args .reverse) (l .loop .run) (o .opposite .ensures) refl (p .points-near .ensures (both .0)))
+          (close-next (s .pre) (l .before .if1 .left) (s .args .reverse) (l .loop .run + 1) (n .opposite2 .ensures) (omega arith) (q .points-near2 .ensures (both .1))),
     )
 
 returns-3 : tie.Need-returns-3 Inv-loop μ-loop

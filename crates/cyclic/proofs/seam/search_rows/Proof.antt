@@ -1,19 +1,17 @@
 -- `cyclic::seam::search_rows` meets its contract. The outer loop's invariant: the whole search is the search of the offsets that are left, after the
 -- comparisons so far. The inner loops': all points tried at an offset are the points that are left, after one comparison for each before, and k is the image of j.
 -- At most 131,072 comparisons are made at an offset, so that their sum fits. Assumes nothing.
-use Prim.Native.Nat.{ℕ, _+_, _-_, _*_, _≤_, _<_}
+use Prim.Native.Nat.{_+_, _-_, _*_, _<_}
 use native.Mathlib.Omega.{arith}
 use mathlib.Core.Path.{sym, _∙_}
 use mathlib.Core.Logic.{⊎-elim}
 use borrow.Author.Needs.{needs}
 use denote.Ref.{now}
-use lib.ListN.{length}
 use Rattle.vector.specs.Vectors.{allClose}
 use Rattle.cyclic.specs.declared.mapping.CyclicMapping.the-variants.{Forward, Reverse}
-use Rattle.cyclic.specs.Search.{Row, rowOf}
-use Rattle.cyclic.proofs.Remains.{Trying, Searching, forward-known, reverse-known, first-point, next-point, last-point, far-point, all-offsets, one-offset, forward-fits, reverse-fits, next-offset, no-offset}
-use Rattle.cyclic.proofs.Mappings.{forward-first, reverse-first}
-use Rattle.cyclic.proofs.Rows.{inside}
+use Rattle.cyclic.specs.Search.{rowOf}
+use Rattle.cyclic.proofs.Remains.{Trying, Searching, point-after-run, first-point, next-point, last-point, far-point, first-offset, forward-fits, reverse-fits, next-offset, no-offset}
+use Rattle.cyclic.proofs.Rows.{Stand, inside}
 use Rattle.cyclic.proofs.seam.search_rows.Statement.{statement}
 use Rattle.cyclic.proofs.seam.search_rows.Tie as tie
 
@@ -25,11 +23,11 @@ abbrev μ-loop : tie.MeasureT-loop
 μ-loop a a-start b b-start stride steps end comparisons offset j₀ k₀ j k = steps - j
 
 abbrev Inv-loop2 : tie.InvT-loop2
-Inv-loop2 a a-start b b-start stride steps end comparisons offset j k j₀ k₀ j' k' =
-    Trying allClose (rowOf a a-start stride) (rowOf b b-start stride) (Reverse offset steps) comparisons j' k'
+Inv-loop2 a a-start b b-start stride steps end comparisons offset j₁ k₁ j₀ k₀ j k =
+    Trying allClose (rowOf a a-start stride) (rowOf b b-start stride) (Reverse offset steps) comparisons j k
 
 abbrev μ-loop2 : tie.MeasureT-loop2
-μ-loop2 a a-start b b-start stride steps end comparisons offset j k j₀ k₀ j' k' = steps - j'
+μ-loop2 a a-start b b-start stride steps end comparisons offset j₁ k₁ j₀ k₀ j k = steps - j
 
 abbrev Inv-offsets : tie.InvT-offsets
 Inv-offsets a a-start b b-start stride steps end comparisons₀ offset₀ comparisons offset =
@@ -38,33 +36,28 @@ Inv-offsets a a-start b b-start stride steps end comparisons₀ offset₀ compar
 abbrev μ-offsets : tie.MeasureT-offsets
 μ-offsets a a-start b b-start stride steps end comparisons₀ offset₀ comparisons offset = end - offset
 
--- the two rows
-abbrev rowA : tie.Start Inv-loop μ-loop Inv-loop2 μ-loop2 Inv-offsets μ-offsets → Row
-rowA s = rowOf (now (s .args .a)) (s .args .a-start) (s .args .stride)
+-- the start of the call behind the forward loop, and the forward loop behind the reverse one
+abbrev start : tie.At-loop Inv-loop μ-loop Inv-loop2 μ-loop2 Inv-offsets μ-offsets → tie.Start Inv-loop μ-loop Inv-loop2 μ-loop2 Inv-offsets μ-offsets
+start l = l .before .before .before .before .before .before .before .before
 
-abbrev rowB : tie.Start Inv-loop μ-loop Inv-loop2 μ-loop2 Inv-offsets μ-offsets → Row
-rowB s = rowOf (now (s .args .b)) (s .args .b-start) (s .args .stride)
+abbrev forward : tie.At-loop2 Inv-loop μ-loop Inv-loop2 μ-loop2 Inv-offsets μ-offsets → tie.At-loop Inv-loop μ-loop Inv-loop2 μ-loop2 Inv-offsets μ-offsets
+forward r = r .before .before .before .before .before
 
 -- points j and k stand in the lists of their rows
-abbrev Stand : tie.Start Inv-loop μ-loop Inv-loop2 μ-loop2 Inv-offsets μ-offsets → ℕ → ℕ → Type 0
-Stand s j k = (3 * (s .args .a-start + j * s .args .stride) + 3 ≤ length (now (s .args .a))) × (3 * (s .args .b-start + k * s .args .stride) + 3 ≤ length (now (s .args .b)))
+stand-forward : (l : tie.At-loop Inv-loop μ-loop Inv-loop2 μ-loop2 Inv-offsets μ-offsets) →
+    let s = start l .args in
+    Stand (now (s .a)) (s .a-start + l .loop .j * s .stride) (now (s .b)) (s .b-start + l .loop .k * s .stride)
+stand-forward l = inside (start l .pre) (l .loop .j) (l .loop .k) (l .loop .inv .index .2) (l .loop .inv .other)
 
-near : (c : tie.At-loop Inv-loop μ-loop Inv-loop2 μ-loop2 Inv-offsets μ-offsets) → Stand (c .before .before .before .before .before .before .before .before) (c .loop .j) (c .loop .k)
-near c =
-    let r = c .before .before .before .before .before .before .before .before .pre in
-    (inside r (c .loop .j) (c .loop .inv .point) .0, inside r (c .loop .k) (c .loop .inv .other) .1)
-
-near2 : (c : tie.At-loop2 Inv-loop μ-loop Inv-loop2 μ-loop2 Inv-offsets μ-offsets) → Stand (c .before .before .before .before .before .before .before .before .before .before .before .before .before) (c .loop2 .j) (c .loop2 .k)
-near2 c =
-    let r = c .before .before .before .before .before .before .before .before .before .before .before .before .before .pre in
-    (inside r (c .loop2 .j) (c .loop2 .inv .point) .0, inside r (c .loop2 .k) (c .loop2 .inv .other) .1)
+stand-reverse : (r : tie.At-loop2 Inv-loop μ-loop Inv-loop2 μ-loop2 Inv-offsets μ-offsets) →
+    let s = start (forward r) .args in
+    Stand (now (s .a)) (s .a-start + r .loop2 .j * s .stride) (now (s .b)) (s .b-start + r .loop2 .k * s .stride)
+stand-reverse r = inside (start (forward r) .pre) (r .loop2 .j) (r .loop2 .k) (r .loop2 .inv .index .2) (r .loop2 .inv .other)
 
 offsets-holds : tie.Need-offsets-holds Inv-loop μ-loop Inv-loop2 μ-loop2 Inv-offsets μ-offsets
 offsets-holds c =
     let s = c .before .before .before .before in
-    ⊎-elim (λ w. rw (w .1) (all-offsets allClose (rowA s) (rowB s) (s .args .steps) (c .before .rows-closed .ensures) (w .0 .taken)))
-    (λ w. rw (w .1) (one-offset allClose (rowA s) (rowB s) (s .args .steps) (s .pre .steps-least) (c .before .rows-closed .ensures) (w .0 .left)))
-    (c .if1 .came)
+    first-offset (s .pre .steps-least) (c .before .rows-closed .ensures) (⊎-elim (λ w. rw (w .0 .taken) (w .1)) (λ w. rw (w .0 .left) (w .1)) (c .if1 .came))
 
 close-run-requires : tie.Need-close-run-requires Inv-loop μ-loop Inv-loop2 μ-loop2 Inv-offsets μ-offsets
 close-run-requires c κs = c .before .before .before .before .before .before .before .pre
@@ -78,8 +71,8 @@ loop-holds c =
     let o = e .before in
     let s = o .before .before .before .before .before in
     let below : o .offsets .offset < s .args .steps = omega (arith, o .offsets .inv, e .if2 .left) in
-    ⊎-elim (λ w. rw (w .3) (forward-known allClose (rowA s) (rowB s) (o .offsets .offset) (s .args .steps) (o .offsets .comparisons) (w .1 .result) (w .0 .taken) (s .pre .steps-most, below, w .1 .ensures .0) (w .1 .ensures .1) (w .4 ∙ w .2 .ensures)))
-    (λ w. rw (w .1) (first-point allClose (rowA s) (rowB s) (Forward (o .offsets .offset) (s .args .steps)) (o .offsets .comparisons) (s .pre .steps-most, below, omega arith) (w .2 ∙ forward-first (o .offsets .offset) (s .args .steps) below (w .0 .left))))
+    ⊎-elim (λ w. point-after-run (w .0 .taken) (s .pre .steps-most, below, w .1 .ensures .0) (w .1 .ensures .1) (w .3) (w .4 ∙ w .2 .ensures))
+    (λ w. first-point (w .0 .left) (s .pre .steps-most, below, omega arith) (w .1) (w .2))
     (c .if3 .came)
 
 loop-again : tie.Need-loop-again Inv-loop μ-loop Inv-loop2 μ-loop2 Inv-offsets μ-offsets
@@ -88,32 +81,23 @@ loop-again c =
     let i = h .before in
     let p = i .before .before in
     let l = p .before in
-    let e = l .before .before in
-    let o = e .before in
-    let s = o .before .before .before .before .before in
-    next-point allClose (rowA s) (rowB s) (Forward (o .offsets .offset) (s .args .steps)) (o .offsets .comparisons) (l .loop .j) (l .loop .k) (s .pre .steps-most, omega (arith, o .offsets .inv, e .if2 .left), l .loop .inv .point) (i .if5 .left) (l .loop .inv)
-    (p .points-close .ensures) (i .before .if4 .left)
-    (h .ahead .ensures (l .loop .j) (omega arith) (l .loop .inv .mapped))
+    next-point (l .loop .inv) (p .points-close .ensures) (i .before .if4 .left) (i .if5 .left) (h .ahead .ensures (l .loop .j) (omega arith) (l .loop .inv .mapped))
 
 close-run-requires-2 : tie.Need-close-run-requires-2 Inv-loop μ-loop Inv-loop2 μ-loop2 Inv-offsets μ-offsets
-close-run-requires-2 c κs = c .before .before .before .before .before .before .before .before .before .before .before .before .pre
+close-run-requires-2 c κs = start (c .before .before .before .before) .pre
 
-opposite-requires-2 :
-    tie.Need-opposite-requires-2 Inv-loop μ-loop Inv-loop2 μ-loop2 Inv-offsets μ-offsets
+opposite-requires-2 : tie.Need-opposite-requires-2 Inv-loop μ-loop Inv-loop2 μ-loop2 Inv-offsets μ-offsets
 opposite-requires-2 c κs = c .close-run2 .ensures .0
 
 loop2-holds : tie.Need-loop2-holds Inv-loop μ-loop Inv-loop2 μ-loop2 Inv-offsets μ-offsets
 loop2-holds c =
-    let t = c .before .before in
-    let p = t .before in
-    let l = p .before in
+    let l = c .before .before .before .before in
     let e = l .before .before in
     let o = e .before in
-    let s = o .before .before .before .before .before in
+    let s = start l in
     let below : o .offsets .offset < s .args .steps = omega (arith, o .offsets .inv, e .if2 .left) in
-    let made = o .offsets .comparisons + (l .loop .j + 1) in
-    ⊎-elim (λ w. rw (w .3) (reverse-known allClose (rowA s) (rowB s) (o .offsets .offset) (s .args .steps) made (w .1 .result) (w .0 .taken) (s .pre .steps-most, below, w .1 .ensures .0) (w .1 .ensures .1) (w .4 ∙ w .2 .ensures)))
-    (λ w. rw (w .1) (first-point allClose (rowA s) (rowB s) (Reverse (o .offsets .offset) (s .args .steps)) made (s .pre .steps-most, below, omega arith) (w .2 ∙ reverse-first (o .offsets .offset) (s .args .steps) below (w .0 .left))))
+    ⊎-elim (λ w. point-after-run (w .0 .taken) (s .pre .steps-most, below, w .1 .ensures .0) (w .1 .ensures .1) (w .3) (w .4 ∙ w .2 .ensures))
+    (λ w. first-point (w .0 .left) (s .pre .steps-most, below, omega arith) (w .1) (w .2))
     (c .if6 .came)
 
 loop2-again : tie.Need-loop2-again Inv-loop μ-loop Inv-loop2 μ-loop2 Inv-offsets μ-offsets
@@ -122,15 +106,7 @@ loop2-again c =
     let i = h .before in
     let q = i .before .before in
     let r = q .before in
-    let t = r .before .before .before in
-    let p = t .before in
-    let l = p .before in
-    let e = l .before .before in
-    let o = e .before in
-    let s = o .before .before .before .before .before in
-    next-point allClose (rowA s) (rowB s) (Reverse (o .offsets .offset) (s .args .steps)) (o .offsets .comparisons + (l .loop .j + 1)) (r .loop2 .j) (r .loop2 .k) (s .pre .steps-most, omega (arith, o .offsets .inv, e .if2 .left), r .loop2 .inv .point) (i .if8 .left) (r .loop2 .inv)
-    (q .points-close2 .ensures) (i .before .if7 .left)
-    (h .back .ensures (r .loop2 .j) (omega arith) (r .loop2 .inv .mapped))
+    next-point (r .loop2 .inv) (q .points-close2 .ensures) (i .before .if7 .left) (i .if8 .left) (h .back .ensures (r .loop2 .j) (omega arith) (r .loop2 .inv .mapped))
 
 offsets-again : tie.Need-offsets-again Inv-loop μ-loop Inv-loop2 μ-loop2 Inv-offsets μ-offsets
 offsets-again c =
@@ -141,18 +117,14 @@ offsets-again c =
     let l = p .before in
     let e = l .before .before in
     let o = e .before in
-    let s = o .before .before .before .before .before in
-    next-offset allClose (rowA s) (rowB s) (s .args .steps) (o .before .if1 .end) (o .offsets .offset) (o .offsets .comparisons) (e .if2 .left) (o .offsets .inv) (omega (arith, s .pre .steps-most, l .loop .inv .point, r .loop2 .inv .point))
-    (far-point allClose (rowA s) (rowB s) (Forward (o .offsets .offset) (s .args .steps)) (o .offsets .comparisons) (l .loop .j) (l .loop .k) (l .loop .inv) (p .points-close .ensures) (t .if4 .taken))
-    (far-point allClose (rowA s) (rowB s) (Reverse (o .offsets .offset) (s .args .steps)) (o .offsets .comparisons + (l .loop .j + 1)) (r .loop2 .j) (r .loop2 .k) (r .loop2 .inv) (q .points-close2 .ensures) (c .before .if7 .taken))
+    next-offset (o .offsets .inv) (e .if2 .left) (omega (arith, l .loop .inv .index, r .loop2 .inv .index))
+    (far-point (l .loop .inv) (p .points-close .ensures) (t .if4 .taken))
+    (far-point (r .loop2 .inv) (q .points-close2 .ensures) (c .before .if7 .taken))
 
 returns : tie.Need-returns Inv-loop μ-loop Inv-loop2 μ-loop2 Inv-offsets μ-offsets
 returns c =
     let i = c .before in
-    let o = i .before in
-    let s = o .before .before .before .before .before in
-    c .unjoined .ensures
-    ∙ sym (no-offset allClose (rowA s) (rowB s) (s .args .steps) (o .before .if1 .end) (o .offsets .offset) (o .offsets .comparisons) (i .if2 .taken) (o .offsets .inv))
+    c .unjoined .ensures ∙ sym (no-offset (i .before .offsets .inv) (i .if2 .taken))
 
 returns-2 : tie.Need-returns-2 Inv-loop μ-loop Inv-loop2 μ-loop2 Inv-offsets μ-offsets
 returns-2 c =
@@ -160,11 +132,9 @@ returns-2 c =
     let p = i .before .before in
     let l = p .before in
     let e = l .before .before in
-    let o = e .before in
-    let s = o .before .before .before .before .before in
     c .joined .ensures
-    ∙ sym (forward-fits allClose (rowA s) (rowB s) (s .args .steps) (o .before .if1 .end) (o .offsets .offset) (o .offsets .comparisons) (e .if2 .left) (o .offsets .inv)
-    (last-point allClose (rowA s) (rowB s) (Forward (o .offsets .offset) (s .args .steps)) (o .offsets .comparisons) (l .loop .j) (l .loop .k) (i .if5 .taken) (l .loop .inv) (p .points-close .ensures) (i .before .if4 .left)))
+    ∙ sym (forward-fits (e .before .offsets .inv) (e .if2 .left)
+    (last-point (l .loop .inv) (p .points-close .ensures) (i .before .if4 .left) (i .if5 .taken)))
 
 returns-3 : tie.Need-returns-3 Inv-loop μ-loop Inv-loop2 μ-loop2 Inv-offsets μ-offsets
 returns-3 c =
@@ -175,12 +145,10 @@ returns-3 c =
     let p = t .before in
     let l = p .before in
     let e = l .before .before in
-    let o = e .before in
-    let s = o .before .before .before .before .before in
     c .joined2 .ensures
-    ∙ sym (reverse-fits allClose (rowA s) (rowB s) (s .args .steps) (o .before .if1 .end) (o .offsets .offset) (o .offsets .comparisons) (e .if2 .left) (o .offsets .inv)
-    (far-point allClose (rowA s) (rowB s) (Forward (o .offsets .offset) (s .args .steps)) (o .offsets .comparisons) (l .loop .j) (l .loop .k) (l .loop .inv) (p .points-close .ensures) (t .if4 .taken))
-    (last-point allClose (rowA s) (rowB s) (Reverse (o .offsets .offset) (s .args .steps)) (o .offsets .comparisons + (l .loop .j + 1)) (r .loop2 .j) (r .loop2 .k) (i .if8 .taken) (r .loop2 .inv) (q .points-close2 .ensures) (i .before .if7 .left)))
+    ∙ sym (reverse-fits (e .before .offsets .inv) (e .if2 .left)
+    (far-point (l .loop .inv) (p .points-close .ensures) (t .if4 .taken))
+    (last-point (r .loop2 .inv) (q .points-close2 .ensures) (i .before .if7 .left) (i .if8 .taken)))
 
 pub search-rows-spec : {M : Type 1} → statement M
 search-rows-spec =
@@ -198,11 +166,11 @@ search-rows-spec =
     close-run-requires
     opposite-requires
     loop-holds
-    (λ c. omega (arith, near c))
-    (λ c. omega (arith, near c))
-    (λ c. omega (arith, near c))
-    (λ c. omega (arith, near c))
-    (λ c κs. near c)
+    (λ c. omega (arith, stand-forward c))
+    (λ c. omega (arith, stand-forward c))
+    (λ c. omega (arith, stand-forward c))
+    (λ c. omega (arith, stand-forward c))
+    (λ c κs. stand-forward c)
     (λ c. search needs)
     (λ c. search needs)
     (λ c κs. search needs)
@@ -215,11 +183,11 @@ search-rows-spec =
     close-run-requires-2
     opposite-requires-2
     loop2-holds
-    (λ c. omega (arith, near2 c))
-    (λ c. omega (arith, near2 c))
-    (λ c. omega (arith, near2 c))
-    (λ c. omega (arith, near2 c))
-    (λ c κs. near2 c)
+    (λ c. omega (arith, stand-reverse c))
+    (λ c. omega (arith, stand-reverse c))
+    (λ c. omega (arith, stand-reverse c))
+    (λ c. omega (arith, stand-reverse c))
+    (λ c κs. stand-reverse c)
     (λ c. search needs)
     (λ c. search needs)
     (λ c κs. search needs)

@@ -23,7 +23,8 @@ returns c =
 
 -- what the search answers, as either arm has its seam
 found : (f : tie.After-search) {x : Seam} → f .search .result .seam ≡ x →
-    ok (searched x (f .search .result .comparisons)) ≡ newVector (now (f .before .before .before .before .before .before .args .a)) (now (f .before .before .before .before .before .before .args .b))
+    let s = f .before .before .before .before .before .before .args in
+    ok (searched x (f .search .result .comparisons)) ≡ newVector (now (s .a)) (now (s .b))
 found f e =
     let t = f .before in
     let r = t .before .before in
