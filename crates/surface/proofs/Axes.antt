@@ -1,6 +1,6 @@
 -- A covered joining is a strip when it is seen along one of its two seams: the other seam is unjoined or joins each point to the one opposite, so
 -- it closes the columns or leaves them open, and no more. Assumes nothing.
-use Prim.Native.Nat.{ℕ, zero, suc, _+_, _-_, _*_, _/_, _%_, _≤_, _<_}
+use Prim.Native.Nat.{ℕ, zero, suc, _+_, _*_, _/_, _%_, _≤_, _<_}
 use mathlib.Core.Path.{_≡_, refl, sym, ap, _∙_, subst}
 use mathlib.Core.Logic.{_⊎_, inl, inr, ⊎-elim}
 use mathlib.Core.Bool.{Bool, true, _||_, not, true≢false}

@@ -1,6 +1,6 @@
 -- Which way a triangle runs along its sides. Of the two that share a side, one runs along it from the first end of its name to the second and the
 -- other back. Only across a reversed seam the ends lie the other way round on one side, and there the two run the same way. Assumes nothing.
-use Prim.Native.Nat.{ℕ, _+_, _-_, _<_}
+use Prim.Native.Nat.{ℕ, _+_, _<_}
 use mathlib.Core.Path.{_≡_, refl, sym, ap, _∙_, subst}
 use mathlib.Core.Logic.{_⊎_, inl, inr, ⊎-elim}
 use mathlib.Core.Bool.{Bool, true, false, _&&_, not, false≢true, cond, Bool·not-not}

@@ -2,9 +2,9 @@
 -- does no more than read the last row of a closed column as its first. One after the other, in either order, they give the strip's point, and no
 -- further rule moves it. A corner in a row before the last leaves out the v rule, which has nothing to do there: a covered joining takes no
 -- point inside a column to its end. Assumes nothing.
-use Prim.Native.Nat.{ℕ, _+_, _-_, _≤_, _<_}
+use Prim.Native.Nat.{ℕ, _+_, _≤_, _<_}
 use mathlib.Core.Path.{_≡_, refl, sym, ap, _∙_}
-use mathlib.Core.Logic.{_⊎_, inl, inr, ⊎-elim}
+use mathlib.Core.Logic.{inl, inr, ⊎-elim}
 use mathlib.Core.Bool.{Bool, true, false, _&&_, false≢true, cond}
 use native.Mathlib.Omega.{arith}
 use lib.Dec.{eqb}
