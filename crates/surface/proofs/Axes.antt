@@ -8,7 +8,7 @@ use native.Mathlib.Omega.{arith}
 use lib.Arith.{digits-div, digits-mod}
 use Rattle.surface.specs.Surface.{Seam, unjoined, forward, reverse, joined, reversed, inverse, Rule, once, twice, Split, falling, rising, Shape, number, at, EnoughSteps}
 use Rattle.surface.proofs.Covered.{AtZero, Beside, Covered, neither, only-u, only-v, both-u, both-v}
-use Rattle.surface.proofs.Steps.{Fits, Offset, inv-forward-0, inv-forward, inv-reverse}
+use Rattle.surface.proofs.Steps.{Fits, Offset, inv-forward, inv-reverse}
 use Rattle.surface.proofs.Strip.{Strip, Kind, straight, across, diagonal}
 use Rattle.surface.proofs.Halves.{cellHalf, cellDir}
 
@@ -162,8 +162,7 @@ strip s h a w =
 
 inside-mapping : (m : Seam) (n : ℕ) → Beside once m n → (b : ℕ) → b < n → inverse m n b < n
 inside-mapping unjoined n h b k = absurd h
-inside-mapping (forward zero) n h b k = omega (arith, inv-forward-0 n b)
-inside-mapping (forward (suc o)) n h b k = ⊎-elim (λ w. omega arith) (λ w. omega arith) (inv-forward (suc o) n b (omega arith) h (omega arith))
+inside-mapping (forward o) n h b k = ⊎-elim (λ w. omega arith) (λ w. omega arith) (inv-forward o n b h (omega arith))
 inside-mapping (reverse o) n h b k = ⊎-elim (λ w. omega arith) (λ w. omega arith) (inv-reverse o n b (h .0) (h .1) (omega arith))
 
 offset-closed : (o n : ℕ) → o < n → Offset o true n

@@ -51,7 +51,7 @@ step-on o c n y h f k =
     ap (wrapEnds n (inverse (reverse o) n y)) (r .0)
     ∙ ⊎-elim
     (λ w. ap (λ (z : ℕ). wrapEnds n z (laidOn (reverse o) n y)) w ∙ lower-up n (laidOn (reverse o) n y) h)
-    (λ w. ap (λ (z : ℕ). wrapEnds n z (laidOn (reverse o) n y)) (w .0) ∙ lower-end n (laidOn (reverse o) n y) h (w .1))
+    (λ w. ap (λ (z : ℕ). wrapEnds n z (laidOn (reverse o) n y)) (w .1) ∙ lower-end n (laidOn (reverse o) n y) h (w .2))
     (r .1)
 
 -- ---- into an ascending list
