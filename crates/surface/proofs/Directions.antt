@@ -7,15 +7,15 @@ use mathlib.Core.Bool.{Bool, true, false, _&&_, not, false≢true, cond, Bool·n
 use native.Mathlib.Omega.{arith}
 use lib.Dec.{eqb}
 use borrow.Author.Tests.{eqb-true, eq-eqb}
-use Rattle.surface.specs.Surface.{Seam, unjoined, forward, reverse, joined, reversed, Same}
+use Rattle.surface.specs.Surface.{reversed, Same}
 use Rattle.float.proofs.Tests.{and-both}
 use Rattle.surface.proofs.Steps.{laidOn, on-below}
-use Rattle.surface.proofs.Strip.{Strip, Kind, straight, across, diagonal, nameFrom, nameTo, fromY, toX, toY, Valid, x-le, toX-le, fromY-le, toY-le, turned, colOf, stepAt, col-ne, next-ne}
+use Rattle.surface.proofs.Strip.{Strip, reversed-joined, Kind, straight, across, diagonal, nameFrom, nameTo, fromY, toX, toY, Valid, x-le, toX-le, fromY-le, toY-le, turned, colOf, stepAt, col-ne, next-ne}
 use Rattle.surface.proofs.CellSides.{Cell, sideFrom, sideTo, nameX, nameY, turnedAt, valid, named, far-col, far-step}
 use Rattle.surface.proofs.Owners.{same-flip, not-self, Holds, compare, SameTri, Opposite}
 
 module _ (S : Strip) where
-  open Strip S using (X, Y, closed, seam, split, num, X>0, Y>0, fits, inj)
+  open Strip S using (X, Y, seam, split, fits, inj, half, dir, dir-not)
 
   -- the two ends of a side differ
   names-differ : (k : Kind) (x y : ℕ) → Valid S k x y → nameFrom S k x y ≡ nameTo S k x y → ⊥
@@ -49,17 +49,7 @@ module _ (S : Strip) where
   unfolding turned
   far-turned r = ap (λ (b : Bool). b && eqb X X) r ∙ eq-eqb X X refl
 
-  reversed-joined : reversed seam ≡ true → joined seam ≡ true
-  reversed-joined r = go seam r
-    where
-      go : (m : Seam) → reversed m ≡ true → joined m ≡ true
-      go unjoined e = e
-      go (forward o) e = refl
-      go (reverse o) e = refl
-
   -- ---- runs
-
-  open Strip S using (half, half-diagonal, dir, dir-not)
 
   -- a to b is c to d, or d to c where w is false
   abbrev pub Along : Bool → ℕ → ℕ → ℕ → ℕ → Type 0
@@ -122,8 +112,8 @@ module _ (S : Strip) where
         rev = far .0;
         below = p .cell .1;
         low-half = cc (q .on, o .0, o .1, st .0, st .1, off);
-        low-x = lo .0 ∙ ap (colOf S) (far .1) ∙ far-col S (reversed-joined (far .0));
-        low-y = lo .1 ∙ ap (λ (z : ℕ). stepAt S z y) (far .1) ∙ far-step S y (reversed-joined (far .0));
+        low-x = lo .0 ∙ ap (colOf S) (far .1) ∙ far-col S (reversed-joined seam (far .0));
+        low-y = lo .1 ∙ ap (λ (z : ℕ). stepAt S z y) (far .1) ∙ far-step S y (reversed-joined seam (far .0));
         high-half = cc (p .on, st .0, st .1);
         high-x = far .1;
       }
@@ -174,10 +164,10 @@ module _ (S : Strip) where
       cell-high = (omega (arith, r .high-x), r .below)
 
       name-x : colOf S (x′ + 1) ≡ x
-      name-x = ap (colOf S) (r .high-x) ∙ far-col S (reversed-joined (r .rev)) ∙ sym (r .low-x)
+      name-x = ap (colOf S) (r .high-x) ∙ far-col S (reversed-joined seam (r .rev)) ∙ sym (r .low-x)
 
       name-y : stepAt S (x′ + 1) y′ ≡ y
-      name-y = ap (λ (z : ℕ). stepAt S z y′) (r .high-x) ∙ far-step S y′ (reversed-joined (r .rev)) ∙ sym (r .low-y)
+      name-y = ap (λ (z : ℕ). stepAt S z y′) (r .high-x) ∙ far-step S y′ (reversed-joined seam (r .rev)) ∙ sym (r .low-y)
 
       is-turned : turned S (x′ + 1) ≡ true
       is-turned = ap (turned S) (r .high-x) ∙ far-turned (r .rev)

@@ -25,7 +25,7 @@ edge-flip S a b e = record { k = e .k; t = e .t; x = e .x; y = e .y; cell = e .c
 
 -- P x y is the number of the point that grid point (x, y) is joined to
 module _ (S : Strip) (P : ℕ → ℕ → ℕ) (P-is : (x y : ℕ) → x ≤ S .X → y ≤ S .Y → P x y ≡ pointOf S x y) where
-  open Strip S using (X, Y, closed, seam, split, X>0, Y>0)
+  open Strip S using (X, Y, closed, seam, split)
 
   abbrev pub RimOf : ℕ → ℕ → Type 0
   RimOf a b =

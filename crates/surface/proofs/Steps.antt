@@ -143,10 +143,11 @@ offset-lt zero c n h f = h
 offset-lt (suc o) true n h f = f
 offset-lt (suc o) false n h f = absurd f
 
-offset-closed : (o : ℕ) (c : Bool) (n : ℕ) → Offset o c n → 0 < o → c ≡ true
-offset-closed zero c n f h = absurd (omega arith)
-offset-closed (suc o) true n f h = refl
-offset-closed (suc o) false n f h = absurd f
+-- only a closed row has an offset other than 0
+only-closed : (o : ℕ) (c : Bool) (n : ℕ) → Offset o c n → 0 < o → c ≡ true
+only-closed zero c n f h = absurd (omega arith)
+only-closed (suc o) true n f h = refl
+only-closed (suc o) false n f h = absurd f
 
 pub on-below : (m : Seam) (c : Bool) (n y : ℕ) → Fits m c n → y < n → laidOn m n y < n
 unfolding laidOn
@@ -205,7 +206,7 @@ forward-step o c n y f h =
       four (inv-forward o n (y + 1) q (omega arith)) (on-forward o n y)
           (λ w z. inl (omega arith))
           (λ w z. inl (omega arith))
-          (λ w z. inr (offset-closed o c n f (omega arith), omega arith, omega arith))
+          (λ w z. inr (only-closed o c n f (omega arith), omega arith, omega arith))
           (λ w z. inl (omega arith)),
     )
 

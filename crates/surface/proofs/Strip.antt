@@ -2,12 +2,13 @@
 -- open. Each side has one name (`one-name`): two names with the same two ends, in either order, would need a step that ends where it starts or two
 -- steps that go there and back, and where a way around is closed and has at least 3 steps, or is open, there are none. Assumes nothing.
 use Prim.Native.Nat.{ℕ, _+_, _≤_, _<_}
-use mathlib.Core.Path.{_≡_, refl, sym, ap, _∙_}
+use mathlib.Core.Path.{_≡_, refl, sym, _∙_}
 use mathlib.Core.Logic.{_⊎_, inl, inr, ⊎-elim}
-use mathlib.Core.Bool.{Bool, true, false, _&&_, _||_, not, cond}
+use mathlib.Core.Bool.{Bool, true, false, _&&_, _||_, not, cond, and-false, or-true}
 use native.Mathlib.Omega.{arith}
 use lib.Dec.{eqb}
 use borrow.Author.Tests.{ne-eqb}
+use Rattle.float.proofs.Tests.{cond-keeps}
 use Rattle.surface.specs.Surface.{Seam, unjoined, forward, reverse, joined, reversed, Split, falling, rising, Same}
 use Rattle.surface.proofs.Steps.{wrap, wrap-below, wrap-le, wrap-wrap, step-ne, step-two, step-inj, Fits, laidOn, on-below, carried, adj-forward, adj-reverse, carried-le, carried-wrap}
 
@@ -39,6 +40,11 @@ pub record Strip : Type 0 where
   pub dir : Kind → Bool → Bool
   pub dir-not : (k : Kind) (t : Bool) → dir k (not t) ≡ not (dir k t)
 
+pub reversed-joined : (m : Seam) → reversed m ≡ true → joined m ≡ true
+reversed-joined unjoined e = e
+reversed-joined (forward o) e = refl
+reversed-joined (reverse o) e = refl
+
 -- column x is the far one, and joined to column 0
 abbrev pub crossing : Strip → ℕ → Bool
 crossing S x = joined (S .seam) && eqb x (S .X)
@@ -67,20 +73,16 @@ unfoldable pub next : Strip → ℕ → ℕ
 next S y = wrap (S .closed) (S .Y) (y + 1)
 
 module _ (S : Strip) where
-  open Strip S using (X, Y, closed, seam, split, num, X>0, Y>0, fits, inj)
+  open Strip S using (X, Y, closed, seam, fits)
 
   -- ---- columns
 
   pub crossing-below : (x : ℕ) → x < X → crossing S x ≡ false
-  crossing-below x h = go (joined seam)
-    where
-      go : (t : Bool) → (t && eqb x X) ≡ false
-      go true = ne-eqb x X (λ e. omega arith)
-      go false = refl
+  crossing-below x h = rw (ne-eqb x X (λ e. omega arith)) (and-false (joined seam))
 
   pub row-below : (x y : ℕ) → x < X → rowOf S x y ≡ wrap closed Y y
   unfolding rowOf
-  row-below x y h = ap (λ (t : Bool). cond t (carried seam closed Y y) (wrap closed Y y)) (crossing-below x h)
+  row-below x y h = rw (crossing-below x h)
 
   pub col-below : (x : ℕ) → x < X → colOf S x ≡ x
   unfolding colOf
@@ -88,25 +90,17 @@ module _ (S : Strip) where
 
   pub step-below : (x y : ℕ) → x < X → stepAt S x y ≡ y
   unfolding stepAt
-  step-below x y h = ap (λ (t : Bool). cond t (laidOn seam Y y) y) (crossing-below x h)
+  step-below x y h = rw (crossing-below x h)
 
   pub stepAt-lt : (x y : ℕ) → y < Y → stepAt S x y < Y
   unfolding stepAt
-  stepAt-lt x y h = go (crossing S x)
-    where
-      go : (t : Bool) → cond t (laidOn seam Y y) y < Y
-      go true = on-below seam closed Y y fits h
-      go false = h
+  stepAt-lt x y h = cond-keeps (λ (z : ℕ). z < Y) (crossing S x) _ _ (on-below seam closed Y y fits h) h
 
   -- ---- rows
 
   pub row-le : (x y : ℕ) → y ≤ Y → rowOf S x y ≤ Y
   unfolding rowOf
-  row-le x y h = go (crossing S x)
-    where
-      go : (t : Bool) → cond t (carried seam closed Y y) (wrap closed Y y) ≤ Y
-      go true = carried-le seam closed Y y (omega arith) fits h
-      go false = wrap-le closed Y y h
+  row-le x y h = cond-keeps (λ (z : ℕ). z ≤ Y) (crossing S x) _ _ (carried-le seam closed Y y (omega arith) fits h) (wrap-le closed Y y h)
 
   pub col-le : (x : ℕ) → x ≤ X → colOf S x ≤ X
   unfolding colOf
@@ -118,27 +112,14 @@ module _ (S : Strip) where
 
   pub row-next : (x y : ℕ) → rowOf S x (next S y) ≡ rowOf S x (y + 1)
   unfolding rowOf next
-  row-next x y = go (crossing S x)
-    where
-      go : (t : Bool) → cond t (carried seam closed Y (wrap closed Y (y + 1))) (wrap closed Y (wrap closed Y (y + 1))) ≡ cond t (carried seam closed Y (y + 1)) (wrap closed Y (y + 1))
-      go true = carried-wrap seam closed Y (y + 1) (omega arith) fits
-      go false = wrap-wrap closed Y (y + 1) (omega arith)
+  row-next x y = rw (carried-wrap seam closed Y (y + 1) (omega arith) fits, wrap-wrap closed Y (y + 1) (omega arith))
 
   closed≥3 : closed ≡ true → 3 ≤ Y
-  closed≥3 e = S .Y≥3 (ap (λ (t : Bool). t || reversed seam) e)
+  closed≥3 e = S .Y≥3 (rw e)
 
   -- a reversed seam joins the last column to the first, and has enough steps
   pub reversed≥3 : reversed seam ≡ true → (3 ≤ X) × (3 ≤ Y)
-  reversed≥3 e = (S .X≥3 (is-joined seam e), S .Y≥3 (or closed))
-    where
-      is-joined : (m : Seam) → reversed m ≡ true → joined m ≡ true
-      is-joined unjoined h = h
-      is-joined (forward o) h = refl
-      is-joined (reverse o) h = refl
-
-      or : (c : Bool) → (c || reversed seam) ≡ true
-      or true = refl
-      or false = e
+  reversed≥3 e = (S .X≥3 (reversed-joined seam e), S .Y≥3 (rw e (or-true closed)))
 
   pub next-ne : (y : ℕ) → y < Y → next S y ≡ y → ⊥
   unfolding next
@@ -232,7 +213,7 @@ Valid S across x y = (x < S .X) × (y ≤ S .Y)
 Valid S diagonal x y = (x < S .X) × (y < S .Y)
 
 module _ (S : Strip) where
-  open Strip S using (X, Y, closed, seam, split, num, X>0, Y>0, fits, inj)
+  open Strip S using (X, Y, split, inj)
 
   pub x-le : (k : Kind) (x y : ℕ) → Valid S k x y → x ≤ X
   x-le straight x y v = v .0
@@ -269,14 +250,14 @@ module _ (S : Strip) where
   in-order across straight d x y x′ y′ v v′ p q r s = absurd (col-ne S x (v .0) (r ∙ sym p))
   in-order across across d x y x′ y′ v v′ p q r s = (refl, p, q)
   in-order across diagonal falling x y x′ y′ v v′ p q r s =
-      absurd (row-ne S (x′ + 1) y′ (v′ .1) (sym s ∙ ap (λ (t : ℕ). rowOf S (t + 1) y) p ∙ ap (rowOf S (x′ + 1)) q ∙ row-next S (x′ + 1) y′))
+      absurd (row-ne S (x′ + 1) y′ (v′ .1) (cc (row-next S (x′ + 1) y′)))
   in-order across diagonal rising x y x′ y′ v v′ p q r s =
-      absurd (row-ne S (x′ + 1) y′ (v′ .1) (sym (ap (λ (t : ℕ). rowOf S (t + 1) y) p ∙ ap (rowOf S (x′ + 1)) q) ∙ s))
+      absurd (row-ne S (x′ + 1) y′ (v′ .1) (cc))
   in-order diagonal straight d x y x′ y′ v v′ p q r s = absurd (col-ne S x (v .0) (r ∙ sym p))
   in-order diagonal across falling x y x′ y′ v v′ p q r s =
-      absurd (row-ne S (x + 1) y (v .1) (s ∙ ap (λ (t : ℕ). rowOf S (t + 1) y′) (sym p) ∙ ap (rowOf S (x + 1)) (sym q) ∙ row-next S (x + 1) y))
+      absurd (row-ne S (x + 1) y (v .1) (cc (row-next S (x + 1) y)))
   in-order diagonal across rising x y x′ y′ v v′ p q r s =
-      absurd (row-ne S (x + 1) y (v .1) (sym (s ∙ ap (λ (t : ℕ). rowOf S (t + 1) y′) (sym p) ∙ ap (rowOf S (x + 1)) (sym q))))
+      absurd (row-ne S (x + 1) y (v .1) (cc))
   in-order diagonal diagonal falling x y x′ y′ v v′ p q r s = (refl, p, next-inj S y y′ (v .1) (v′ .1) q)
   in-order diagonal diagonal rising x y x′ y′ v v′ p q r s = (refl, p, q)
 
@@ -298,10 +279,10 @@ module _ (S : Strip) where
       Same (nameFrom S k x y) (nameTo S k x y) (nameFrom S k′ x′ y′) (nameTo S k′ x′ y′) → Agree k k′ x y x′ y′
   unfolding nameFrom nameTo
   one-name k k′ x y x′ y′ v v′ (inl e) =
-      let p = inj x (fromY S k split y) x′ (fromY S k′ split y′) (x-le k x y v) (fromY-le k split x y v) (x-le k′ x′ y′ v′) (fromY-le k′ split x′ y′ v′) (e .0) in
-      let q = inj (toX S k x) (toY S k split x y) (toX S k′ x′) (toY S k′ split x′ y′) (toX-le k x y v) (toY-le k split x y v) (toX-le k′ x′ y′ v′) (toY-le k′ split x′ y′ v′) (e .1) in
+      let p = inj _ _ _ _ (x-le k x y v) (fromY-le k split x y v) (x-le k′ x′ y′ v′) (fromY-le k′ split x′ y′ v′) (e .0) in
+      let q = inj _ _ _ _ (toX-le k x y v) (toY-le k split x y v) (toX-le k′ x′ y′ v′) (toY-le k′ split x′ y′ v′) (e .1) in
       in-order k k′ split x y x′ y′ v v′ (p .0) (p .1) (q .0) (q .1)
   one-name k k′ x y x′ y′ v v′ (inr e) =
-      let p = inj x (fromY S k split y) (toX S k′ x′) (toY S k′ split x′ y′) (x-le k x y v) (fromY-le k split x y v) (toX-le k′ x′ y′ v′) (toY-le k′ split x′ y′ v′) (e .0) in
-      let q = inj (toX S k x) (toY S k split x y) x′ (fromY S k′ split y′) (toX-le k x y v) (toY-le k split x y v) (x-le k′ x′ y′ v′) (fromY-le k′ split x′ y′ v′) (e .1) in
+      let p = inj _ _ _ _ (x-le k x y v) (fromY-le k split x y v) (toX-le k′ x′ y′ v′) (toY-le k′ split x′ y′ v′) (e .0) in
+      let q = inj _ _ _ _ (toX-le k x y v) (toY-le k split x y v) (x-le k′ x′ y′ v′) (fromY-le k′ split x′ y′ v′) (e .1) in
       absurd (in-turn k k′ split x y x′ y′ v v′ (p .0) (p .1) (q .0) (q .1))
