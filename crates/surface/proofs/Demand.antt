@@ -68,7 +68,7 @@ module _ (s : Shape) (steps : HasSteps s) (ax : Axis) (seen : SeenAlong ax s) wh
       (differ (slot s i .b) (slot s i .c) (inr (inl (refl, refl))))
     where
       differ : (a b : ℕ) → Follows (slot s i) a b → a ≡ b → ⊥
-      differ a b F = runs-differ Z (halfAt i) (xAt i) (yAt i) a b (slot-runs i a b h F)
+      differ a b F = runs-differ Z (slot-runs i a b h F)
 
   count : length (triangles s) ≡ slots s
   unfolding triangles
@@ -96,15 +96,15 @@ module _ (s : Shape) (steps : HasSteps s) (ax : Axis) (seen : SeenAlong ax s) wh
   owns-holds : (a b i : ℕ) → Owns (triangles s) a b i → Hold (halfAt i) (xAt i) (yAt i) a b
   owns-holds a b i o =
       ⊎-elim
-      (λ F. runs-holds Z (halfAt i) (xAt i) (yAt i) a b (nth-runs i a b (o .there) F))
-      (λ F. holds-flip Z (halfAt i) (xAt i) (yAt i) b a (runs-holds Z (halfAt i) (xAt i) (yAt i) b a (nth-runs i b a (o .there) F)))
+      (λ F. runs-holds Z (nth-runs i a b (o .there) F))
+      (λ F. holds-flip Z (runs-holds Z (nth-runs i b a (o .there) F)))
       (o .has)
 
   holds-owns : (a b i : ℕ) → i < slots s → Hold (halfAt i) (xAt i) (yAt i) a b → Owns (triangles s) a b i
   holds-owns a b i h p =
       record {
         there = omega (arith, count);
-        has = ⊎-elim (λ r. inl (runs-nth i a b h r)) (λ r. inr (runs-nth i b a h r)) (holds-runs Z (halfAt i) (xAt i) (yAt i) a b p);
+        has = ⊎-elim (λ r. inl (runs-nth i a b h r)) (λ r. inr (runs-nth i b a h r)) (holds-runs Z p);
       }
 
   -- the number of the triangle of half h of cell (x, y) of the strip
@@ -158,7 +158,7 @@ module _ (s : Shape) (steps : HasSteps s) (ax : Axis) (seen : SeenAlong ax s) wh
       j = indexOf (t .h₂) (t .x₂) (t .y₂)
 
       c : Cell Z (t .x₂) (t .y₂)
-      c = t .holds .cell
+      c = t .holds .side .cell
 
       o₂ : Owns (triangles s) a b j
       o₂ = holds-owns a b j (indexOf-lt (t .h₂) (t .x₂) (t .y₂) c) (at-index (λ h x y. Hold h x y a b) (t .h₂) (t .x₂) (t .y₂) c (t .holds))
@@ -184,15 +184,17 @@ module _ (s : Shape) (steps : HasSteps s) (ax : Axis) (seen : SeenAlong ax s) wh
       ⊎-elim
       (λ w. inl (seen-rim s steps ax seen a b (w .0), owned-once a b i o (w .1)))
       (λ w. inr (λ r. w .0 (rim-seen s steps ax seen a b r), owned-twice a b i o (w .1)))
-      (owned Z (halfAt i) (xAt i) (yAt i) a b (owns-holds a b i o))
+      (owned Z (owns-holds a b i o))
 
   -- each grid edge is a side of a cell, and so of one of its halves
   edges : (u v u′ v′ : ℕ) → GridEdge s u v u′ v′ → (i : ℕ) × Owns (triangles s) (J s u v) (J s u′ v′) i
   edges u v u′ v′ g =
       let e = edge-seen s steps ax seen u v u′ v′ g in
-      let h = Z .half (e .k) (e .t) in
-      let p : Hold h (e .x) (e .y) (J s u v) (J s u′ v′) = record { k = e .k; t = e .t; cell = e .cell; on = refl; ends = e .ends } in
-      (indexOf h (e .x) (e .y), holds-owns (J s u v) (J s u′ v′) (indexOf h (e .x) (e .y)) (indexOf-lt h (e .x) (e .y) (e .cell)) (at-index (λ h x y. Hold h x y (J s u v) (J s u′ v′)) h (e .x) (e .y) (e .cell) p))
+      let h = Z .half (e .side .k) (e .side .t) in
+      let c = e .side .cell in
+      let i = indexOf h (e .x) (e .y) in
+      let p : Hold h (e .x) (e .y) (J s u v) (J s u′ v′) = record { side = e .side; on = refl } in
+      (i, holds-owns (J s u v) (J s u′ v′) i (indexOf-lt h (e .x) (e .y) c) (at-index (λ h x y. Hold h x y (J s u v) (J s u′ v′)) h (e .x) (e .y) c p))
 
   -- ---- flipped pairs
 
@@ -272,7 +274,7 @@ module _ (s : Shape) (steps : HasSteps s) (ax : Axis) (seen : SeenAlong ax s) wh
       ⊎-elim
       (λ t. Memᴰ·cast (pair-eq (pair i j) (ordered i j) (omega arith) (omega arith)) (listed i j t))
       (λ t. Memᴰ·cast (pair-eq (pair i j) (ordered j i) (omega arith) (omega arith)) (listed j i t))
-      (same-way Z (halfAt i) (halfAt j) (xAt i) (yAt i) (xAt j) (yAt j) (w .a) (w .b) (nth-runs i (w .a) (w .b) (w .there-i) (w .along-i)) (nth-runs j (w .a) (w .b) (w .there-j) (w .along-j)) apart)
+      (same-way Z (nth-runs i (w .a) (w .b) (w .there-i) (w .along-i)) (nth-runs j (w .a) (w .b) (w .there-j) (w .along-j)) apart)
     where
       apart : SameTri Z (halfAt i) (xAt i) (yAt i) (halfAt j) (xAt j) (yAt j) → ⊥
       apart e = let q : j ≡ i = is-indexOf j (halfAt i) (xAt i) (yAt i) (e .0) (e .1) (e .2) ∙ indexOf-at i in omega arith
@@ -285,7 +287,7 @@ module _ (s : Shape) (steps : HasSteps s) (ax : Axis) (seen : SeenAlong ax s) wh
   unfolding low-half high-half
   shared-way y h e =
       let t : TurnAt low-half 0 (on y) high-half far y = record { rev = e; below = h; low-half = refl; low-x = refl; low-y = refl; high-half = refl; high-x = far-is } in
-      let r = turn-shared Z low-half high-half 0 (on y) far y t in
+      let r = turn-shared Z t in
       let cl = low-cell (on y) (on-lt y h) in
       let ch = high-cell y h in
       let i = indexOf low-half 0 (on y) in

@@ -9,19 +9,16 @@ use Rattle.surface.specs.Surface.{unjoined, Split, falling, rising, Same
 use Rattle.surface.proofs.Steps.{lt-or-le}
 use Rattle.surface.proofs.Strip.{Strip, Kind, straight, across, diagonal, pointOf}
 use Rattle.surface.proofs.CellSides.{Cell, shift, shift-le, corners, endsOf, sideFrom, sideTo, RimAt}
-use Rattle.surface.proofs.Owners.{OnRim, same-sym, same-trans, same-flip}
+use Rattle.surface.proofs.Owners.{same-sym, same-trans, SideAt, side-flip, OnRim}
 
 -- a and b are the ends of a side of some cell
 pub record EdgeAt (S : Strip) (a b : ℕ) : Type 0 where
-  pub k : Kind
-  pub t : Bool
   pub x : ℕ
   pub y : ℕ
-  pub cell : Cell S x y
-  pub ends : Same a b (sideFrom S k t x y) (sideTo S k t x y)
+  pub side : SideAt S x y a b
 
-pub edge-flip : (S : Strip) (a b : ℕ) → EdgeAt S a b → EdgeAt S b a
-edge-flip S a b e = record { k = e .k; t = e .t; x = e .x; y = e .y; cell = e .cell; ends = same-flip (e .ends) }
+pub edge-flip : {S : Strip} {a b : ℕ} → EdgeAt S a b → EdgeAt S b a
+edge-flip {S} e = record { x = e .x; y = e .y; side = side-flip S (e .side) }
 
 -- P x y is the number of the point that grid point (x, y) is joined to
 module _ (S : Strip) (P : ℕ → ℕ → ℕ) (P-is : (x y : ℕ) → x ≤ S .X → y ≤ S .Y → P x y ≡ pointOf S x y) where
@@ -58,7 +55,7 @@ module _ (S : Strip) (P : ℕ → ℕ → ℕ) (P-is : (x y : ℕ) → x ≤ S .
   -- ---- rims
 
   on-rim : (a b : ℕ) (k : Kind) (t : Bool) (x y : ℕ) → Cell S x y → RimAt S k t x y → Same a b (ends k split t x y .0) (ends k split t x y .1) → OnRim S a b
-  on-rim a b k t x y c r e = record { k = k; t = t; x = x; y = y; cell = c; rim = r; ends = same-trans e (ends-are k t x y c) }
+  on-rim a b k t x y c r e = record { x = x; y = y; side = record { k = k; t = t; cell = c; ends = same-trans e (ends-are k t x y c) }; rim = r }
 
   pub rim-to : (a b : ℕ) → RimOf a b → OnRim S a b
   rim-to a b (inl (o, (y, h, inl e))) = on-rim a b straight false 0 y (omega arith, h) (o, refl) e
@@ -69,7 +66,7 @@ module _ (S : Strip) (P : ℕ → ℕ → ℕ) (P-is : (x y : ℕ) → x ≤ S .
       on-rim a b across true x (Y - 1) (h, omega arith) (o, omega arith) (subst (λ (z : ℕ). Same a b (P x z) (P (x + 1) z)) (last-Y Y (omega arith) (omega arith)) e)
 
   pub rim-from : (a b : ℕ) → OnRim S a b → RimOf a b
-  rim-from a b r = go (r .k) (r .t) (r .x) (r .y) (r .cell) (r .rim) (same-trans (r .ends) (same-sym (ends-are (r .k) (r .t) (r .x) (r .y) (r .cell))))
+  rim-from a b r = let d = r .side in go (d .k) (d .t) (r .x) (r .y) (d .cell) (r .rim) (same-trans (d .ends) (same-sym (ends-are (d .k) (d .t) (r .x) (r .y) (d .cell))))
     where
       go : (k : Kind) (t : Bool) (x y : ℕ) → Cell S x y → RimAt S k t x y → Same a b (ends k split t x y .0) (ends k split t x y .1) → RimOf a b
       go straight false x y c r e = inl (r .0, (y, c .1, inl (subst (λ (z : ℕ). Same a b (P z y) (P z (y + 1))) (r .1) e)))
@@ -81,7 +78,7 @@ module _ (S : Strip) (P : ℕ → ℕ → ℕ) (P-is : (x y : ℕ) → x ≤ S .
   -- ---- edges
 
   edge-of : (k : Kind) (t : Bool) (x y : ℕ) → Cell S x y → EdgeAt S (ends k split t x y .0) (ends k split t x y .1)
-  edge-of k t x y c = record { k = k; t = t; x = x; y = y; cell = c; ends = ends-are k t x y c }
+  edge-of k t x y c = record { x = x; y = y; side = record { k = k; t = t; cell = c; ends = ends-are k t x y c } }
 
   pub edge-across : (x y : ℕ) → x < X → y ≤ Y → EdgeAt S (P x y) (P (x + 1) y)
   edge-across x y h k =
@@ -102,7 +99,7 @@ module _ (S : Strip) (P : ℕ → ℕ → ℕ) (P-is : (x y : ℕ) → x ≤ S .
   edge-diagonal x y d c e = subst (λ (z : Split). EdgeAt S (ends diagonal z false x y .0) (ends diagonal z false x y .1)) e (edge-of diagonal false x y c)
 
   pub edge-falling : (x y : ℕ) → x < X → y < Y → split ≡ falling → EdgeAt S (P (x + 1) y) (P x (y + 1))
-  edge-falling x y h k e = edge-flip S (P x (y + 1)) (P (x + 1) y) (edge-diagonal x y falling (h, k) e)
+  edge-falling x y h k e = edge-flip (edge-diagonal x y falling (h, k) e)
 
   pub edge-rising : (x y : ℕ) → x < X → y < Y → split ≡ rising → EdgeAt S (P x y) (P (x + 1) (y + 1))
   edge-rising x y h k e = edge-diagonal x y rising (h, k) e

@@ -98,7 +98,7 @@ module _ (s : Shape) (steps : HasSteps s) (a : Axis) (w : SeenAlong a s) where
         t = r .t;
         cell = cell-seen s steps a w i j hi hj;
         on = rw (turn-kind a (r .k)) (r .on);
-        along = ends-along S (S .dir k (r .t)) p q (sideFrom S k (r .t) x y) (sideTo S k (r .t) x y) (r .from ∙ e .0) (r .to ∙ e .1);
+        along = ends-along (S .dir k (r .t)) (sideFrom S k (r .t) x y) (sideTo S k (r .t) x y) (r .from ∙ e .0) (r .to ∙ e .1);
       }
 
   pub from-runs : (h : Bool) (i j p q : ℕ) → i < s .M → j < s .N → Runs S h (xOf a i j) (yOf a i j) p q → Follows (halfOf s (s .split) (halfNum h) i j) p q
@@ -107,7 +107,7 @@ module _ (s : Shape) (steps : HasSteps s) (a : Axis) (w : SeenAlong a s) where
       let x = xOf a i j in
       let y = yOf a i j in
       let e = run-is (cellCorners s i j) (corners S x y) a (corner-is s steps a w i j hi hj) (s .split) (r .k) (r .t) in
-      let g = along-ends S (S .dir (r .k) (r .t)) p q (sideFrom S (r .k) (r .t) x y) (sideTo S (r .k) (r .t) x y) (r .along) in
+      let g = along-ends (r .along) in
       subst (λ (z : Bool). Follows (halfOf s (s .split) (halfNum z) i j) p q) (r .on) (run-follows s i j p q (s .split) (kindOf a (r .k)) (r .t) (g .0 ∙ sym (e .0)) (g .1 ∙ sym (e .1)))
 
   -- J, by column and row
@@ -139,7 +139,7 @@ edge-seen s steps axisU w i j i′ j′ (falls {u} {v} h k e) = edge-falling (S 
 edge-seen s steps axisU w i j i′ j′ (rises {u} {v} h k e) = edge-rising (S s steps axisU w) (P s steps axisU w) (P-is s steps axisU w) u v h k e
 edge-seen s steps axisV w i j i′ j′ (along-u {u} {v} h k) = edge-straight (S s steps axisV w) (P s steps axisV w) (P-is s steps axisV w) v u k h
 edge-seen s steps axisV w i j i′ j′ (along-v {u} {v} h k) = edge-across (S s steps axisV w) (P s steps axisV w) (P-is s steps axisV w) v u k h
-edge-seen s steps axisV w i j i′ j′ (falls {u} {v} h k e) = edge-flip (S s steps axisV w) _ _ (edge-falling (S s steps axisV w) (P s steps axisV w) (P-is s steps axisV w) v u k h e)
+edge-seen s steps axisV w i j i′ j′ (falls {u} {v} h k e) = edge-flip (edge-falling (S s steps axisV w) (P s steps axisV w) (P-is s steps axisV w) v u k h e)
 edge-seen s steps axisV w i j i′ j′ (rises {u} {v} h k e) = edge-rising (S s steps axisV w) (P s steps axisV w) (P-is s steps axisV w) v u k h e
 
 -- only the strip's seam can be reversed
