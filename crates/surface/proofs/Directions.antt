@@ -12,7 +12,7 @@ use Rattle.float.proofs.Tests.{and-both}
 use Rattle.surface.proofs.Steps.{laidOn, on-below}
 use Rattle.surface.proofs.Strip.{Strip, reversed-joined, Kind, straight, across, diagonal, nameFrom, nameTo, fromY, toX, toY, Valid, x-le, toX-le, fromY-le, toY-le, turned, colOf, stepAt, col-ne, next-ne}
 use Rattle.surface.proofs.CellSides.{Cell, sideFrom, sideTo, nameX, nameY, turnedAt, valid, named, far-col, far-step}
-use Rattle.surface.proofs.Owners.{not-self, SideAt, side-flip, Holds, nameXOf, nameYOf, compare, SameTri, Opposite}
+use Rattle.surface.proofs.Owners.{not-self, SideAt, side-flip, Holds, firstEnd, lastEnd, name-ends, compare, SameTri, Opposite}
 
 -- a to b is c to d, or d to c where w is false
 abbrev pub Along : Bool → ℕ → ℕ → ℕ → ℕ → Type 0
@@ -49,8 +49,8 @@ module _ (S : Strip) where
       go across v p = col-ne S x (v .0) (sym (p .0))
       go diagonal v p = col-ne S x (v .0) (sym (p .0))
 
-  ends-differ : (k : Kind) (t : Bool) (x y : ℕ) → Cell S x y → sideFrom S k t x y ≡ sideTo S k t x y → ⊥
-  ends-differ k t x y c e = names-differ k (nameX S k t x) (nameY S k t x y) (valid S k t x y c) (⊎-elim (λ w. cc (w .1, w .2)) (λ w. cc (w .1, w .2)) (named S k t x y c))
+  ends-differ : {x y a b : ℕ} (p : SideAt S x y a b) → firstEnd S p ≡ lastEnd S p → ⊥
+  ends-differ {x} {y} p = names-differ (p .k) (nameX S (p .k) (p .t) x) (nameY S (p .k) (p .t) x y) (valid S (p .k) (p .t) x y (p .cell))
 
   -- only the last column of a reversed seam lies the other way round
   turned-straight : (k : Kind) (t : Bool) (x : ℕ) → turnedAt S k t x ≡ true → (k ≡ straight) × (t ≡ true) × (turned S (x + 1) ≡ true)
@@ -84,6 +84,30 @@ module _ (S : Strip) where
   pub runs-holds : {h : Bool} {x y a b : ℕ} → Runs h x y a b → Holds S h x y a b
   runs-holds r = record { side = sideOf r; on = r .on }
 
+  -- a run starts at the first end of the side's name or at the last, as its direction says
+  abbrev Begins : {h : Bool} {x y a b : ℕ} → Runs h x y a b → Type 0
+  Begins {h} {x} {y} {a} r = ((dir (r .k) (r .t) ≡ true) × (a ≡ firstEnd S (sideOf r))) ⊎ ((dir (r .k) (r .t) ≡ false) × (a ≡ lastEnd S (sideOf r)))
+
+  -- unless the side's ends lie the other way round under its name
+  abbrev Turned : {h : Bool} {x y a b : ℕ} → Runs h x y a b → Type 0
+  Turned {h} {x} r = turnedAt S (r .k) (r .t) x ≡ true
+
+  begins : {h : Bool} {x y a b : ℕ} (r : Runs h x y a b) → Turned r ⊎ Begins r
+  begins {h} {x} {y} r =
+      ⊎-elim
+      (λ w. inr (⊎-elim (λ e. inl (e .0, e .1 ∙ w .1)) (λ e. inr (e .0, e .1 ∙ w .2)) (r .along)))
+      (λ w. inl (w .0))
+      (named S (r .k) (r .t) x y (r .cell))
+
+  -- two opposite halves do not start at the same end
+  clash : {h h′ : Bool} {x y x′ y′ a b : ℕ} (p : Runs h x y a b) (q : Runs h′ x′ y′ a b) → Opposite S (sideOf p) (sideOf q) → Begins p → Begins q → ⊥
+  clash p q o (inl b) (inl d) = not-self true (cc (o .0, o .1, dir-not (p .k) (p .t), b .0, d .0))
+  clash p q o (inl b) (inr d) = ends-differ (sideOf p) (cc (o .0, o .1, o .2, o .3, b .1, d .1))
+  clash p q o (inr b) (inl d) = ends-differ (sideOf p) (cc (o .0, o .1, o .2, o .3, b .1, d .1))
+  clash p q o (inr b) (inr d) = not-self false (cc (o .0, o .1, dir-not (p .k) (p .t), b .0, d .0))
+
+  -- ---- turns
+
   -- across a reversed seam: half h has a low side of column 0, and half h′ the high side of the last column that lies on it the other way round
   pub record Turn (h : Bool) (x y : ℕ) (h′ : Bool) (x′ y′ : ℕ) : Type 0 where
     pub rev : reversed seam ≡ true
@@ -94,32 +118,7 @@ module _ (S : Strip) where
     pub high-half : h′ ≡ half straight true
     pub high-x : x′ + 1 ≡ X
 
-  -- it starts at the first end of the side's name or at the second, as its direction says
-  abbrev Begins : {h : Bool} {x y a b : ℕ} → Runs h x y a b → Type 0
-  Begins {h} {x} {y} {a} r =
-      ((dir (r .k) (r .t) ≡ true) × (a ≡ nameFrom S (r .k) (nameXOf S (sideOf r)) (nameYOf S (sideOf r))))
-      ⊎ ((dir (r .k) (r .t) ≡ false) × (a ≡ nameTo S (r .k) (nameXOf S (sideOf r)) (nameYOf S (sideOf r))))
-
-  begins : {h : Bool} {x y a b : ℕ} (r : Runs h x y a b) → (turnedAt S (r .k) (r .t) x ≡ true) ⊎ Begins r
-  begins {h} {x} {y} r =
-      ⊎-elim
-      (λ w. inr (⊎-elim (λ e. inl (e .0, e .1 ∙ w .1)) (λ e. inr (e .0, e .1 ∙ w .2)) (r .along)))
-      (λ w. inl (w .0))
-      (named S (r .k) (r .t) x y (r .cell))
-
-  -- two opposite halves do not start at the same end
-  clash : {h h′ : Bool} {x y x′ y′ a b : ℕ} (p : Runs h x y a b) (q : Runs h′ x′ y′ a b) → Opposite S (sideOf p) (sideOf q) → Begins p → Begins q → ⊥
-  clash {h} {h′} {x} {y} p q o = go
-    where
-      apart : nameFrom S (p .k) (nameXOf S (sideOf p)) (nameYOf S (sideOf p)) ≡ nameTo S (p .k) (nameXOf S (sideOf p)) (nameYOf S (sideOf p)) → ⊥
-      apart = names-differ (p .k) (nameXOf S (sideOf p)) (nameYOf S (sideOf p)) (valid S (p .k) (p .t) x y (p .cell))
-
-      go : Begins p → Begins q → ⊥
-      go (inl b) (inl d) = not-self true (cc (o .0, o .1, dir-not (p .k) (p .t), b .0, d .0))
-      go (inl b) (inr d) = apart (cc (o .0, o .1, o .2, o .3, b .1, d .1))
-      go (inr b) (inl d) = apart (cc (o .0, o .1, o .2, o .3, b .1, d .1))
-      go (inr b) (inr d) = not-self false (cc (o .0, o .1, dir-not (p .k) (p .t), b .0, d .0))
-
+  -- the cell beyond a high straight side
   opposite-low : (k : Kind) (t : Bool) (x y x′ y′ : ℕ) → k ≡ straight → t ≡ true → nameX S k (not t) x′ ≡ nameX S k t x →
       nameY S k (not t) x′ y′ ≡ nameY S k t x y → (x′ ≡ colOf S (x + 1)) × (y′ ≡ stepAt S (x + 1) y)
   opposite-low straight true x y x′ y′ e f p q = (p, q)
@@ -127,8 +126,8 @@ module _ (S : Strip) where
   opposite-low across t x y x′ y′ e f p q = (cc, cc)
   opposite-low diagonal t x y x′ y′ e f p q = (cc, cc)
 
-  turn-of : {h h′ : Bool} {x y x′ y′ a b : ℕ} (p : Runs h x y a b) (q : Runs h′ x′ y′ a b) → Opposite S (sideOf p) (sideOf q) →
-      turnedAt S (p .k) (p .t) x ≡ true → Turn h′ x′ y′ h x y
+  turn-of : {h h′ : Bool} {x y x′ y′ a b : ℕ} (p : Runs h x y a b) (q : Runs h′ x′ y′ a b) → Opposite S (sideOf p) (sideOf q) → Turned p →
+      Turn h′ x′ y′ h x y
   turn-of {h} {h′} {x} {y} {x′} {y′} p q o e =
       record {
         rev = far .0;
@@ -154,17 +153,21 @@ module _ (S : Strip) where
 
   -- two triangles that run along a side the same way are at a turn
   pub same-way : {h h′ : Bool} {x y x′ y′ a b : ℕ} → Runs h x y a b → Runs h′ x′ y′ a b → (SameTri S h x y h′ x′ y′ → ⊥) → Turn h x y h′ x′ y′ ⊎ Turn h′ x′ y′ h x y
-  same-way {h} {h′} {x} {y} {x′} {y′} p q n = ⊎-elim (λ w. absurd (n (cc (w .0, w .1, q .on, p .on), w .2, w .3))) (λ o. across o (begins p) (begins q)) (compare S (sideOf p) (sideOf q))
+  same-way {h} {h′} {x} {y} {x′} {y′} p q n =
+      ⊎-elim
+      (λ w. absurd (n (cc (w .0, w .1, q .on, p .on), w .2, w .3)))
+      (λ o. go o (begins p) (begins q))
+      (compare S (sideOf p) (sideOf q))
     where
       swap : Opposite S (sideOf p) (sideOf q) → Opposite S (sideOf q) (sideOf p)
       swap o =
           let n = Bool·not-not (p .t) in
           (sym (o .0), cc (o .1, n), cc (o .0, o .1, o .2, n), cc (o .0, o .1, o .3, n))
 
-      across : Opposite S (sideOf p) (sideOf q) → (turnedAt S (p .k) (p .t) x ≡ true) ⊎ Begins p → (turnedAt S (q .k) (q .t) x′ ≡ true) ⊎ Begins q → Turn h x y h′ x′ y′ ⊎ Turn h′ x′ y′ h x y
-      across o (inl e) g = inr (turn-of p q o e)
-      across o (inr f) (inl e) = inl (turn-of q p (swap o) e)
-      across o (inr f) (inr g) = absurd (clash p q o f g)
+      go : Opposite S (sideOf p) (sideOf q) → Turned p ⊎ Begins p → Turned q ⊎ Begins q → Turn h x y h′ x′ y′ ⊎ Turn h′ x′ y′ h x y
+      go o (inl e) g = inr (turn-of p q o e)
+      go o (inr f) (inl e) = inl (turn-of q p (swap o) e)
+      go o (inr f) (inr g) = absurd (clash p q o f g)
 
   pub record Shared (h : Bool) (x y : ℕ) (h′ : Bool) (x′ y′ : ℕ) : Type 0 where
     pub a : ℕ
@@ -241,4 +244,4 @@ module _ (S : Strip) where
 
   -- what a triangle runs along has two ends
   pub runs-differ : {h : Bool} {x y a b : ℕ} → Runs h x y a b → a ≡ b → ⊥
-  runs-differ {h} {x} {y} r e = ends-differ (r .k) (r .t) x y (r .cell) (⊎-elim (λ q. cc (q .1, q .2)) (λ q. cc (q .1, q .2)) (r .along))
+  runs-differ r e = ends-differ (sideOf r) (⊎-elim (λ q. cc (q .0, q .1)) (λ q. cc (q .0, q .1)) (name-ends S (sideOf r)))

@@ -67,19 +67,24 @@ module _ (S : Strip) where
   abbrev pub SameTri : Bool → ℕ → ℕ → Bool → ℕ → ℕ → Type 0
   SameTri h x y h′ x′ y′ = (h′ ≡ h) × (x′ ≡ x) × (y′ ≡ y)
 
-  -- the name of a side
-  abbrev pub nameXOf : {x y a b : ℕ} → SideAt x y a b → ℕ
+  -- the name of a side, and its two ends
+  abbrev nameXOf : {x y a b : ℕ} → SideAt x y a b → ℕ
   nameXOf {x} p = nameX S (p .k) (p .t) x
 
-  abbrev pub nameYOf : {x y a b : ℕ} → SideAt x y a b → ℕ
+  abbrev nameYOf : {x y a b : ℕ} → SideAt x y a b → ℕ
   nameYOf {x} {y} p = nameY S (p .k) (p .t) x y
+
+  abbrev pub firstEnd : {x y a b : ℕ} → SideAt x y a b → ℕ
+  firstEnd p = nameFrom S (p .k) (nameXOf p) (nameYOf p)
+
+  abbrev pub lastEnd : {x y a b : ℕ} → SideAt x y a b → ℕ
+  lastEnd p = nameTo S (p .k) (nameXOf p) (nameYOf p)
 
   named-same : (k : Kind) (t : Bool) (x y : ℕ) → Cell S x y →
       Same (sideFrom S k t x y) (sideTo S k t x y) (nameFrom S k (nameX S k t x) (nameY S k t x y)) (nameTo S k (nameX S k t x) (nameY S k t x y))
   named-same k t x y c = ⊎-elim (λ w. inl (w .1, w .2)) (λ w. inr (w .1, w .2)) (named S k t x y c)
 
-  -- a and b are the ends of its name
-  name-ends : {x y a b : ℕ} (p : SideAt x y a b) → Same a b (nameFrom S (p .k) (nameXOf p) (nameYOf p)) (nameTo S (p .k) (nameXOf p) (nameYOf p))
+  pub name-ends : {x y a b : ℕ} (p : SideAt x y a b) → Same a b (firstEnd p) (lastEnd p)
   name-ends {x} {y} p = same-trans (p .ends) (named-same (p .k) (p .t) x y (p .cell))
 
   -- two cells that have one side name it alike
