@@ -1,7 +1,7 @@
 -- A covered joining is a strip when it is seen along one of its two seams: the other seam is unjoined or joins each point to the one opposite, so
 -- it closes the columns or leaves them open, and no more. Assumes nothing.
-use Prim.Native.Nat.{ℕ, zero, suc, _+_, _*_, _/_, _%_, _≤_, _<_}
-use mathlib.Core.Path.{_≡_, refl, sym, ap, _∙_, subst}
+use Prim.Native.Nat.{ℕ, zero, suc, _+_, _*_, _≤_, _<_}
+use mathlib.Core.Path.{_≡_, refl, sym, ap, _∙_}
 use mathlib.Core.Logic.{_⊎_, inl, inr, ⊎-elim}
 use mathlib.Core.Bool.{Bool, true, _||_, not, true≢false}
 use native.Mathlib.Omega.{arith}
@@ -106,11 +106,9 @@ pub record SeenAlong (a : Axis) (s : Shape) : Type 0 where
   pub inside : KeepsInside (s .rule) (seamOf a s) (joined (closing a s)) (rows a s)
 
 digits-inj : (q r q′ r′ m : ℕ) → r < m → r′ < m → q * m + r ≡ q′ * m + r′ → (q ≡ q′) × (r ≡ r′)
-digits-inj q r q′ r′ m h h′ e = (
-  sym (digits-div q h) ∙ ap (λ (z : ℕ). z / m) e ∙ digits-div q′ h′,
-  sym (digits-mod q h) ∙ ap (λ (z : ℕ). z % m) e ∙ digits-mod q′ h′,
-)
+digits-inj q r q′ r′ m h h′ e = (cc (digits-div q h, digits-div q′ h′), cc (digits-mod q h, digits-mod q′ h′))
 
+-- a point's number tells its column and its row
 pub number-inj : (a : Axis) (s : Shape) (x y x′ y′ : ℕ) → x ≤ columns a s → y ≤ rows a s → x′ ≤ columns a s → y′ ≤ rows a s →
     number s (at (xOf a x y) (yOf a x y)) ≡ number s (at (xOf a x′ y′) (yOf a x′ y′)) → (x ≡ x′) × (y ≡ y′)
 number-inj axisU s x y x′ y′ h k h′ k′ e = digits-inj x y x′ y′ (s .N + 1) (omega arith) (omega arith) e
@@ -126,17 +124,15 @@ pub some : (a : Axis) (s : Shape) → HasSteps s → (0 < columns a s) × (0 < r
 some axisU s h = (h .u-some, h .v-some)
 some axisV s h = (h .v-some, h .u-some)
 
-or-left : {a : Bool} (b : Bool) → a ≡ true → (a || b) ≡ true
-or-left b e = rw e
-
 pub enough-columns : (a : Axis) (s : Shape) → HasSteps s → joined (seamOf a s) ≡ true → 3 ≤ columns a s
-enough-columns axisU s h e = h .enough .0 (or-left _ e)
-enough-columns axisV s h e = h .enough .1 (or-left _ e)
+enough-columns axisU s h e = h .enough .0 (rw e)
+enough-columns axisV s h e = h .enough .1 (rw e)
 
 pub enough-rows : (a : Axis) (s : Shape) → HasSteps s → (joined (closing a s) || reversed (seamOf a s)) ≡ true → 3 ≤ rows a s
 enough-rows axisU s h e = h .enough .1 e
 enough-rows axisV s h e = h .enough .0 e
 
+-- the strip that a shape is, seen along an axis
 unfoldable pub strip : (s : Shape) → HasSteps s → (a : Axis) → SeenAlong a s → Strip
 strip s h a w =
     record {
@@ -160,6 +156,7 @@ strip s h a w =
 
 -- ---- the covered joinings
 
+-- beside a seam that is forward at offset 0, under 01's rule, a seam takes no point inside a column to its end
 inside-mapping : (m : Seam) (n : ℕ) → Beside once m n → (b : ℕ) → b < n → inverse m n b < n
 inside-mapping unjoined n h b k = absurd h
 inside-mapping (forward o) n h b k = ⊎-elim (λ w. omega arith) (λ w. omega arith) (inv-forward o n b h (omega arith))
@@ -177,7 +174,7 @@ beside-fits twice (reverse o) n h = offset-closed o n h
 
 offset-zero : (o : ℕ) (c : Bool) (n : ℕ) → o ≡ 0 → Offset o c n
 offset-zero zero c n e = tt
-offset-zero (suc o) c n e = let z : ⊥ = omega arith in absurd z
+offset-zero (suc o) c n e = absurd (omega arith)
 
 at-zero-fits : (m : Seam) (c : Bool) (n : ℕ) → AtZero m → Fits m c n
 at-zero-fits unjoined c n h = absurd h
@@ -198,7 +195,7 @@ module _ (a : Axis) (s : Shape) where
 
   -- beside a seam that is forward at offset 0
   closed-columns : closing a s ≡ forward 0 → Beside (s .rule) (seamOf a s) (rows a s) → SeenAlong a s
-  closed-columns e b = record { fits = subst (λ (m : Seam). Fits (seamOf a s) (joined m) (rows a s)) (sym e) (beside-fits (s .rule) (seamOf a s) (rows a s) b); plain = inr e; inside = keeps (s .rule) b }
+  closed-columns e b = record { fits = rw e (beside-fits (s .rule) (seamOf a s) (rows a s) b); plain = inr e; inside = keeps (s .rule) b }
     where
       keeps : (r : Rule) → Beside r (seamOf a s) (rows a s) → KeepsInside r (seamOf a s) (joined (closing a s)) (rows a s)
       keeps once h = λ d i k. inside-mapping (seamOf a s) (rows a s) h i k

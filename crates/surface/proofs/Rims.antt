@@ -20,9 +20,14 @@ pub record EdgeAt (S : Strip) (a b : ℕ) : Type 0 where
 pub edge-flip : {S : Strip} {a b : ℕ} → EdgeAt S a b → EdgeAt S b a
 edge-flip {S} e = record { x = e .x; y = e .y; side = side-flip S (e .side) }
 
--- P x y is the number of the point that grid point (x, y) is joined to
-module _ (S : Strip) (P : ℕ → ℕ → ℕ) (P-is : (x y : ℕ) → x ≤ S .X → y ≤ S .Y → P x y ≡ pointOf S x y) where
+-- P x y is the number of the point that grid point (x, y) is joined to, said without the strip
+pub record Numbered (S : Strip) : Type 0 where
+  pub P : ℕ → ℕ → ℕ
+  pub P-is : (x y : ℕ) → y ≤ S .Y → P x y ≡ pointOf S x y
+
+module _ {S : Strip} (numbered : Numbered S) where
   open Strip S using (X, Y, closed, seam, split)
+  open Numbered numbered using (P, P-is)
 
   abbrev pub RimOf : ℕ → ℕ → Type 0
   RimOf a b =
@@ -38,7 +43,7 @@ module _ (S : Strip) (P : ℕ → ℕ → ℕ) (P-is : (x y : ℕ) → x ≤ S .
   ends-are k t x y c = go k split
     where
       at : (i j : Bool) → P (shift i x) (shift j y) ≡ corners S x y i j
-      at i j = P-is (shift i x) (shift j y) (omega (arith, shift-le i x)) (omega (arith, shift-le j y))
+      at i j = P-is (shift i x) (shift j y) (omega (arith, shift-le j y))
 
       go : (k : Kind) (d : Split) → Same (ends k d t x y .0) (ends k d t x y .1) (endsOf (corners S x y) k d t .0) (endsOf (corners S x y) k d t .1)
       go straight d = inl (at t false, at t true)

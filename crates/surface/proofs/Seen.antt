@@ -9,7 +9,7 @@ use Rattle.surface.specs.Surface.{Seam, unjoined, joined, reversed, Spli
 use Rattle.surface.proofs.Strip.{Strip, Kind, straight, across, diagonal, pointOf}
 use Rattle.surface.proofs.CellSides.{Cell, corners, endsOf, sideFrom, sideTo}
 use Rattle.surface.proofs.Owners.{OnRim}
-use Rattle.surface.proofs.Rims.{EdgeAt, edge-flip, rim-to, rim-from, edge-across, edge-straight, edge-falling, edge-rising}
+use Rattle.surface.proofs.Rims.{Numbered, EdgeAt, edge-flip, rim-to, rim-from, edge-across, edge-straight, edge-falling, edge-rising}
 use Rattle.surface.proofs.Directions.{Runs, along-ends, ends-along}
 use Rattle.surface.proofs.Triangles.{halfNum, index}
 use Rattle.surface.proofs.Halves.{cellDir, start, finish, cellCorners, follows-run, run-follows, lowU-index, highU-index, lowV-index, highV-index}
@@ -114,33 +114,37 @@ module _ (s : Shape) (steps : HasSteps s) (a : Axis) (w : SeenAlong a s) where
   abbrev P : ℕ → ℕ → ℕ
   P x y = J s (xOf a x y) (yOf a x y)
 
-  P-is : (x y : ℕ) → x ≤ columns a s → y ≤ rows a s → P x y ≡ pointOf S x y
+  P-is : (x y : ℕ) → y ≤ S .Y → P x y ≡ pointOf S x y
+  unfolding strip
   P-is = J-is s steps a w
+
+  abbrev by-J : Numbered S
+  by-J = record { P = P; P-is = P-is }
 
 -- 01's rims are the strip's, and its edges are sides of the strip's cells
 pub rim-seen : (s : Shape) (steps : HasSteps s) (a : Axis) (w : SeenAlong a s) (p q : ℕ) → Rim s p q → OnRim (strip s steps a w) p q
 unfolding strip
-rim-seen s steps axisU w p q (inl r) = rim-to (S s steps axisU w) (P s steps axisU w) (P-is s steps axisU w) p q (inl r)
-rim-seen s steps axisU w p q (inr r) = rim-to (S s steps axisU w) (P s steps axisU w) (P-is s steps axisU w) p q (inr (ap joined (r .0), r .1))
-rim-seen s steps axisV w p q (inl r) = rim-to (S s steps axisV w) (P s steps axisV w) (P-is s steps axisV w) p q (inr (ap joined (r .0), r .1))
-rim-seen s steps axisV w p q (inr r) = rim-to (S s steps axisV w) (P s steps axisV w) (P-is s steps axisV w) p q (inl r)
+rim-seen s steps axisU w p q (inl r) = rim-to (by-J s steps axisU w) p q (inl r)
+rim-seen s steps axisU w p q (inr r) = rim-to (by-J s steps axisU w) p q (inr (ap joined (r .0), r .1))
+rim-seen s steps axisV w p q (inl r) = rim-to (by-J s steps axisV w) p q (inr (ap joined (r .0), r .1))
+rim-seen s steps axisV w p q (inr r) = rim-to (by-J s steps axisV w) p q (inl r)
 
 pub seen-rim : (s : Shape) (steps : HasSteps s) (a : Axis) (w : SeenAlong a s) (p q : ℕ) → OnRim (strip s steps a w) p q → Rim s p q
 unfolding strip
-seen-rim s steps axisU w p q r = ⊎-elim (λ z. inl z) (λ z. inr (plain-open (s .sv) (w .plain) (z .0), z .1)) (rim-from (S s steps axisU w) (P s steps axisU w) (P-is s steps axisU w) p q r)
-seen-rim s steps axisV w p q r = ⊎-elim (λ z. inr z) (λ z. inl (plain-open (s .su) (w .plain) (z .0), z .1)) (rim-from (S s steps axisV w) (P s steps axisV w) (P-is s steps axisV w) p q r)
+seen-rim s steps axisU w p q r = ⊎-elim (λ z. inl z) (λ z. inr (plain-open (s .sv) (w .plain) (z .0), z .1)) (rim-from (by-J s steps axisU w) p q r)
+seen-rim s steps axisV w p q r = ⊎-elim (λ z. inr z) (λ z. inl (plain-open (s .su) (w .plain) (z .0), z .1)) (rim-from (by-J s steps axisV w) p q r)
 
 pub edge-seen : (s : Shape) (steps : HasSteps s) (a : Axis) (w : SeenAlong a s) (i j i′ j′ : ℕ) → GridEdge s i j i′ j′ →
     EdgeAt (strip s steps a w) (J s i j) (J s i′ j′)
 unfolding strip
-edge-seen s steps axisU w i j i′ j′ (along-u {u} {v} h k) = edge-across (S s steps axisU w) (P s steps axisU w) (P-is s steps axisU w) u v h k
-edge-seen s steps axisU w i j i′ j′ (along-v {u} {v} h k) = edge-straight (S s steps axisU w) (P s steps axisU w) (P-is s steps axisU w) u v h k
-edge-seen s steps axisU w i j i′ j′ (falls {u} {v} h k e) = edge-falling (S s steps axisU w) (P s steps axisU w) (P-is s steps axisU w) u v h k e
-edge-seen s steps axisU w i j i′ j′ (rises {u} {v} h k e) = edge-rising (S s steps axisU w) (P s steps axisU w) (P-is s steps axisU w) u v h k e
-edge-seen s steps axisV w i j i′ j′ (along-u {u} {v} h k) = edge-straight (S s steps axisV w) (P s steps axisV w) (P-is s steps axisV w) v u k h
-edge-seen s steps axisV w i j i′ j′ (along-v {u} {v} h k) = edge-across (S s steps axisV w) (P s steps axisV w) (P-is s steps axisV w) v u k h
-edge-seen s steps axisV w i j i′ j′ (falls {u} {v} h k e) = edge-flip (edge-falling (S s steps axisV w) (P s steps axisV w) (P-is s steps axisV w) v u k h e)
-edge-seen s steps axisV w i j i′ j′ (rises {u} {v} h k e) = edge-rising (S s steps axisV w) (P s steps axisV w) (P-is s steps axisV w) v u k h e
+edge-seen s steps axisU w i j i′ j′ (along-u {u} {v} h k) = edge-across (by-J s steps axisU w) u v h k
+edge-seen s steps axisU w i j i′ j′ (along-v {u} {v} h k) = edge-straight (by-J s steps axisU w) u v h k
+edge-seen s steps axisU w i j i′ j′ (falls {u} {v} h k e) = edge-falling (by-J s steps axisU w) u v h k e
+edge-seen s steps axisU w i j i′ j′ (rises {u} {v} h k e) = edge-rising (by-J s steps axisU w) u v h k e
+edge-seen s steps axisV w i j i′ j′ (along-u {u} {v} h k) = edge-straight (by-J s steps axisV w) v u k h
+edge-seen s steps axisV w i j i′ j′ (along-v {u} {v} h k) = edge-across (by-J s steps axisV w) v u k h
+edge-seen s steps axisV w i j i′ j′ (falls {u} {v} h k e) = edge-flip (edge-falling (by-J s steps axisV w) v u k h e)
+edge-seen s steps axisV w i j i′ j′ (rises {u} {v} h k e) = edge-rising (by-J s steps axisV w) v u k h e
 
 -- only the strip's seam can be reversed
 pub flipped-seen : (s : Shape) (a : Axis) → Plain (closing a s) →
