@@ -169,7 +169,7 @@ module _ (s : Shape) (steps : HasSteps s) (a : Axis) (w : SeenAlong a s) where
   seam-alone k x y h =
       seam-rule s a x y
       ∙ pt-same a (sym (col-form x))
-          (sym (row-wrap x y ∙ wrap-fix c Y (cond (last a s x) (inv y) y) (λ e. cond-keeps (λ (z : ℕ). z < Y) (last a s x) (inv y) y (k e y h) h)))
+      (sym (row-wrap x y ∙ wrap-fix c Y (cond (last a s x) (inv y) y) (λ e. cond-keeps (λ (z : ℕ). z < Y) (last a s x) (inv y) y (k e y h) h)))
 
   -- before the last column the closing rule is enough
   closing-alone : (x y : ℕ) → x < X → closingRule a s (pt a x y) ≡ place x y
