@@ -75,10 +75,8 @@ sideDir axisV falling diagonal t = not t
 sideDir axisV rising diagonal t = t
 
 pub half-diagonal : (a : Axis) (d : Split) (t : Bool) → sideHalf a d diagonal t ≡ t
-half-diagonal axisU falling t = refl
-half-diagonal axisU rising t = refl
-half-diagonal axisV falling t = refl
-half-diagonal axisV rising t = refl
+half-diagonal axisU d t = refl
+half-diagonal axisV d t = refl
 
 pub dir-not : (a : Axis) (d : Split) (k : Kind) (t : Bool) → sideDir a d k (not t) ≡ not (sideDir a d k t)
 dir-not axisU d straight t = refl

@@ -97,7 +97,7 @@ module _ (s : Shape) (steps : HasSteps s) (a : Axis) (w : SeenAlong a s) where
         t = r .t;
         cell = cell-seen s steps a w i j hi hj;
         on = rw (turn-kind a (r .k)) (r .on);
-        along = ends-along (S .dir k (r .t)) (sideFrom S k (r .t) x y) (sideTo S k (r .t) x y) (r .from ∙ e .0) (r .to ∙ e .1);
+        along = ends-along (S .dir k (r .t)) (sideFrom S k (r .t) x y) (sideTo S k (r .t) x y) (sym (r .runs .0) ∙ e .0) (sym (r .runs .1) ∙ e .1);
       }
 
   pub from-runs : (h : Bool) (i j p q : ℕ) → i < s .M → j < s .N → Runs S h (xOf a i j) (yOf a i j) p q → Follows (halfOf s (s .split) (halfNum h) i j) p q
@@ -107,7 +107,7 @@ module _ (s : Shape) (steps : HasSteps s) (a : Axis) (w : SeenAlong a s) where
       let y = yOf a i j in
       let e = run-is (cellCorners s i j) (corners S x y) a (corner-is s steps a w i j hi hj) (s .split) (r .k) (r .t) in
       let g = along-ends (r .along) in
-      rw (← (r .on)) (run-follows s i j p q (s .split) (kindOf a (r .k)) (r .t) (g .0 ∙ sym (e .0)) (g .1 ∙ sym (e .1)))
+      rw (← (r .on)) (run-follows s i j p q (s .split) (kindOf a (r .k)) (r .t) (e .0 ∙ sym (g .0), e .1 ∙ sym (g .1)))
 
   -- J gives the strip's points their numbers
   abbrev P : ℕ → ℕ → ℕ
