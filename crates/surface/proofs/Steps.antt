@@ -185,7 +185,7 @@ wrap-is : (c : Bool) (n i e : ℕ) → i ≡ e → e < n → wrap c n i ≡ e
 wrap-is c n i e p h = ap (wrap c n) p ∙ wrap-below c n e h
 
 -- i and e are one index, or the two ends of a closed row, which are one point
-abbrev Meet : Bool → ℕ → ℕ → ℕ → Type 0
+abbrev pub Meet : Bool → ℕ → ℕ → ℕ → Type 0
 Meet c n i e = (i ≡ e) ⊎ ((c ≡ true) × (i ≡ 0) × (e ≡ n))
 
 wrap-eq : (c : Bool) (n i e : ℕ) → 0 < n → Meet c n i e → wrap c n i ≡ wrap c n e
