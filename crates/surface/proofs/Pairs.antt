@@ -234,34 +234,45 @@ flipped-at-most s =
         cond-keeps (λ (l : List Pair). length l ≤ s .N) (reversed (s .su)) _ []
         (omega (arith, process-at-most s (s .su) (s .N) (lowU s) (highU s) (s .N) [])) (omega arith)
 
--- What process_flipped puts down: one pair for each step of the high rim, where each step lies on `on` of it and all is proper.
-module _ (s : Shape) (m : Seam) (Y : ℕ) (lows highs on : ℕ → ℕ)
-    (on-is : (y : ℕ) → y < Y → stepOn m Y y ≡ on y)
-    (on-lt : (y : ℕ) → y < Y → on y < Y)
-    (low-proper : (y : ℕ) → y < Y → (proper (slot s (lows y)) ≡ true) × (triangleNumber s (lows y) ≡ lows y))
-    (high-proper : (y : ℕ) → y < Y → (proper (slot s (highs y)) ≡ true) × (triangleNumber s (highs y) ≡ highs y))
-  where
-    process-step : (n : ℕ) → n < Y → process s m Y lows highs (suc n) [] ≡ insert (ordered (lows (on n)) (highs n)) (process s m Y lows highs n [])
-    unfolding process
-    process-step n h =
-        rw (on-is n h, lt-ltb (on n) Y (on-lt n h), low-proper (on n) (on-lt n h) .0, high-proper n h .0, low-proper (on n) (on-lt n h) .1, high-proper n h .1)
+-- Each of the Y steps of the high rim lies on step `on` of the low one, and no slot of either rim is left out.
+pub record AllLaid (s : Shape) (m : Seam) (Y : ℕ) (lows highs on : ℕ → ℕ) : Type 0 where
+  pub on-is : (y : ℕ) → y < Y → stepOn m Y y ≡ on y
+  pub on-lt : (y : ℕ) → y < Y → on y < Y
+  pub low-proper : (y : ℕ) → y < Y → (proper (slot s (lows y)) ≡ true) × (triangleNumber s (lows y) ≡ lows y)
+  pub high-proper : (y : ℕ) → y < Y → (proper (slot s (highs y)) ≡ true) × (triangleNumber s (highs y) ≡ highs y)
 
-    pub process-to : (n : ℕ) → n ≤ Y → (p : Pair) → List·Memᴰ p (process s m Y lows highs n []) → (y : ℕ) × (y < n) × (p ≡ ordered (lows (on y)) (highs y))
-    unfolding process
-    process-to zero h p q = absurd (List·Memᴰ·not-nil q)
-    process-to (suc n) h p q =
-        ⊎-elim
-        (λ e. (n, omega arith, e))
-        (λ r. let t = process-to n (omega arith) p r in (t .0, omega (arith, t .1), t .2))
-        (insert-cases (ordered (lows (on n)) (highs n)) (process s m Y lows highs n []) p (mem-in (process-step n h) q))
+-- Then what process_flipped puts down is one pair for each step of the high rim.
+module _ {s : Shape} {m : Seam} {Y : ℕ} {lows highs on : ℕ → ℕ} (laid : AllLaid s m Y lows highs on) where
+  open AllLaid laid using (on-is, on-lt, low-proper, high-proper)
 
-    pub process-from : (n : ℕ) → n ≤ Y → (y : ℕ) → y < n → List·Memᴰ (ordered (lows (on y)) (highs y)) (process s m Y lows highs n [])
-    unfolding process
-    process-from zero h y k = absurd (omega arith)
-    process-from (suc n) h y k =
-        let b : y ≤ n = omega arith in
-        mem-in (sym (process-step n h))
-        (⊎-elim
-        (λ (e : y ≡ n). rw e (insert-here (ordered (lows (on n)) (highs n)) (process s m Y lows highs n [])))
-        (λ (l : y < n). insert-there (ordered (lows (on n)) (highs n)) (process s m Y lows highs n []) (ordered (lows (on y)) (highs y)) (process-from n (omega arith) y l))
-        (eq-or-lt-of-le b))
+  -- the pair of step y, and the pairs of the first n steps
+  abbrev pairAt : ℕ → Pair
+  pairAt y = ordered (lows (on y)) (highs y)
+
+  abbrev put : ℕ → List Pair
+  put n = process s m Y lows highs n []
+
+  process-step : (n : ℕ) → n < Y → put (suc n) ≡ insert (pairAt n) (put n)
+  unfolding process
+  process-step n h =
+      rw (on-is n h, lt-ltb (on n) Y (on-lt n h), low-proper (on n) (on-lt n h) .0, high-proper n h .0, low-proper (on n) (on-lt n h) .1, high-proper n h .1)
+
+  pub process-to : (n : ℕ) → n ≤ Y → (p : Pair) → List·Memᴰ p (put n) → (y : ℕ) × (y < n) × (p ≡ pairAt y)
+  unfolding process
+  process-to zero h p q = absurd (List·Memᴰ·not-nil q)
+  process-to (suc n) h p q =
+      ⊎-elim
+      (λ e. (n, omega arith, e))
+      (λ r. let t = process-to n (omega arith) p r in (t .0, omega (arith, t .1), t .2))
+      (insert-cases (pairAt n) (put n) p (mem-in (process-step n h) q))
+
+  pub process-from : (n : ℕ) → n ≤ Y → (y : ℕ) → y < n → List·Memᴰ (pairAt y) (put n)
+  unfolding process
+  process-from zero h y k = absurd (omega arith)
+  process-from (suc n) h y k =
+      let b : y ≤ n = omega arith in
+      mem-in (sym (process-step n h))
+      (⊎-elim
+      (λ (e : y ≡ n). rw e (insert-here (pairAt n) (put n)))
+      (λ (l : y < n). insert-there (pairAt n) (put n) (pairAt y) (process-from n (omega arith) y l))
+      (eq-or-lt-of-le b))
