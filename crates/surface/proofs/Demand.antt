@@ -302,7 +302,11 @@ module _ (s : Shape) (steps : HasSteps s) (ax : Axis) (seen : SeenAlong ax s) wh
       omega (arith, far-is, reversed≥3 Z r .0)
 
   ordered-way : (p : Pair) (i j : ℕ) → p ≡ ordered i j → (i ≡ j → ⊥) → SameWay (triangles s) i j → (p .low < p .high) × SameWay (triangles s) (p .low) (p .high)
-  ordered-way p i j e d w = rw e (omega (arith, d), ⊎-elim (λ (h : i < j). at (omega arith) (omega arith) w) (λ (h : j ≤ i). at (omega arith) (omega arith) (way-swap i j w)) (lt-or-le i j))
+  ordered-way p i j e d w =
+      rw e (
+        omega (arith, d),
+        ⊎-elim (λ (h : i < j). at (omega arith) (omega arith) w) (λ (h : j ≤ i). at (omega arith) (omega arith) (way-swap i j w)) (lt-or-le i j),
+      )
     where
       at : {a b c d : ℕ} → a ≡ c → b ≡ d → SameWay (triangles s) c d → SameWay (triangles s) a b
       at p q w = rw (p, q) w

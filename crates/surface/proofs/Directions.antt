@@ -152,7 +152,8 @@ module _ (S : Strip) where
       off = refl
 
   -- two triangles that run along a side the same way are at a turn
-  pub same-way : {h h′ : Bool} {x y x′ y′ a b : ℕ} → Runs h x y a b → Runs h′ x′ y′ a b → (SameTri S h x y h′ x′ y′ → ⊥) → Turn h x y h′ x′ y′ ⊎ Turn h′ x′ y′ h x y
+  pub same-way : {h h′ : Bool} {x y x′ y′ a b : ℕ} → Runs h x y a b → Runs h′ x′ y′ a b → (SameTri S h x y h′ x′ y′ → ⊥) →
+      Turn h x y h′ x′ y′ ⊎ Turn h′ x′ y′ h x y
   same-way {h} {h′} {x} {y} {x′} {y′} p q n =
       ⊎-elim
       (λ w. absurd (n (cc (w .0, w .1, q .on, p .on), w .2, w .3)))

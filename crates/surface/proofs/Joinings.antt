@@ -66,7 +66,8 @@ covered m n (Joined (Forward o k)) (Joined j) p q (inr c) = both-u (p .1) (at-ze
 covered m n (Joined (Reverse o k)) (Joined j) p q (inr c) = both-u (omega (arith, c .0), p .1) (at-zero j (c .1))
 
 -- demand 3 of the surface that two seam answers make, found or given
-pub joining-meets : (m n : ℕ) (su sv : Seam) → 1 ≤ m → 1 ≤ n → EnoughSteps (surfaceWith m n su sv) → OfRow n su → OfRow m sv → CoveredJoining su sv → Meets (surfaceWith m n su sv)
+pub joining-meets : (m n : ℕ) (su sv : Seam) → 1 ≤ m → 1 ≤ n → EnoughSteps (surfaceWith m n su sv) → OfRow n su → OfRow m sv → CoveredJoining su sv →
+    Meets (surfaceWith m n su sv)
 joining-meets m n su sv hm hn e p q c = covered-meets (surfaceWith m n su sv) (record { u-some = hm; v-some = hn; enough = e }) (covered m n su sv p q c)
 
 pub surface-meets : (g : List Float) (m n : ℕ) → SurfaceMeets g m n
