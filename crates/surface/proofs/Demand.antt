@@ -330,7 +330,7 @@ pub covered-meets : (s : Shape) → HasSteps s → Covered s → Meets s
 covered-meets s steps c = let w = covered-along s c in meets s steps (w .0) (w .1)
 
 -- J of a point by its number
-pub J-number : (s : Shape) (u v : ℕ) → v ≤ s .N → Jₙ s (u * (s .N + 1) + v) ≡ J s u v
+J-number : (s : Shape) (u v : ℕ) → v ≤ s .N → Jₙ s (u * (s .N + 1) + v) ≡ J s u v
 unfolding Jₙ
 J-number s u v h = let k : v < s .N + 1 = omega arith in rw (digits-div u k, digits-mod u k)
 

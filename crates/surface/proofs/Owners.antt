@@ -23,7 +23,7 @@ same-trans (inl p) (inr q) = inr (p .0 ∙ q .0, p .1 ∙ q .1)
 same-trans (inr p) (inl q) = inr (p .0 ∙ q .1, p .1 ∙ q .0)
 same-trans (inr p) (inr q) = inl (p .0 ∙ q .1, p .1 ∙ q .0)
 
-pub same-or-not : (t s : Bool) → (s ≡ t) ⊎ (s ≡ not t)
+same-or-not : (t s : Bool) → (s ≡ t) ⊎ (s ≡ not t)
 same-or-not true true = inl refl
 same-or-not true false = inr refl
 same-or-not false true = inr refl
@@ -33,7 +33,7 @@ pub not-self : (t : Bool) → not t ≡ t → ⊥
 not-self true e = false≢true e
 not-self false e = true≢false e
 
-pub kind-cases : (k : Kind) → (k ≡ diagonal) ⊎ (k ≡ diagonal → ⊥)
+kind-cases : (k : Kind) → (k ≡ diagonal) ⊎ (k ≡ diagonal → ⊥)
 kind-cases straight = inr (λ e. let z : _≡_ {A = ℕ} 0 1 = cc in omega arith)
 kind-cases across = inr (λ e. let z : _≡_ {A = ℕ} 0 1 = cc in omega arith)
 kind-cases diagonal = inl refl

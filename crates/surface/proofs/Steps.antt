@@ -48,7 +48,7 @@ pub wrap-closed : (n i : ℕ) → ((wrap true n i ≡ 0) × (i ≡ n)) ⊎ ((wra
 unfolding wrap
 wrap-closed n i = ⊎-elim (λ h. inl (rw (h .0), h .1)) (λ h. inr (rw (h .0), h .1)) (eqb-cases i n)
 
-pub wrap-two : (c : Bool) (n i : ℕ) → ((wrap c n i ≡ 0) × (i ≡ n)) ⊎ (wrap c n i ≡ i)
+wrap-two : (c : Bool) (n i : ℕ) → ((wrap c n i ≡ 0) × (i ≡ n)) ⊎ (wrap c n i ≡ i)
 wrap-two false n i = inr (wrap-open n i)
 wrap-two true n i = ⊎-elim (λ h. inl h) (λ h. inr (h .0)) (wrap-closed n i)
 
@@ -87,7 +87,7 @@ pub inv-forward-0 : (n b : ℕ) → inverse (forward 0) n b ≡ b
 unfolding mapping.inverse
 inv-forward-0 n b = refl
 
-pub inv-reverse-0 : (n b : ℕ) → inverse (reverse 0) n b ≡ n - b
+inv-reverse-0 : (n b : ℕ) → inverse (reverse 0) n b ≡ n - b
 unfolding mapping.inverse
 inv-reverse-0 n b = refl
 
@@ -243,7 +243,7 @@ adj-reverse o c n y f h =
     (wrap-is c n _ _ (r .0) (on-below (reverse o) c n y f h), wrap-eq c n _ _ (omega arith) (r .1))
 
 -- on a closed row the two ends are carried to one point
-pub carried-ends : (m : Seam) (n : ℕ) → 0 < n → Fits m true n → carried m true n 0 ≡ carried m true n n
+carried-ends : (m : Seam) (n : ℕ) → 0 < n → Fits m true n → carried m true n 0 ≡ carried m true n n
 unfolding carried
 carried-ends unjoined n h f = wrap-eq true n 0 n h (inr (refl, refl, refl))
 carried-ends (forward o) n h f =

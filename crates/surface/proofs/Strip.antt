@@ -77,7 +77,7 @@ module _ (S : Strip) where
 
   -- ---- columns
 
-  pub crossing-below : (x : ℕ) → x < X → crossing S x ≡ false
+  crossing-below : (x : ℕ) → x < X → crossing S x ≡ false
   crossing-below x h = rw (ne-eqb x X (λ e. omega arith)) (and-false (joined seam))
 
   pub row-below : (x y : ℕ) → x < X → rowOf S x y ≡ wrap closed Y y
@@ -98,7 +98,7 @@ module _ (S : Strip) where
 
   -- ---- rows
 
-  pub row-le : (x y : ℕ) → y ≤ Y → rowOf S x y ≤ Y
+  row-le : (x y : ℕ) → y ≤ Y → rowOf S x y ≤ Y
   unfolding rowOf
   row-le x y h = cond-keeps (λ (z : ℕ). z ≤ Y) (crossing S x) _ _ (carried-le seam closed Y y (omega arith) fits h) (wrap-le closed Y y h)
 
@@ -125,7 +125,7 @@ module _ (S : Strip) where
   unfolding next
   next-ne y h = step-ne closed Y y closed≥3 h
 
-  pub next-two : (y z : ℕ) → y < Y → z < Y → next S y ≡ z → next S z ≡ y → ⊥
+  next-two : (y z : ℕ) → y < Y → z < Y → next S y ≡ z → next S z ≡ y → ⊥
   unfolding next
   next-two y z h k = step-two closed Y y z closed≥3 h k
 
@@ -137,7 +137,7 @@ module _ (S : Strip) where
   unfolding colOf
   col-ne x h = step-ne (joined seam) X x (S .X≥3) h
 
-  pub col-two : (x z : ℕ) → x < X → z < X → colOf S (x + 1) ≡ z → colOf S (z + 1) ≡ x → ⊥
+  col-two : (x z : ℕ) → x < X → z < X → colOf S (x + 1) ≡ z → colOf S (z + 1) ≡ x → ⊥
   unfolding colOf
   col-two x z h k = step-two (joined seam) X x z (S .X≥3) h k
 
@@ -170,7 +170,7 @@ module _ (S : Strip) where
       go (reverse o) true f = let a = adj-reverse o closed Y y f h in inr (refl, a .0, a .1)
       go (reverse o) false f = inl (refl, wrap-below closed Y y h, refl)
 
-  pub row-ne : (x y : ℕ) → y < Y → rowOf S x y ≡ rowOf S x (y + 1) → ⊥
+  row-ne : (x y : ℕ) → y < Y → rowOf S x y ≡ rowOf S x (y + 1) → ⊥
   row-ne x y h e =
       ⊎-elim
       (λ w. next-ne (stepAt S x y) (stepAt-lt x y h) (sym (w .2) ∙ sym e ∙ w .1))
