@@ -17,7 +17,7 @@ column-is g n u start e = fun-ext (λ v. ap (pointAt g) (omega arith))
 row-is : (g : List Float) (n v : ℕ) → row g n v ≡ rowOf g v (n + 1)
 row-is g n v = fun-ext (λ u. ap (pointAt g) (omega arith))
 
--- rows of equal length, at least 2
+-- the same rows, and as many steps as points but one
 searched-rows : (a b a′ b′ : Row) (steps : ℕ) → a ≡ a′ → b ≡ b′ → searchRows allClose a b (steps + 1 - 1) ≡ searchRows allClose a′ b′ steps
 searched-rows a b a′ b′ steps p q = let e : steps + 1 - 1 ≡ steps = omega arith in cc
 

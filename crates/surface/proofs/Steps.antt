@@ -149,6 +149,7 @@ only-closed zero c n f h = absurd (omega arith)
 only-closed (suc o) true n f h = refl
 only-closed (suc o) false n f h = absurd f
 
+-- a step lies on a step of row a, and one of row b lies on each
 pub on-below : (m : Seam) (c : Bool) (n y : ℕ) → Fits m c n → y < n → laidOn m n y < n
 unfolding laidOn
 on-below unjoined c n y f h = h

@@ -75,7 +75,7 @@ next S y = wrap (S .closed) (S .Y) (y + 1)
 module _ (S : Strip) where
   open Strip S using (X, Y, closed, seam, fits)
 
-  -- ---- columns
+  -- ---- before the last column: a point keeps its column, a step is its own
 
   crossing-below : (x : ℕ) → x < X → crossing S x ≡ false
   crossing-below x h = rw (ne-eqb x X (λ e. omega arith)) (and-false (joined seam))
@@ -92,11 +92,11 @@ module _ (S : Strip) where
   unfolding stepAt
   step-below x y h = rw (crossing-below x h)
 
+  -- ---- what a point or a step is joined to is in the strip
+
   pub stepAt-lt : (x y : ℕ) → y < Y → stepAt S x y < Y
   unfolding stepAt
   stepAt-lt x y h = cond-keeps (λ (z : ℕ). z < Y) (crossing S x) _ _ (on-below seam closed Y y fits h) h
-
-  -- ---- rows
 
   row-le : (x y : ℕ) → y ≤ Y → rowOf S x y ≤ Y
   unfolding rowOf
@@ -110,9 +110,12 @@ module _ (S : Strip) where
   unfolding next
   next-le y h = wrap-le closed Y (y + 1) (omega arith)
 
+  -- the ends of a closed column are one point, and so are those that they are joined to
   pub row-next : (x y : ℕ) → rowOf S x (next S y) ≡ rowOf S x (y + 1)
   unfolding rowOf next
   row-next x y = rw (carried-wrap seam closed Y (y + 1) (omega arith) fits, wrap-wrap closed Y (y + 1) (omega arith))
+
+  -- ---- no step ends where it starts, and no two go there and back
 
   closed≥3 : closed ≡ true → 3 ≤ Y
   closed≥3 e = S .Y≥3 (rw e)
@@ -145,6 +148,8 @@ module _ (S : Strip) where
   unfolding colOf
   col-inj x z h k = step-inj (joined seam) X x z h k
 
+  -- ---- the two ends of a step
+
   -- the two ends of step y of column x, joined: as step `stepAt` of its column, one way round or the other
   abbrev pub Adjacent : ℕ → ℕ → Type 0
   Adjacent x y =
@@ -170,6 +175,7 @@ module _ (S : Strip) where
       go (reverse o) true f = let a = adj-reverse o closed Y y f h in inr (refl, a .0, a .1)
       go (reverse o) false f = inl (refl, wrap-below closed Y y h, refl)
 
+  -- so they are apart
   row-ne : (x y : ℕ) → y < Y → rowOf S x y ≡ rowOf S x (y + 1) → ⊥
   row-ne x y h e =
       ⊎-elim
