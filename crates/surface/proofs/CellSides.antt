@@ -53,7 +53,14 @@ nameY S across false x y = y
 nameY S across true x y = next S y
 nameY S diagonal t x y = y
 
--- whether its ends lie the other way round under its name
+-- the two ends of that name
+abbrev pub firstOf : Strip → Kind → Bool → ℕ → ℕ → ℕ
+firstOf S k t x y = nameFrom S k (nameX S k t x) (nameY S k t x y)
+
+abbrev pub lastOf : Strip → Kind → Bool → ℕ → ℕ → ℕ
+lastOf S k t x y = nameTo S k (nameX S k t x) (nameY S k t x y)
+
+-- whether the side's ends lie the other way round
 abbrev pub turnedAt : Strip → Kind → Bool → ℕ → Bool
 turnedAt S straight false x = false
 turnedAt S straight true x = turned S (x + 1)
@@ -99,11 +106,11 @@ module _ (S : Strip) where
   unfolding next
   up x y h = cc (at-row x (y + 1) (row-below S x (y + 1) h), col-below S x h)
 
-  -- the ends of a cell's side are those of its name
+  -- the ends of a cell's side are those of its name, in their order or the other way round
   abbrev pub Named : Kind → Bool → ℕ → ℕ → Type 0
   Named k t x y =
-      ((turnedAt S k t x ≡ false) × (sideFrom S k t x y ≡ nameFrom S k (nameX S k t x) (nameY S k t x y)) × (sideTo S k t x y ≡ nameTo S k (nameX S k t x) (nameY S k t x y)))
-      ⊎ ((turnedAt S k t x ≡ true) × (sideFrom S k t x y ≡ nameTo S k (nameX S k t x) (nameY S k t x y)) × (sideTo S k t x y ≡ nameFrom S k (nameX S k t x) (nameY S k t x y)))
+      ((turnedAt S k t x ≡ false) × (sideFrom S k t x y ≡ firstOf S k t x y) × (sideTo S k t x y ≡ lastOf S k t x y))
+      ⊎ ((turnedAt S k t x ≡ true) × (sideFrom S k t x y ≡ lastOf S k t x y) × (sideTo S k t x y ≡ firstOf S k t x y))
 
   pub named : (k : Kind) (t : Bool) (x y : ℕ) → Cell S x y → Named k t x y
   unfolding sideFrom sideTo nameFrom nameTo

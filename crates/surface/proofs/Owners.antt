@@ -6,8 +6,8 @@ use mathlib.Core.Logic.{_⊎_, inl, inr, ⊎-elim}
 use mathlib.Core.Bool.{Bool, true, false, not, true≢false, false≢true}
 use native.Mathlib.Omega.{arith}
 use Rattle.surface.specs.Surface.{Same}
-use Rattle.surface.proofs.Strip.{Strip, Kind, straight, across, diagonal, nameFrom, nameTo, one-name, Agree}
-use Rattle.surface.proofs.CellSides.{Cell, sideFrom, sideTo, nameX, nameY, RimAt, valid, named, one-place, Partner, partner, rim-alone, partner-apart}
+use Rattle.surface.proofs.Strip.{Strip, Kind, straight, across, diagonal, one-name, Agree}
+use Rattle.surface.proofs.CellSides.{Cell, sideFrom, sideTo, nameX, nameY, firstOf, lastOf, RimAt, valid, named, one-place, Partner, partner, rim-alone, partner-apart}
 
 pub same-sym : {a b c d : ℕ} → Same a b c d → Same c d a b
 same-sym (inl e) = inl (sym (e .0), sym (e .1))
@@ -75,13 +75,12 @@ module _ (S : Strip) where
   nameYOf {x} {y} p = nameY S (p .k) (p .t) x y
 
   abbrev pub firstEnd : {x y a b : ℕ} → SideAt x y a b → ℕ
-  firstEnd p = nameFrom S (p .k) (nameXOf p) (nameYOf p)
+  firstEnd {x} {y} p = firstOf S (p .k) (p .t) x y
 
   abbrev pub lastEnd : {x y a b : ℕ} → SideAt x y a b → ℕ
-  lastEnd p = nameTo S (p .k) (nameXOf p) (nameYOf p)
+  lastEnd {x} {y} p = lastOf S (p .k) (p .t) x y
 
-  named-same : (k : Kind) (t : Bool) (x y : ℕ) → Cell S x y →
-      Same (sideFrom S k t x y) (sideTo S k t x y) (nameFrom S k (nameX S k t x) (nameY S k t x y)) (nameTo S k (nameX S k t x) (nameY S k t x y))
+  named-same : (k : Kind) (t : Bool) (x y : ℕ) → Cell S x y → Same (sideFrom S k t x y) (sideTo S k t x y) (firstOf S k t x y) (lastOf S k t x y)
   named-same k t x y c = ⊎-elim (λ w. inl (w .1, w .2)) (λ w. inr (w .1, w .2)) (named S k t x y c)
 
   pub name-ends : {x y a b : ℕ} (p : SideAt x y a b) → Same a b (firstEnd p) (lastEnd p)

@@ -193,8 +193,7 @@ joined-place s steps axisV w twice k x y h =
 -- a corner is where both rules lead; before row N−1, where the u rule leads
 corner-once : (s : Shape) (row : ℕ) (p q : Point) → vRule s (uRule s p) ≡ q → ((row + 1 ≡ s .N → ⊥) → uRule s p ≡ q) → cornerBy once s row p ≡ q
 unfolding cornerBy
-corner-once s row p q e f =
-    ⊎-elim (λ t. rw (t .0) e) (λ t. rw (t .0) (f (t .1))) (eqb-cases (row + 1) (s .N))
+corner-once s row p q e f = ⊎-elim (λ t. rw (t .0) e) (λ t. rw (t .0) (f (t .1))) (eqb-cases (row + 1) (s .N))
 
 -- in request 8 every corner is J's point
 twice-corner : (s : Shape) (row : ℕ) (p : Point) → cornerBy twice s row p ≡ joinedBy twice s p
