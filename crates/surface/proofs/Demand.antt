@@ -25,14 +25,15 @@ use Rattle.surface.proofs.Pairs.{step-on, pair-eq, mem-in, AllLaid, pro
 pub proper-of : (t : Triangle) → (t .a ≡ t .b → ⊥) → (t .a ≡ t .c → ⊥) → (t .b ≡ t .c → ⊥) → proper t ≡ true
 proper-of t p q r = rw (ne-eqb (t .a) (t .b) p, ne-eqb (t .a) (t .c) q, ne-eqb (t .b) (t .c) r)
 
+-- `process_flipped` finds the step that a reversed seam lays a step on
 reversed-step : (m : Seam) (c : Bool) (n y : ℕ) → 3 ≤ n → Fits m c n → reversed m ≡ true → y < n → stepOn m n y ≡ laidOn m n y
 reversed-step (reverse o) c n y h f e k = step-on o c n y h f k
 reversed-step unjoined c n y h f e k = cc
 reversed-step (forward o) c n y h f e k = cc
 
 module _ (s : Shape) (steps : HasSteps s) (ax : Axis) (seen : SeenAlong ax s) where
-  abbrev Z : Strip
-  Z = strip s steps ax seen
+  abbrev S : Strip
+  S = strip s steps ax seen
 
   -- slot i is half `halfAt i` of cell (`xAt i`, `yAt i`) of the strip
   abbrev xAt : ℕ → ℕ
@@ -43,10 +44,10 @@ module _ (s : Shape) (steps : HasSteps s) (ax : Axis) (seen : SeenAlong ax s) wh
 
   -- going around that half, b follows a; it has the side of a and b
   abbrev RunAt : ℕ → ℕ → ℕ → Type 0
-  RunAt i a b = Runs Z (halfAt i) (xAt i) (yAt i) a b
+  RunAt i a b = Runs S (halfAt i) (xAt i) (yAt i) a b
 
   abbrev HoldAt : ℕ → ℕ → ℕ → Type 0
-  HoldAt i a b = Holds Z (halfAt i) (xAt i) (yAt i) a b
+  HoldAt i a b = Holds S (halfAt i) (xAt i) (yAt i) a b
 
   -- ---- every slot emits its triangle, so triangle i is slot i
 
@@ -70,7 +71,7 @@ module _ (s : Shape) (steps : HasSteps s) (ax : Axis) (seen : SeenAlong ax s) wh
       (differ (inr (inl (refl, refl))))
     where
       differ : {a b : ℕ} → Follows (slot s i) a b → a ≡ b → ⊥
-      differ f = runs-differ Z (slot-runs i h f)
+      differ f = runs-differ S (slot-runs i h f)
 
   count : length (triangles s) ≡ slots s
   unfolding triangles
@@ -90,14 +91,14 @@ module _ (s : Shape) (steps : HasSteps s) (ax : Axis) (seen : SeenAlong ax s) wh
   nth-runs i h f = let b : i < slots s = omega (arith, count) in slot-runs i b (rw (nth-is i b) at f)
 
   owns-holds : (a b i : ℕ) → Owns (triangles s) a b i → HoldAt i a b
-  owns-holds a b i o = ⊎-elim (λ f. runs-holds Z (nth-runs i (o .there) f)) (λ f. holds-flip Z (runs-holds Z (nth-runs i (o .there) f))) (o .has)
+  owns-holds a b i o = ⊎-elim (λ f. runs-holds S (nth-runs i (o .there) f)) (λ f. holds-flip S (runs-holds S (nth-runs i (o .there) f))) (o .has)
 
   -- ---- and back, by the number of the triangle of half h of cell (x, y)
 
   indexOf : Bool → ℕ → ℕ → ℕ
   indexOf h x y = index s h (xOf ax x y) (yOf ax x y)
 
-  indexOf-lt : (h : Bool) (x y : ℕ) → Cell Z x y → indexOf h x y < slots s
+  indexOf-lt : (h : Bool) (x y : ℕ) → Cell S x y → indexOf h x y < slots s
   unfolding indexOf
   indexOf-lt h x y c = let b = seen-cell s steps ax seen x y c in index-lt s h (xOf ax x y) (yOf ax x y) (b .0) (b .1)
 
@@ -105,13 +106,13 @@ module _ (s : Shape) (steps : HasSteps s) (ax : Axis) (seen : SeenAlong ax s) wh
   unfolding indexOf
   half-indexOf h x y = halfAt-index s h (xOf ax x y) (yOf ax x y)
 
-  x-indexOf : (h : Bool) (x y : ℕ) → Cell Z x y → xAt (indexOf h x y) ≡ x
+  x-indexOf : (h : Bool) (x y : ℕ) → Cell S x y → xAt (indexOf h x y) ≡ x
   unfolding indexOf
   x-indexOf h x y c =
       let b = seen-cell s steps ax seen x y c .1 in
       cc (uAt-index s h (xOf ax x y) (yOf ax x y) b, vAt-index s h (xOf ax x y) (yOf ax x y) b, turn-x ax x y)
 
-  y-indexOf : (h : Bool) (x y : ℕ) → Cell Z x y → yAt (indexOf h x y) ≡ y
+  y-indexOf : (h : Bool) (x y : ℕ) → Cell S x y → yAt (indexOf h x y) ≡ y
   unfolding indexOf
   y-indexOf h x y c =
       let b = seen-cell s steps ax seen x y c .1 in
@@ -121,40 +122,40 @@ module _ (s : Shape) (steps : HasSteps s) (ax : Axis) (seen : SeenAlong ax s) wh
   unfolding indexOf
   indexOf-at i = cc (turn-x ax (uAt s i) (vAt s i), turn-y ax (uAt s i) (vAt s i), index-at s i)
 
-  is-indexOf : (k : ℕ) (h : Bool) (x y : ℕ) → SameTri Z h x y (halfAt k) (xAt k) (yAt k) → k ≡ indexOf h x y
+  is-indexOf : (k : ℕ) (h : Bool) (x y : ℕ) → SameTri S h x y (halfAt k) (xAt k) (yAt k) → k ≡ indexOf h x y
   is-indexOf k h x y e = cc (indexOf-at k, e .0, e .1, e .2)
 
-  same-index : (i k : ℕ) → SameTri Z (halfAt i) (xAt i) (yAt i) (halfAt k) (xAt k) (yAt k) → k ≡ i
+  same-index : (i k : ℕ) → SameTri S (halfAt i) (xAt i) (yAt i) (halfAt k) (xAt k) (yAt k) → k ≡ i
   same-index i k e = is-indexOf k (halfAt i) (xAt i) (yAt i) e ∙ indexOf-at i
 
-  runs-index : {h : Bool} {x y a b : ℕ} → Runs Z h x y a b → Follows (nth (triangles s) (indexOf h x y)) a b
+  runs-index : {h : Bool} {x y a b : ℕ} → Runs S h x y a b → Follows (nth (triangles s) (indexOf h x y)) a b
   runs-index {h} {x} {y} r =
       let i = indexOf h x y in
       let l = indexOf-lt h x y (r .cell) in
       rw (nth-is i l) (runs-slot i l (rw (half-indexOf h x y, x-indexOf h x y (r .cell), y-indexOf h x y (r .cell)) r))
 
-  holds-index : {h : Bool} {x y a b : ℕ} → Holds Z h x y a b → Owns (triangles s) a b (indexOf h x y)
+  holds-index : {h : Bool} {x y a b : ℕ} → Holds S h x y a b → Owns (triangles s) a b (indexOf h x y)
   holds-index {h} {x} {y} p =
       record {
         there = omega (arith, count, indexOf-lt h x y (p .side .cell));
-        has = ⊎-elim (λ r. inl (runs-index r)) (λ r. inr (runs-index r)) (holds-runs Z p);
+        has = ⊎-elim (λ r. inl (runs-index r)) (λ r. inr (runs-index r)) (holds-runs S p);
       }
 
   -- ---- sides
 
   -- on a rim: whoever has the side is triangle i
-  owned-once : (a b i : ℕ) → Owns (triangles s) a b i → ((h′ : Bool) (x′ y′ : ℕ) → Holds Z h′ x′ y′ a b → SameTri Z (halfAt i) (xAt i) (yAt i) h′ x′ y′) →
+  owned-once : (a b i : ℕ) → Owns (triangles s) a b i → ((h′ : Bool) (x′ y′ : ℕ) → Holds S h′ x′ y′ a b → SameTri S (halfAt i) (xAt i) (yAt i) h′ x′ y′) →
       OwnedOnce (triangles s) a b
   owned-once a b i o f = record { first = i; owns = o; only = λ k q. same-index i k (f (halfAt k) (xAt k) (yAt k) (owns-holds a b k q)) }
 
   -- elsewhere: whoever has it is triangle i or triangle j
-  owned-twice : (a b i : ℕ) → Owns (triangles s) a b i → Other Z (halfAt i) (xAt i) (yAt i) a b → OwnedTwice (triangles s) a b
+  owned-twice : (a b i : ℕ) → Owns (triangles s) a b i → Other S (halfAt i) (xAt i) (yAt i) a b → OwnedTwice (triangles s) a b
   owned-twice a b i o t = ⊎-elim in-order out-of-order (lt-or-le i j)
     where
       j : ℕ
       j = indexOf (t .h₂) (t .x₂) (t .y₂)
 
-      c : Cell Z (t .x₂) (t .y₂)
+      c : Cell S (t .x₂) (t .y₂)
       c = t .holds .side .cell
 
       o₂ : Owns (triangles s) a b j
@@ -182,77 +183,77 @@ module _ (s : Shape) (steps : HasSteps s) (ax : Axis) (seen : SeenAlong ax s) wh
       ⊎-elim
       (λ w. inl (seen-rim s steps ax seen a b (w .0), owned-once a b i o (w .1)))
       (λ w. inr (λ r. w .0 (rim-seen s steps ax seen a b r), owned-twice a b i o (w .1)))
-      (owned Z (owns-holds a b i o))
+      (owned S (owns-holds a b i o))
 
   -- each grid edge is a side of a cell, and so of one of its halves
   edges : (u v u′ v′ : ℕ) → GridEdge s u v u′ v′ → (i : ℕ) × Owns (triangles s) (J s u v) (J s u′ v′) i
   edges u v u′ v′ g =
       let e = edge-seen s steps ax seen u v u′ v′ g in
-      let h = Z .half (e .side .k) (e .side .t) in
-      let p : Holds Z h (e .x) (e .y) (J s u v) (J s u′ v′) = record { side = e .side; on = refl } in
+      let h = S .half (e .side .k) (e .side .t) in
+      let p : Holds S h (e .x) (e .y) (J s u v) (J s u′ v′) = record { side = e .side; on = refl } in
       (indexOf h (e .x) (e .y), holds-index p)
 
   -- ---- flipped pairs
 
   -- the step of the first column on which step y of the last lies
   abbrev on : ℕ → ℕ
-  on y = laidOn (Z .seam) (Z .Y) y
+  on y = laidOn (S .seam) (S .Y) y
 
-  on-lt : (y : ℕ) → y < Z .Y → on y < Z .Y
-  on-lt y h = on-below (Z .seam) (Z .closed) (Z .Y) y (Z .fits) h
+  on-lt : (y : ℕ) → y < S .Y → on y < S .Y
+  on-lt y h = on-below (S .seam) (S .closed) (S .Y) y (S .fits) h
 
   -- the last column of cells
   far : ℕ
-  far = Z .X - 1
+  far = S .X - 1
 
-  far-is : far + 1 ≡ Z .X
+  far-is : far + 1 ≡ S .X
   unfolding far
-  far-is = omega (arith, Z .X>0)
+  far-is = omega (arith, S .X>0)
 
   -- the triangles that have step y of the first column of points, and of the last
   low-half : Bool
-  low-half = Z .half straight false
+  low-half = S .half straight false
 
   high-half : Bool
-  high-half = Z .half straight true
+  high-half = S .half straight true
 
   low-is : (y : ℕ) → lows ax s y ≡ indexOf low-half 0 y
   unfolding indexOf low-half strip
   low-is y = low-index s ax y
 
-  high-is : (x y : ℕ) → x + 1 ≡ Z .X → highs ax s y ≡ indexOf high-half x y
+  high-is : (x y : ℕ) → x + 1 ≡ S .X → highs ax s y ≡ indexOf high-half x y
   unfolding indexOf high-half strip
-  high-is x y e = let last : Z .X - 1 ≡ x = omega arith in high-index s ax y ∙ ap (λ (z : ℕ). index s (Z .half straight true) (xOf ax z y) (yOf ax z y)) last
+  high-is x y e = let last : S .X - 1 ≡ x = omega arith in high-index s ax y ∙ ap (λ (z : ℕ). index s (S .half straight true) (xOf ax z y) (yOf ax z y)) last
 
-  low-cell : (y : ℕ) → y < Z .Y → Cell Z 0 y
-  low-cell y h = (Z .X>0, h)
+  low-cell : (y : ℕ) → y < S .Y → Cell S 0 y
+  low-cell y h = (S .X>0, h)
 
-  high-cell : (y : ℕ) → y < Z .Y → Cell Z far y
+  high-cell : (y : ℕ) → y < S .Y → Cell S far y
   high-cell y h = (omega (arith, far-is), h)
 
   slot-listed : (i : ℕ) → i < slots s → (proper (slot s i) ≡ true) × (triangleNumber s i ≡ i)
   slot-listed i h = (slot-proper i h, number-is i h)
 
-  laid : reversed (Z .seam) ≡ true → AllLaid s (Z .seam) (Z .Y) (lows ax s) (highs ax s) on
+  laid : reversed (S .seam) ≡ true → AllLaid s (S .seam) (S .Y) (lows ax s) (highs ax s) on
   laid e =
       record {
-        on-is = λ y h. reversed-step (Z .seam) (Z .closed) (Z .Y) y (reversed≥3 Z e .1) (Z .fits) e h;
+        on-is = λ y h. reversed-step (S .seam) (S .closed) (S .Y) y (reversed≥3 S e .1) (S .fits) e h;
         on-lt = on-lt;
         low-proper = λ y h. slot-listed (lows ax s y) (omega (arith, low-is y, indexOf-lt low-half 0 y (low-cell y h)));
         high-proper = λ y h. slot-listed (highs ax s y) (omega (arith, high-is far y far-is, indexOf-lt high-half far y (high-cell y h)));
       }
 
-  flipped-reversed : reversed (Z .seam) ≡ true → flipped s ≡ process s (Z .seam) (Z .Y) (lows ax s) (highs ax s) (Z .Y) []
+  flipped-reversed : reversed (S .seam) ≡ true → flipped s ≡ process s (S .seam) (S .Y) (lows ax s) (highs ax s) (S .Y) []
   unfolding strip
   flipped-reversed e = flipped-seen s ax (seen .plain) ∙ rw e
 
-  flipped-none : reversed (Z .seam) ≡ false → flipped s ≡ []
+  flipped-none : reversed (S .seam) ≡ false → flipped s ≡ []
   unfolding strip
   flipped-none e = flipped-seen s ax (seen .plain) ∙ rw e
 
   -- triangles i and j are at a turn: so they are those of a step of the last column
   abbrev TurnAt : ℕ → ℕ → Type 0
-  TurnAt i j = Turn Z (halfAt i) (xAt i) (yAt i) (halfAt j) (xAt j) (yAt j)
+  TurnAt i j = Turn S (halfAt i) (xAt i) (yAt i) (halfAt j) (xAt j) (yAt j)
 
   turn-low : (i j : ℕ) → TurnAt i j → i ≡ lows ax s (on (yAt j))
   unfolding low-half
@@ -266,7 +267,7 @@ module _ (s : Shape) (steps : HasSteps s) (ax : Axis) (seen : SeenAlong ax s) wh
   turn-listed : (i j : ℕ) → TurnAt i j → List·Memᴰ (ordered i j) (flipped s)
   turn-listed i j t =
       mem-in (sym (flipped-reversed (t .rev)))
-      (Memᴰ·cast (cc (turn-low i j t, turn-high i j t)) (process-from (laid (t .rev)) (Z .Y) (omega arith) (yAt j) (t .below)))
+      (Memᴰ·cast (cc (turn-low i j t, turn-high i j t)) (process-from (laid (t .rev)) (S .Y) (omega arith) (yAt j) (t .below)))
 
   -- two triangles that run the same way are at a turn, and so a listed pair
   way-flipped : (i j : ℕ) → i < j → SameWay (triangles s) i j → List·Memᴰ (pair i j) (flipped s)
@@ -274,19 +275,19 @@ module _ (s : Shape) (steps : HasSteps s) (ax : Axis) (seen : SeenAlong ax s) wh
       ⊎-elim
       (λ t. Memᴰ·cast (pair-eq (pair i j) (ordered i j) (omega arith) (omega arith)) (turn-listed i j t))
       (λ t. Memᴰ·cast (pair-eq (pair i j) (ordered j i) (omega arith) (omega arith)) (turn-listed j i t))
-      (same-way Z (nth-runs i (w .there-i) (w .along-i)) (nth-runs j (w .there-j) (w .along-j)) (λ e. omega (arith, same-index i j e)))
+      (same-way S (nth-runs i (w .there-i) (w .along-i)) (nth-runs j (w .there-j) (w .along-j)) (λ e. omega (arith, same-index i j e)))
 
   way-swap : (i j : ℕ) → SameWay (triangles s) i j → SameWay (triangles s) j i
   way-swap i j w = record { there-i = w .there-j; there-j = w .there-i; a = w .a; b = w .b; along-i = w .along-j; along-j = w .along-i }
 
   -- the two triangles of step y of the last column are at a turn, run the same way, and are two
-  step-turn : (y : ℕ) → y < Z .Y → reversed (Z .seam) ≡ true → Turn Z low-half 0 (on y) high-half far y
+  step-turn : (y : ℕ) → y < S .Y → reversed (S .seam) ≡ true → Turn S low-half 0 (on y) high-half far y
   unfolding low-half high-half
   step-turn y h e = record { rev = e; below = h; low-half = refl; low-x = refl; low-y = refl; high-half = refl; high-x = far-is }
 
-  step-way : (y : ℕ) → y < Z .Y → reversed (Z .seam) ≡ true → SameWay (triangles s) (indexOf low-half 0 (on y)) (indexOf high-half far y)
+  step-way : (y : ℕ) → y < S .Y → reversed (S .seam) ≡ true → SameWay (triangles s) (indexOf low-half 0 (on y)) (indexOf high-half far y)
   step-way y h e =
-      let r = turn-shared Z (step-turn y h e) in
+      let r = turn-shared S (step-turn y h e) in
       record {
         there-i = omega (arith, count, indexOf-lt low-half 0 (on y) (low-cell (on y) (on-lt y h)));
         there-j = omega (arith, count, indexOf-lt high-half far y (high-cell y h));
@@ -296,10 +297,10 @@ module _ (s : Shape) (steps : HasSteps s) (ax : Axis) (seen : SeenAlong ax s) wh
         along-j = runs-index (r .two);
       }
 
-  step-apart : (y : ℕ) → y < Z .Y → reversed (Z .seam) ≡ true → indexOf low-half 0 (on y) ≡ indexOf high-half far y → ⊥
+  step-apart : (y : ℕ) → y < S .Y → reversed (S .seam) ≡ true → indexOf low-half 0 (on y) ≡ indexOf high-half far y → ⊥
   step-apart y h r e =
       let first : 0 ≡ far = sym (x-indexOf low-half 0 (on y) (low-cell (on y) (on-lt y h))) ∙ ap xAt e ∙ x-indexOf high-half far y (high-cell y h) in
-      omega (arith, far-is, reversed≥3 Z r .0)
+      omega (arith, far-is, reversed≥3 S r .0)
 
   ordered-way : (p : Pair) (i j : ℕ) → p ≡ ordered i j → (i ≡ j → ⊥) → SameWay (triangles s) i j → (p .low < p .high) × SameWay (triangles s) (p .low) (p .high)
   ordered-way p i j e d w =
@@ -313,12 +314,12 @@ module _ (s : Shape) (steps : HasSteps s) (ax : Axis) (seen : SeenAlong ax s) wh
 
   -- so a listed pair, which is that of a step, runs the same way
   flipped-way : (p : Pair) → List·Memᴰ p (flipped s) → (p .low < p .high) × SameWay (triangles s) (p .low) (p .high)
-  flipped-way p q = go (reversed (Z .seam)) refl
+  flipped-way p q = go (reversed (S .seam)) refl
     where
-      go : (t : Bool) → reversed (Z .seam) ≡ t → (p .low < p .high) × SameWay (triangles s) (p .low) (p .high)
+      go : (t : Bool) → reversed (S .seam) ≡ t → (p .low < p .high) × SameWay (triangles s) (p .low) (p .high)
       go false e = absurd (List·Memᴰ·not-nil (mem-in (flipped-none e) q))
       go true e =
-          let t = process-to (laid e) (Z .Y) (omega arith) p (mem-in (flipped-reversed e) q) in
+          let t = process-to (laid e) (S .Y) (omega arith) p (mem-in (flipped-reversed e) q) in
           let y = t .0 in
           let f : p ≡ ordered (indexOf low-half 0 (on y)) (indexOf high-half far y) = t .2 ∙ cc (low-is (on y), high-is far y far-is) in
           ordered-way p (indexOf low-half 0 (on y)) (indexOf high-half far y) f (step-apart y (t .1) e) (step-way y (t .1) e)
