@@ -18,6 +18,7 @@ use Rattle.surface.proofs.Owners.{not-self, SideAt, side-flip, Holds, f
 abbrev pub Along : Bool → ℕ → ℕ → ℕ → ℕ → Type 0
 Along w a b c d = ((w ≡ true) × (a ≡ c) × (b ≡ d)) ⊎ ((w ≡ false) × (a ≡ d) × (b ≡ c))
 
+-- either way they are the same two; two that are the same go along one way, or the other way when they are exchanged
 along-same : {w : Bool} {a b c d : ℕ} → Along w a b c d → Same a b c d
 along-same (inl e) = inl (e .1, e .2)
 along-same (inr e) = inr (e .1, e .2)
@@ -28,6 +29,7 @@ same-along true (inr e) = inr (inl (refl, e .1, e .0))
 same-along false (inl e) = inr (inr (refl, e .1, e .0))
 same-along false (inr e) = inl (inr (refl, e .0, e .1))
 
+-- the same, by where it starts and where it ends
 pub along-ends : {w : Bool} {a b c d : ℕ} → Along w a b c d → (a ≡ cond w c d) × (b ≡ cond w d c)
 along-ends (inl e) = rw (e .0) (e .1, e .2)
 along-ends (inr e) = rw (e .0) (e .1, e .2)
@@ -170,6 +172,7 @@ module _ (S : Strip) where
       go o (inr f) (inl e) = inl (turn-of q p (swap o) e)
       go o (inr f) (inr g) = absurd (clash p q o f g)
 
+  -- both run from a to b
   pub record Shared (h : Bool) (x y : ℕ) (h′ : Bool) (x′ y′ : ℕ) : Type 0 where
     pub a : ℕ
     pub b : ℕ

@@ -70,6 +70,7 @@ pub joining-meets : (m n : ℕ) (su sv : Seam) → 1 ≤ m → 1 ≤ n → Enoug
     Meets (surfaceWith m n su sv)
 joining-meets m n su sv hm hn e p q c = covered-meets (surfaceWith m n su sv) (record { u-some = hm; v-some = hn; enough = e }) (covered m n su sv p q c)
 
+-- demand 3 of the surface of a grid, with the seams that are found in it
 pub surface-meets : (g : List Float) (m n : ℕ) → SurfaceMeets g m n
 surface-meets g m n a e c =
     let s = accepted-known g m n a .steps in

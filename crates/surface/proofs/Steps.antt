@@ -13,7 +13,7 @@ use Rattle.cyclic.proofs.Mappings.{three, inverse-at, reverse-at, reverse-same}
 use Rattle.surface.specs.Surface.{Seam, unjoined, forward, reverse, inverse}
 
 -- two either-ors, case by case
-pub four : {A B C D P : Type 0} → A ⊎ B → C ⊎ D → (A → C → P) → (A → D → P) → (B → C → P) → (B → D → P) → P
+four : {A B C D P : Type 0} → A ⊎ B → C ⊎ D → (A → C → P) → (A → D → P) → (B → C → P) → (B → D → P) → P
 four (inl a) (inl c) f g h k = f a c
 four (inl a) (inr d) f g h k = g a d
 four (inr b) (inl c) f g h k = h b c
