@@ -1,6 +1,6 @@
 -- Laws of plans: a swirl and a spiral have from 1 to 65,536 rays of from 2 to 65,536 samples, a spiral as many rays as arms, Grid none. A count is the cut of a larger of two, so it is at
 -- least the second, and the tests bound it from above. Assumes nothing.
-use mathlib.Core.Path.{_≡_, refl, sym, ap, _∙_, subst}
+use mathlib.Core.Path.{_≡_, refl, sym}
 use mathlib.Core.Bool.{Bool, true, false, cond}
 use Prim.Native.Nat.{ℕ, zero, suc, _*_, _/_, _^_, _≤_, min, max}
 use native.Mathlib.Nat.{le-trans, le-refl, le-antisymm}
@@ -16,16 +16,13 @@ use Rattle.float.specs.Cast.{natFloat, count}
 use Rattle.float.proofs.Less.{le-of-not-lt, le-reflexive, le-transitive}
 use Rattle.float.proofs.Bounds.{nat-not-nan, nat-nonneg, nat-le, floor-at-least}
 use Rattle.float.proofs.Range.{counted}
-use Rattle.refusal.specs.declared.Check.{Check}
 use Rattle.refusal.specs.declared.Check.the-variants.{Passed}
-use Rattle.refusal.specs.declared.Refusal.the-variants.{Steps, Texture, Count}
-use Rattle.refusal.specs.Refusals.{ok, unless}
-use Rattle.grid.specs.Grid.{stepsFit}
-use Rattle.grid.proofs.Laws.{and-both, unless-passed}
+use Rattle.refusal.specs.Refusals.{ok}
+use Rattle.grid.proofs.Laws.{and-both}
 use Rattle.texture.specs.declared.plan.ParametricSurfaceTexture.{ParametricSurfaceTexture}
 use Rattle.texture.specs.declared.plan.ParametricSurfaceTexture.the-variants.{Grid, Swirl, Spiral}
-use Rattle.texture.specs.Plan.{two, swirlRays, radialSampleCount, spiralSampleCount, stepsAlong, raysOf, samplesPerRay, textureFits, maxCount, countsFit, planCheck, Plan, planOf, plan}
-use Rattle.texture.proofs.Plans.{plan-passed}
+use Rattle.texture.specs.Plan.{two, swirlRays, radialSampleCount, spiralSampleCount, stepsAlong, raysOf, samplesPerRay, textureFits, maxCount, Plan, planOf, plan}
+use Rattle.texture.proofs.Plans.{checks, plan-passed}
 
 -- ---- the larger of two is at least the second
 at-least : (x y : Float) → isNan x ≡ false → isNan y ≡ false → (t : Bool) → lt x y ≡ t → le y (cond t y x) ≡ true
@@ -61,17 +58,8 @@ cut-between x k n hk hn lo hi =
     (le-trans (floor-at-least x k lo hk) (floor-cut x), counted x n hn (le-transitive zero64 (natFloat k) x from-zero lo) hi .1)
 
 -- ---- what a plan passed
-pub checks : (t : ParametricSurfaceTexture) (m n : ℕ) (after : Check) → planCheck t m n after ≡ Passed
-    → (stepsFit m n ≡ true) × (textureFits t ≡ true) × (countsFit (raysOf m n t) (samplesPerRay m n t) ≡ true) × (after ≡ Passed)
-unfolding planCheck
-checks t m n after h =
-    let counts = countsFit (raysOf m n t) (samplesPerRay m n t) in
-    let a = unless-passed (stepsFit m n) Steps (unless (textureFits t) Texture (unless counts Count after)) h in
-    let b = unless-passed (textureFits t) Texture (unless counts Count after) (a .1) in
-    let c = unless-passed counts Count after (b .1) in
-    (a .0, b .0, c .0, c .1)
-
-passes : (t : ParametricSurfaceTexture) (m n : ℕ) {p : Plan} → plan t m n ≡ ok p → (textureFits t ≡ true) × (le (raysOf m n t) maxCount ≡ true) × (le (samplesPerRay m n t) maxCount ≡ true) × (p ≡ planOf t m n)
+passes : (t : ParametricSurfaceTexture) (m n : ℕ) {p : Plan} → plan t m n ≡ ok p
+    → (textureFits t ≡ true) × (le (raysOf m n t) maxCount ≡ true) × (le (samplesPerRay m n t) maxCount ≡ true) × (p ≡ planOf t m n)
 passes t m n e =
     let k = plan-passed t m n Passed (sym e) in
     let a = checks t m n Passed (k .0) in
@@ -91,7 +79,7 @@ counts-of t m n e r s =
     let k = passes t m n e in
     let rays = cut-between (raysOf m n t) 1 65536 (lit≤ tt) (lit≤ tt) (unfold natFloat ofInt ofBits in r) (unfold natFloat ofInt ofBits in (k .1)) in
     let samples = cut-between (samplesPerRay m n t) 2 65536 (lit≤ tt) (lit≤ tt) (unfold natFloat ofInt ofBits in s) (unfold natFloat ofInt ofBits in (k .2)) in
-    subst Counts (sym (k .3)) (record { rays-least = rays .0; rays-most = rays .1; samples-least = samples .0; samples-most = samples .1 })
+    rw (k .3) (record { rays-least = rays .0; rays-most = rays .1; samples-least = samples .0; samples-most = samples .1 })
 
 pub swirl-counts : (s w : Float) (m n : ℕ) {p : Plan} → plan (Swirl s w) m n ≡ ok p → Counts p
 unfolding swirlRays radialSampleCount stepsAlong
@@ -107,7 +95,7 @@ spiral-rays s a m n e =
     let b = arms-fit a (leb-true a 64 (k .0)) in
     let same = le-reflexive (natFloat (max a 1)) (nat-not-nan (max a 1) (b .1)) in
     let c = cut-between (natFloat (max a 1)) (max a 1) (max a 1) (b .1) (b .1) same same in
-    ap (λ (q : Plan). q .rays) (k .3) ∙ le-antisymm (c .1) (c .0)
+    rw (k .3) (le-antisymm (c .1) (c .0))
 
 one-is : natFloat 1 ≡ one64
 one-is = unfold natFloat ofInt ofBits in refl
@@ -116,10 +104,8 @@ pub spiral-counts : (s : Float) (a m n : ℕ) {p : Plan} → plan (Spiral s a) m
 unfolding spiralSampleCount stepsAlong
 spiral-counts s a m n e =
     let b = arms-fit a (leb-true a 64 (passes (Spiral s a) m n e .0)) in
-    let one = ap (λ (x : Float). le x (natFloat (max a 1))) (sym one-is) ∙ nat-le 1 (max a 1) (lit≤ tt) (b .1) ∙ le-leb 1 (max a 1) (b .0) in
+    let one : le one64 (natFloat (max a 1)) ≡ true = rw (← one-is, nat-le 1 (max a 1) (lit≤ tt) (b .1)) (le-leb 1 (max a 1) (b .0)) in
     counts-of (Spiral s a) m n e one (larger-least _ two (unfold isNan ofBits in refl))
 
 pub grid-counts : (m n : ℕ) {p : Plan} → plan Grid m n ≡ ok p → (p .rays ≡ 0) × (p .samples ≡ 0)
-grid-counts m n e =
-    let k = passes Grid m n e in
-    (ap (λ (q : Plan). q .rays) (k .3) ∙ unfold toUnsigned ofBits in refl, ap (λ (q : Plan). q .samples) (k .3) ∙ unfold toUnsigned ofBits in refl)
+grid-counts m n e = rw (passes Grid m n e .3) (unfold toUnsigned ofBits in (refl, refl))

@@ -1,5 +1,6 @@
 -- Laws that belong to no one function.
-pub mod Distances
-pub mod Laws
 pub mod Plans
 pub mod Samples
+pub mod Laws
+pub mod Zeros
+pub mod Distances

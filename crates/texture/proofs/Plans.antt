@@ -1,31 +1,32 @@
 -- `raysOf`, `samplesPerRay` and `plan` by the cases of the code, from what the calls gave. Assumes nothing.
-use mathlib.Core.Path.{_≡_, refl, sym, ap, _∙_}
+use mathlib.Core.Path.{_≡_, refl, sym}
 use mathlib.Core.Bool.{Bool, true, false, _&&_}
 use Prim.Native.Nat.{ℕ, max}
 use native.Mathlib.Omega.{arith}
 use lib.Ieee.{Float, le, toUnsigned}
 use Rattle.float.specs.Cast.{natFloat}
 use Rattle.refusal.specs.declared.Check.{Check}
-use Rattle.refusal.specs.declared.Check.the-variants.{Passed}
+use Rattle.refusal.specs.declared.Check.the-variants.{Passed, Failed}
 use Rattle.refusal.specs.Refusals.{Answer, ok, refused, unless, passing}
 use Rattle.refusal.specs.declared.Refusal.the-variants.{Steps, Texture, Count}
 use Rattle.grid.specs.Grid.{stepsFit}
+use Rattle.grid.proofs.Laws.{unless-passed}
 use Rattle.texture.specs.declared.plan.ParametricSurfaceTexture.{ParametricSurfaceTexture}
 use Rattle.texture.specs.declared.plan.ParametricSurfaceTexture.the-variants.{Swirl, Spiral}
 use Rattle.texture.specs.Plan.{textureSpacing, swirlRays, radialSampleCount, spiralSampleCount, raysOf, samplesPerRay, textureFits, maxCount, countsFit, planCheck, Plan, planOf, plan}
 
 module _ (m n : ℕ) {t : ParametricSurfaceTexture} {s : Float} where
   pub rays-swirl : {w x r : Float} → t ≡ Swirl s w → x ≡ textureSpacing s → r ≡ swirlRays m n x → r ≡ raysOf m n t
-  rays-swirl e p q = q ∙ ap (swirlRays m n) p ∙ ap (raysOf m n) (sym e)
+  rays-swirl e p q = rw (e, q, p)
 
   pub rays-spiral : {a k : ℕ} {r : Float} → t ≡ Spiral s a → k ≡ max a 1 → r ≡ natFloat k → r ≡ raysOf m n t
-  rays-spiral e p q = q ∙ ap natFloat p ∙ ap (raysOf m n) (sym e)
+  rays-spiral e p q = rw (e, q, p)
 
   pub samples-swirl : {w x r : Float} → t ≡ Swirl s w → x ≡ textureSpacing s → r ≡ radialSampleCount m n x w → r ≡ samplesPerRay m n t
-  samples-swirl {w} e p q = q ∙ ap (λ (y : Float). radialSampleCount m n y w) p ∙ ap (samplesPerRay m n) (sym e)
+  samples-swirl e p q = rw (e, q, p)
 
   pub samples-spiral : {a : ℕ} {x r : Float} → t ≡ Spiral s a → x ≡ textureSpacing s → r ≡ spiralSampleCount m n x → r ≡ samplesPerRay m n t
-  samples-spiral e p q = q ∙ ap (spiralSampleCount m n) p ∙ ap (samplesPerRay m n) (sym e)
+  samples-spiral e p q = rw (e, q, p)
 
 -- the tests in their order, b and f being the code's
 module _ (t : ParametricSurfaceTexture) (m n : ℕ) {b : Bool} (eb : b ≡ stepsFit m n) where
@@ -49,18 +50,29 @@ module _ (t : ParametricSurfaceTexture) (m n : ℕ) {b : Bool} (eb : b ≡ steps
 
 -- ---- what follows a plan's own tests
 
+-- an answer is not a refusal
+never : {A B : Type 0} {x : A} {k : ℕ} → ok x ≡ refused k → B
+never e = let z : _≡_ {A = ℕ} 0 1 = cc in absurd (omega arith)
+
+-- where a call answers, its tests are passed
+pub answered : {A : Type 0} (k : Check) {a b : A} → passing k (ok a) ≡ ok b → (k ≡ Passed) × (b ≡ a)
+answered Passed e = (refl, cc)
+answered (Failed r) e = never (sym e)
+
+-- what is known where all tests are passed
+pub checks : (t : ParametricSurfaceTexture) (m n : ℕ) (after : Check) → planCheck t m n after ≡ Passed
+    → (stepsFit m n ≡ true) × (textureFits t ≡ true) × (countsFit (raysOf m n t) (samplesPerRay m n t) ≡ true) × (after ≡ Passed)
+unfolding planCheck
+checks t m n after h =
+    let counts = countsFit (raysOf m n t) (samplesPerRay m n t) in
+    let a = unless-passed (stepsFit m n) Steps (unless (textureFits t) Texture (unless counts Count after)) h in
+    let b = unless-passed (textureFits t) Texture (unless counts Count after) (a .1) in
+    let c = unless-passed counts Count after (b .1) in
+    (a .0, b .0, c .0, c .1)
+
 -- the three tests, by what they say
 abbrev chain : Bool → Bool → Bool → Check → Check
 chain a b c after = unless a Steps (unless b Texture (unless c Count after))
-
-pub never : {A B : Type 0} {x : A} {k : ℕ} → ok x ≡ refused k → B
-never e = let z : _≡_ {A = ℕ} 0 1 = cc in absurd (omega arith)
-
-chain-passed : {A : Type 0} (a b c : Bool) {x : A} (y : A) (after : Check) → ok x ≡ passing (chain a b c Passed) (ok y) → (chain a b c after ≡ after) × (x ≡ y)
-chain-passed true true true y after e = (refl, cc)
-chain-passed true true false y after e = never e
-chain-passed true false c y after e = never e
-chain-passed false b c y after e = never e
 
 chain-failed : {A B : Type 0} (a b c : Bool) (y : A) {k : ℕ} (after : Check) (z : Answer B) → refused k ≡ passing (chain a b c Passed) (ok y) → refused k ≡ passing (chain a b c after) z
 chain-failed true true true y after z e = never (sym e)
@@ -72,7 +84,10 @@ module _ (t : ParametricSurfaceTexture) (m n : ℕ) (after : Check) where
   -- where there is a plan, only the tests after its own are left
   pub plan-passed : {p : Plan} → ok p ≡ plan t m n → (planCheck t m n after ≡ after) × (p ≡ planOf t m n)
   unfolding plan planCheck
-  plan-passed e = chain-passed (stepsFit m n) (textureFits t) (countsFit (raysOf m n t) (samplesPerRay m n t)) (planOf t m n) after e
+  plan-passed e =
+      let a = answered (planCheck t m n Passed) (sym e) in
+      let c = checks t m n Passed (a .0) in
+      (rw (c .0, c .1, c .2), a .1)
 
   -- where there is none, its refusal is the answer
   pub plan-failed : {A : Type 0} {k : ℕ} (z : Answer A) → refused k ≡ plan t m n → refused k ≡ passing (planCheck t m n after) z

@@ -1,23 +1,23 @@
 -- `turnOf`, `distanceOf`, `angle` and `samplePoint` by the cases of the code, from what the calls gave. Assumes nothing.
-use mathlib.Core.Path.{_≡_, sym, ap, _∙_, subst}
+use mathlib.Core.Path.{_≡_, sym, ap, _∙_}
 use mathlib.Core.Bool.{Bool, true, false, _&&_}
 use Prim.Native.Nat.{ℕ}
 use lib.Dec.{ltb, leb}
-use lib.Ieee.{Float, binary64, add, sub, mul, div}
+use lib.Ieee.{Float, binary64, add, sub, mul, div, toUnsigned}
 use Rattle.float.specs.Consts.{tau, one64}
 use Rattle.float.specs.Cast.{natFloat}
 use Rattle.refusal.specs.declared.Check.{Check}
 use Rattle.refusal.specs.declared.Check.the-variants.{Passed}
 use Rattle.refusal.specs.declared.Refusal.{Refusal}
 use Rattle.refusal.specs.declared.Refusal.the-variants.{Direction, NotThere}
-use Rattle.refusal.specs.Refusals.{ok, refused, numberOf, unless, passing}
+use Rattle.refusal.specs.Refusals.{ok, refused, numberOf, unless}
 use Rattle.edges.specs.Param.{param}
 use Rattle.edges.specs.declared.point.ParamPoint.{ParamPoint}
 use Rattle.texture.specs.declared.plan.ParametricSurfaceTexture.{ParametricSurfaceTexture}
 use Rattle.texture.specs.declared.plan.ParametricSurfaceTexture.the-variants.{Swirl, Spiral}
 use Rattle.texture.specs.declared.plan.PlanAnswer.{PlanAnswer}
 use Rattle.texture.specs.declared.plan.PlanAnswer.the-variants as answers
-use Rattle.texture.specs.Plan.{centre, textureRadius, textureSpacing, spiralTurns, planCheck, Plan, planOf, plan, statedPlan}
+use Rattle.texture.specs.Plan.{centre, textureRadius, textureSpacing, spiralTurns, raysOf, samplesPerRay, planCheck, Plan, planOf, plan, statedPlan}
 use Rattle.texture.specs.Sample.{part, baseAngle, turnOf, angleOf, distanceOf, pointOf, isThere, angle, directionFits, samplePoint}
 use Rattle.texture.proofs.Plans.{plan-passed, plan-failed}
 
@@ -49,46 +49,44 @@ module _ (t : ParametricSurfaceTexture) (m n ray i : ℕ) {a : PlanAnswer} (ea :
   pub point-failed : (cosine sine : Float) {k : Refusal} → a ≡ answers.Refused k → refused (numberOf k) ≡ samplePoint t m n ray i cosine sine
   unfolding samplePoint
   point-failed cosine sine {k} e =
-      plan-failed t m n (unless (directionFits cosine sine) Direction (unless (isThere (planOf t m n) ray i) NotThere Passed)) (ok (pointOf t m n (planOf t m n .samples) i cosine sine)) (ap statedPlan (sym e) ∙ ea)
+      plan-failed t m n (unless (directionFits cosine sine) Direction (unless (isThere (planOf t m n) ray i) NotThere Passed))
+      (ok (pointOf t m n (planOf t m n .samples) i cosine sine)) (ap statedPlan (sym e) ∙ ea)
 
   -- a plan of k rays and l samples each
   module _ {k l : ℕ} (e : a ≡ answers.Plan k l) where
-    abbrev planned : Plan
-    planned = record { rays = k; samples = l }
-
-    passed : (after : Check) → (planCheck t m n after ≡ after) × (planned ≡ planOf t m n)
+    passed : (after : Check) → (planCheck t m n after ≡ after) × (record { rays = k; samples = l } ≡ planOf t m n)
     passed after = plan-passed t m n after (ap statedPlan (sym e) ∙ ea)
+
+    rays-are : toUnsigned 64 (raysOf m n t) ≡ k
+    rays-are = sym (ap (λ (p : Plan). p .rays) (passed Passed .1))
+
+    samples-are : toUnsigned 64 (samplesPerRay m n t) ≡ l
+    samples-are = sym (ap (λ (p : Plan). p .samples) (passed Passed .1))
+
+    -- the test that the call makes after the plan's own
+    abbrev there : Check
+    there = unless (ltb ray k && leb i l) NotThere Passed
 
     pub angle-ok : {x y : Float} → ltb ray k && leb i l ≡ true → x ≡ baseAngle k ray → y ≡ turnOf t m n l i → ok (add binary64 x y) ≡ angle t m n ray i
     unfolding angle angleOf
-    angle-ok {x} {y} h p q =
-        subst (λ (r : Plan). ok (add binary64 x y) ≡ passing (planCheck t m n (unless (isThere r ray i) NotThere Passed)) (ok (angleOf t m n r ray i))) (passed Passed .1)
-        (rw (passed (unless (isThere planned ray i) NotThere Passed) .0, h, p, q))
+    angle-ok h p q = rw (rays-are, samples-are, passed there .0, h, p, q)
 
     pub angle-not-there : ltb ray k && leb i l ≡ false → refused 8 ≡ angle t m n ray i
     unfolding angle
-    angle-not-there h =
-        subst (λ (r : Plan). refused 8 ≡ passing (planCheck t m n (unless (isThere r ray i) NotThere Passed)) (ok (angleOf t m n r ray i))) (passed Passed .1)
-        (rw (passed (unless (isThere planned ray i) NotThere Passed) .0, h))
+    angle-not-there h = rw (rays-are, samples-are, passed there .0, h)
 
     module _ (cosine sine : Float) {b : Bool} (eb : b ≡ directionFits cosine sine) where
-      abbrev after : Plan → Check
-      after r = unless (directionFits cosine sine) Direction (unless (isThere r ray i) NotThere Passed)
+      abbrev after : Check
+      after = unless (directionFits cosine sine) Direction there
 
       pub point-direction : b ≡ false → refused 7 ≡ samplePoint t m n ray i cosine sine
       unfolding samplePoint
-      point-direction h =
-          subst (λ (r : Plan). refused 7 ≡ passing (planCheck t m n (after r)) (ok (pointOf t m n (r .samples) i cosine sine))) (passed Passed .1)
-          (rw (passed (after planned) .0, ← eb, h))
+      point-direction h = rw (rays-are, samples-are, passed after .0, ← eb, h)
 
       pub point-not-there : b ≡ true → ltb ray k && leb i l ≡ false → refused 8 ≡ samplePoint t m n ray i cosine sine
       unfolding samplePoint
-      point-not-there g h =
-          subst (λ (r : Plan). refused 8 ≡ passing (planCheck t m n (after r)) (ok (pointOf t m n (r .samples) i cosine sine))) (passed Passed .1)
-          (rw (passed (after planned) .0, ← eb, g, h))
+      point-not-there g h = rw (rays-are, samples-are, passed after .0, ← eb, g, h)
 
       pub point-ok : {x : ParamPoint} → b ≡ true → ltb ray k && leb i l ≡ true → x ≡ pointOf t m n l i cosine sine → ok x ≡ samplePoint t m n ray i cosine sine
       unfolding samplePoint
-      point-ok {x} g h p =
-          subst (λ (r : Plan). ok x ≡ passing (planCheck t m n (after r)) (ok (pointOf t m n (r .samples) i cosine sine))) (passed Passed .1)
-          (rw (passed (after planned) .0, ← eb, g, h, p))
+      point-ok g h p = rw (rays-are, samples-are, passed after .0, ← eb, g, h, p)

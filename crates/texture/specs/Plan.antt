@@ -55,17 +55,21 @@ stepsAlong length spacing = upFrom two (div binary64 length (clamped spacing twe
 
 -- ---- `paths_swirl`
 
+-- as many as keep the spacing between neighbours on the circle; at least 1
 unfoldable pub swirlRays : ℕ → ℕ → Float → Float
 swirlRays m n spacing = upFrom one64 (div binary64 (mul binary64 tau (textureRadius m n)) spacing)
 
+-- along the radius and, times it, the angle that the twist turns a ray by
 unfoldable pub radialSampleCount : ℕ → ℕ → Float → Float → Float
 radialSampleCount m n spacing twist = stepsAlong (mul binary64 (textureRadius m n) (add binary64 one64 (absolute (mul binary64 tau twist)))) spacing
 
 -- ---- `paths_spiral`
 
+-- as many as keep the spacing between turns; at least 1
 unfoldable pub spiralTurns : ℕ → ℕ → Float → Float
 spiralTurns m n spacing = upFrom one64 (div binary64 (textureRadius m n) spacing)
 
+-- along the radius and all turns, at half of it on average
 unfoldable pub spiralSampleCount : ℕ → ℕ → Float → Float
 spiralSampleCount m n spacing =
     stepsAlong (add binary64 (textureRadius m n) (mul binary64 (mul binary64 (mul binary64 (textureRadius m n) tau) (spiralTurns m n spacing)) half)) spacing

@@ -36,6 +36,7 @@ turnOf Grid m n count i = zero64
 turnOf (Swirl spacing twist) m n count i = div binary64 (mul binary64 (mul binary64 tau twist) (natFloat i)) (natFloat count)
 turnOf (Spiral spacing arms) m n count i = mul binary64 (mul binary64 (part i count) tau) (spiralTurns m n (textureSpacing spacing))
 
+-- where the ray starts, and from there on
 unfoldable pub angleOf : ParametricSurfaceTexture → ℕ → ℕ → Plan → ℕ → ℕ → Float
 angleOf t m n p ray i = add binary64 (baseAngle (p .rays) ray) (turnOf t m n (p .samples) i)
 
@@ -45,6 +46,7 @@ distanceOf Grid m n count i = zero64
 distanceOf (Swirl spacing twist) m n count i = div binary64 (mul binary64 (textureRadius m n) (natFloat i)) (natFloat count)
 distanceOf (Spiral spacing arms) m n count i = mul binary64 (textureRadius m n) (sub binary64 one64 (part i count))
 
+-- so far from the centre, along the cosine and the sine
 unfoldable pub pointOf : ParametricSurfaceTexture → ℕ → ℕ → ℕ → ℕ → Float → Float → ParamPoint
 pointOf t m n count i cosine sine =
     let r = distanceOf t m n count i in

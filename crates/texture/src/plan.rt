@@ -16,12 +16,22 @@ ghost use mathlib.Core.Path.{_≡_};
 ghost use Prim.Native.Nat.{max};
 ghost use Rattle.texture.specs.Plan.{textureRadius, textureSpacing, upFrom, stepsAlong, swirlRays, radialSampleCount, spiralTurns, spiralSampleCount, raysOf, samplesPerRay, textureFits, plan, statedPlan};
 
+// The largest magnitude of a twist, and the most arms.
+const MAX_TWIST: f64 = 64.0;
+
+const MAX_ARMS: usize = 64;
+
+// The most rays, and the most samples per ray.
+const MAX_COUNT: f64 = 65536.0;
+
+// A texture of pen lines on a surface.
 pub enum ParametricSurfaceTexture {
     Grid,
     Swirl { spacing: f64, twist: f64 },
     Spiral { spacing: f64, arms: usize },
 }
 
+// The counts of rays and of samples per ray, or a refusal.
 pub enum PlanAnswer {
     Plan(usize, usize),
     Refused(Refusal),
@@ -59,12 +69,14 @@ fn steps_along(length: f64, spacing: f64) -> f64
     up_from(2.0, length / clamp(spacing, 0.05, 0.5))
 }
 
+// As many rays as keep the spacing between neighbours on the circle; at least 1.
 fn swirl_rays(m: usize, n: usize, spacing: f64) -> f64
     ensures { λ r. ⌜ r ≡ swirlRays m n spacing ⌝ }
 {
     up_from(1.0, TAU * texture_radius(m, n) / spacing)
 }
 
+// The samples along a ray of a swirl.
 fn radial_sample_count(m: usize, n: usize, spacing: f64, twist: f64) -> f64
     ensures { λ r. ⌜ r ≡ radialSampleCount m n spacing twist ⌝ }
 {
@@ -72,12 +84,14 @@ fn radial_sample_count(m: usize, n: usize, spacing: f64, twist: f64) -> f64
     steps_along(texture_radius(m, n) * (1.0 + turned), spacing)
 }
 
+// As many turns as keep the spacing between them; at least 1.
 pub fn spiral_turns(m: usize, n: usize, spacing: f64) -> f64
     ensures { λ r. ⌜ r ≡ spiralTurns m n spacing ⌝ }
 {
     up_from(1.0, texture_radius(m, n) / spacing)
 }
 
+// The samples along an arm of a spiral.
 fn spiral_sample_count(m: usize, n: usize, spacing: f64) -> f64
     ensures { λ r. ⌜ r ≡ spiralSampleCount m n spacing ⌝ }
 {
@@ -93,6 +107,7 @@ fn at_least_one(arms: usize) -> usize
     if arms < 1 { 1 } else { arms }
 }
 
+// The rays of a texture, before they are a count.
 fn rays(texture: ParametricSurfaceTexture, m: usize, n: usize) -> f64
     ensures { λ r. ⌜ r ≡ raysOf m n texture ⌝ }
 {
@@ -105,6 +120,7 @@ fn rays(texture: ParametricSurfaceTexture, m: usize, n: usize) -> f64
     }
 }
 
+// The samples of each ray, before they are a count.
 fn samples_per_ray(texture: ParametricSurfaceTexture, m: usize, n: usize) -> f64
     ensures { λ r. ⌜ r ≡ samplesPerRay m n texture ⌝ }
 {
@@ -119,13 +135,14 @@ fn samples_per_ray(texture: ParametricSurfaceTexture, m: usize, n: usize) -> f64
     }
 }
 
+// Whether twist and arms are within their bounds.
 fn texture_fits(texture: ParametricSurfaceTexture) -> bool
     ensures { λ r. ⌜ r ≡ textureFits texture ⌝ }
 {
     match texture {
         ParametricSurfaceTexture::Grid => true,
-        ParametricSurfaceTexture::Swirl { spacing: _, twist } => at_most(twist, 64.0),
-        ParametricSurfaceTexture::Spiral { spacing: _, arms } => arms <= 64,
+        ParametricSurfaceTexture::Swirl { spacing: _, twist } => at_most(twist, MAX_TWIST),
+        ParametricSurfaceTexture::Spiral { spacing: _, arms } => arms <= MAX_ARMS,
     }
 }
 
@@ -141,7 +158,7 @@ pub fn plan(texture: ParametricSurfaceTexture, m: usize, n: usize) -> PlanAnswer
     }
     let ray_count = rays(texture, m, n);
     let sample_count = samples_per_ray(texture, m, n);
-    if (ray_count <= 65536.0) & (sample_count <= 65536.0) {
+    if (ray_count <= MAX_COUNT) & (sample_count <= MAX_COUNT) {
         return PlanAnswer::Plan(to_usize(ray_count), to_usize(sample_count));
     }
     PlanAnswer::Refused(Refusal::Count)

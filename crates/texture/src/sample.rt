@@ -14,22 +14,26 @@ ghost use mathlib.Core.Path.{_≡_};
 ghost use Rattle.texture.specs.Plan.{centre};
 ghost use Rattle.texture.specs.Sample.{part, baseAngle, turnOf, distanceOf, pointOf, directionFits, angle, samplePoint, statedAngle, statedPoint};
 
+// The angle of a sample, or a refusal.
 pub enum AngleAnswer {
     Angle(f64),
     Refused(Refusal),
 }
 
+// The point of a sample, or a refusal.
 pub enum SampleAnswer {
     Point(ParamPoint),
     Refused(Refusal),
 }
 
+// The part i / count of a whole.
 fn part(i: usize, count: usize) -> f64
     ensures { λ r. ⌜ r ≡ part i count ⌝ }
 {
     to_f64(i) / to_f64(count)
 }
 
+// The angle at which a ray starts.
 fn base_angle(rays: usize, ray: usize) -> f64
     ensures { λ r. ⌜ r ≡ baseAngle rays ray ⌝ }
 {
@@ -65,12 +69,14 @@ fn distance(texture: ParametricSurfaceTexture, m: usize, n: usize, count: usize,
     }
 }
 
+// The middle of an axis.
 fn centre(steps: usize) -> f64
     ensures { λ r. ⌜ r ≡ centre steps ⌝ }
 {
     to_f64(steps) * 0.5
 }
 
+// A sample's distance from the centre, along the cosine and the sine.
 fn point(
     texture: ParametricSurfaceTexture,
     m: usize,
@@ -89,6 +95,7 @@ fn point(
     }
 }
 
+// Whether both are finite and from -1 to 1.
 fn direction_fits(cosine: f64, sine: f64) -> bool
     ensures { λ r. ⌜ r ≡ directionFits cosine sine ⌝ }
 {

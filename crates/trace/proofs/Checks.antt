@@ -1,5 +1,5 @@
 -- `traceCheck` by the tests of the code, and what a trace that passes it is known by. Assumes nothing.
-use mathlib.Core.Path.{_≡_, refl, sym, ap, _∙_}
+use mathlib.Core.Path.{_≡_, refl}
 use mathlib.Core.Bool.{Bool, true, false, _&&_, _||_}
 use mathlib.Core.List.{List}
 use Prim.Native.Nat.{ℕ, zero, suc, _+_, _*_, _≤_, _<_}
@@ -62,10 +62,10 @@ module _ (ps : List Float) (ks : List ℕ) (i : ℕ) (h : i < length ks) (e : le
 
   module _ {r : Bool} (er : r ≡ (eqb (getD ks i 0) 0 || (atMost (getD ps (2 * i) nan) maxSample && atMost (getD ps (2 * i + 1) nan) maxSample))) where
     pub pair-fits : r ≡ true → pairsFit (drop (2 * i) ps) (drop i ks) ≡ pairsFit (drop (2 * (i + 1)) ps) (drop (i + 1) ks)
-    pair-fits t = pair-here ∙ ap (λ (b : Bool). b && pairsFit (drop (2 * (i + 1)) ps) (drop (i + 1) ks)) (sym er ∙ t)
+    pair-fits t = rw (pair-here, ← er, t)
 
     pub pair-wrong : r ≡ false → pairsFit (drop (2 * i) ps) (drop i ks) ≡ false
-    pair-wrong t = pair-here ∙ ap (λ (b : Bool). b && pairsFit (drop (2 * (i + 1)) ps) (drop (i + 1) ks)) (sym er ∙ t)
+    pair-wrong t = rw (pair-here, ← er, t)
 
 pub pairs-end : (ps : List Float) (ks : List ℕ) (i : ℕ) → length ks ≤ i → pairsFit (drop (2 * i) ps) (drop i ks) ≡ true
 unfolding pairsFit

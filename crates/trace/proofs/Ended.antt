@@ -1,4 +1,4 @@
--- `traceFlat` by what the open call did: refused before the walk, drawn and zeroed past the counts, or refused in the walk and all zero. Assumes nothing.
+-- `traceFlat` by what the open call did: it refused before the walk and left the lists alone, or walked and zeroed them past the counts, which are 0 where the walk was refused. Assumes nothing.
 use mathlib.Core.Path.{_≡_, refl, sym, _∙_}
 use mathlib.Core.List.{List}
 use Prim.Native.Nat.{ℕ, _*_, _≤_}
@@ -12,17 +12,17 @@ use Rattle.lent.specs.Lent.{zeroFloat, zeroedFrom}
 use Rattle.crossing.specs.Crossing.{GridFits}
 use Rattle.page.specs.declared.Pen.{Pen}
 use Rattle.page.specs.declared.Penned.{Penned}
-use Rattle.page.specs.declared.Penned.the-variants.{Down, Stop}
+use Rattle.page.specs.declared.Penned.the-variants.{Down}
 use Rattle.page.specs.Page.{pushPage, flushPage, Pushed}
 use Rattle.page.proofs.Fits.{fits-down}
 use Rattle.trace.specs.declared.curve.Previous.the-variants.{Nowhere}
-use Rattle.trace.specs.declared.flat.Trace.the-variants.{Drawn, Refused}
+use Rattle.trace.specs.declared.flat.Trace.the-variants.{Refused}
 use Rattle.trace.specs.Curve.{samplesOf, traced}
-use Rattle.trace.specs.Drawing.{roomIn}
 use Rattle.trace.specs.Trace.{Lists, traceCheck, drawingOf, finished, traceFlat, Traces}
 use Rattle.trace.proofs.Checks.{checked}
 use Rattle.trace.proofs.Fits.{traced-fits}
-use Rattle.trace.proofs.Agree.{firstPage, Ends, trace-ends}
+use Rattle.trace.proofs.Shown.{roomOf}
+use Rattle.trace.proofs.Agree.{firstPage, answerOf, countIn, linesIn, Ends, trace-ends}
 
 module _ (g : List Float) (m n : ℕ) (pairs : List Float) (marks : List ℕ) where
   -- what the walk asks for
@@ -33,7 +33,8 @@ module _ (g : List Float) (m n : ℕ) (pairs : List Float) (marks : List ℕ) wh
       ((s .steps .m-most, s .steps .n-most, s .size), (k .1, k .2))
 
   module _ (l : Lists) where
-    pub refused-before : {c : Check} {k : Refusal} → c ≡ traceCheck g m n pairs marks → c ≡ Failed k → Traces (traceFlat g m n pairs marks l) (Refused k) (l .points) (l .starts) (l .sides) (l .fractions)
+    pub refused-before : {c : Check} {k : Refusal} → c ≡ traceCheck g m n pairs marks → c ≡ Failed k →
+        Traces (traceFlat g m n pairs marks l) (Refused k) (l .points) (l .starts) (l .sides) (l .fractions)
     unfolding traceFlat
     refused-before ec ek = rw (← ec, ek) (record { answer = refl; points = refl; starts = refl; sides = refl; fractions = refl })
 
@@ -43,18 +44,13 @@ module _ (g : List Float) (m n : ℕ) (pairs : List Float) (marks : List ℕ) wh
       counted er = fits-down u er (traced-fits g m n (samplesOf marks pairs) Nowhere (firstPage l) (omega arith, omega arith)) .1
 
       module _ {c : Check} (ec : c ≡ traceCheck g m n pairs marks) (ep : c ≡ Passed) where
-        flat-is : traceFlat g m n pairs marks l ≡ finished (drawingOf g m n pairs marks (roomIn (l .points) (l .starts) (l .sides) (l .fractions))) l
+        flat-is : traceFlat g m n pairs marks l ≡ finished (drawingOf g m n pairs marks (roomOf l)) l
         unfolding traceFlat
         flat-is = rw (← ec, ep)
 
-        pub drawn : {pen : Pen} {p' : List Float} {s' d' : List ℕ} {f' : List Float} → r ≡ Down pen → p' ≡ zeroedFrom zeroFloat (3 * pen .count) p → s' ≡ zeroedFrom 0 (pen .lines) s → d' ≡ zeroedFrom 0 (2 * pen .count) d → f' ≡ zeroedFrom zeroFloat (pen .count) f →
-            Traces (traceFlat g m n pairs marks l) (Drawn (pen .count) (pen .lines)) p' s' d' f'
-        drawn {pen} er zp zs zd zf =
-            let e : Ends (finished (drawingOf g m n pairs marks (roomIn (l .points) (l .starts) (l .sides) (l .fractions))) l) (Down pen) p s d f = rw er at (trace-ends l g m n pairs marks u) in
-            rw flat-is (record { answer = e .0; points = zp ∙ e .1; starts = zs ∙ e .2; sides = zd ∙ e .3; fractions = zf ∙ e .4 })
-
-        pub refused-within : {k : Refusal} {p' : List Float} {s' d' : List ℕ} {f' : List Float} → r ≡ Stop k → p' ≡ zeroedFrom zeroFloat 0 p → s' ≡ zeroedFrom 0 0 s → d' ≡ zeroedFrom 0 0 d → f' ≡ zeroedFrom zeroFloat 0 f →
-            Traces (traceFlat g m n pairs marks l) (Refused k) p' s' d' f'
-        refused-within {k} er zp zs zd zf =
-            let e : Ends (finished (drawingOf g m n pairs marks (roomIn (l .points) (l .starts) (l .sides) (l .fractions))) l) (Stop k) p s d f = rw er at (trace-ends l g m n pairs marks u) in
-            rw flat-is (record { answer = e .0; points = zp ∙ e .1; starts = zs ∙ e .2; sides = zd ∙ e .3; fractions = zf ∙ e .4 })
+        -- the lists that a walk left, zeroed past its counts
+        pub zeroed : {o : Penned} {p' : List Float} {s' d' : List ℕ} {f' : List Float} → r ≡ o → p' ≡ zeroedFrom zeroFloat (3 * countIn o) p → s' ≡ zeroedFrom 0 (linesIn o) s →
+            d' ≡ zeroedFrom 0 (2 * countIn o) d → f' ≡ zeroedFrom zeroFloat (countIn o) f → Traces (traceFlat g m n pairs marks l) (answerOf o) p' s' d' f'
+        zeroed {o} eo zp zs zd zf =
+            let e : Ends (finished (drawingOf g m n pairs marks (roomOf l)) l) o p s d f = rw eo at (trace-ends l g m n pairs marks u) in
+            rw flat-is (record { answer = e .answer; points = zp ∙ e .points; starts = zs ∙ e .starts; sides = zd ∙ e .sides; fractions = zf ∙ e .fractions })

@@ -1,6 +1,6 @@
 -- What a walk keeps true of its drawing: a property that holds of nothing drawn, and that a pushed point, a kept line and a dropped line each leave true, holds of whatever
 -- a trace draws. Assumes nothing.
-use mathlib.Core.Path.{_≡_, refl, subst}
+use mathlib.Core.Path.{_≡_, refl}
 use mathlib.Core.List.{List, [], _∷_, _++_}
 use Prim.Native.Nat.{ℕ, _+_, _≤_}
 use lib.Dec.{ltb, leb}
@@ -32,12 +32,13 @@ module _ (P : Drawing → Type 0) (Good : Crossing → Type 0)
     abbrev Same : Drawing → Drawing → Type 0
     Same d e = (d ≡ e) × P d
 
+    -- nothing is asked of what a refused walk drew
     abbrev Ended : Drawing → Type 0
     Ended d = Unit {0}
 
     flush-keeps : (d e : Drawing) → Same d e → Related Same Ended (flushSegment room d) (flushSegment room e)
     unfolding flushSegment
-    flush-keeps d e h = subst (λ (x : Drawing). Related Same Ended (flushSegment room d) (flushSegment room x)) (h .0) same
+    flush-keeps d e h = rw (← h .0) same
       where
         same : Related Same Ended (flushSegment room d) (flushSegment room d)
         same =
@@ -49,7 +50,7 @@ module _ (P : Drawing → Type 0) (Good : Crossing → Type 0)
 
     push-keeps : (c : Crossing) → Good c → (d e : Drawing) → Same d e → Related Same Ended (pushSegmentPoint room c d) (pushSegmentPoint room c e)
     unfolding pushSegmentPoint
-    push-keeps c good d e h = subst (λ (x : Drawing). Related Same Ended (pushSegmentPoint room c d) (pushSegmentPoint room c x)) (h .0) same
+    push-keeps c good d e h = rw (← h .0) same
       where
         same : Related Same Ended (pushSegmentPoint room c d) (pushSegmentPoint room c d)
         same =

@@ -8,7 +8,7 @@ use Rattle.edges.specs.Events.{sortedEdgeEvents}
 use Rattle.trace.specs.declared.curve.Previous.the-variants.{Nowhere}
 use Rattle.trace.specs.Curve.{Sample, traced}
 use Rattle.trace.specs.Drawing.{Drawing, nothingDrawn, Room, pushSegmentPoint, flushSegment}
-use Rattle.trace.proofs.Agree.{AnyCrossing, any-events}
+use Rattle.trace.proofs.Related.{AnyCrossing, any-events}
 use Rattle.trace.proofs.Keeps.{Holding, traced-keeps}
 
 -- each line, from its start up to the next start or, for the last, to the count of points, has at least two points

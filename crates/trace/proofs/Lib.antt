@@ -4,8 +4,9 @@ pub mod Sampled
 pub mod Checks
 pub mod Related
 pub mod Turns
-pub mod Agree
+pub mod Shown
 pub mod Keeps
+pub mod Agree
 pub mod Drawn
 pub mod Kept
 pub mod Demands

@@ -8,7 +8,7 @@ use lib.Ieee.{Float}
 use Rattle.refusal.specs.declared.Refusal.{Refusal}
 use Rattle.float.specs.Consts.{zero64}
 use Rattle.edges.specs.Param.{lerp, paramInBounds}
-use Rattle.edges.specs.Events.{sortedEdgeEvents}
+use Rattle.edges.specs.Events.{Each, sortedEdgeEvents}
 use Rattle.edges.specs.declared.point.ParamPoint.{ParamPoint}
 use Rattle.edges.specs.declared.event.ParamEdge.{ParamEdge}
 use Rattle.edges.specs.declared.event.EdgeEvent.{EdgeEvent}
@@ -44,13 +44,21 @@ module _ {S T : Type 0} {R : S → T → Type 0} {Q : S → Type 0} where
   test-related true false e p q = absurd (true≢false e)
   test-related false true e p q = absurd (true≢false (sym e))
 
--- each event's points on its side are good
+-- whatever point `edge_point` makes on a side is good
 abbrev pub GoodEdge : List Float → ℕ → ℕ → (Crossing → Type 0) → ParamEdge → Type 0
 GoodEdge g m n Good e = (x : ParamPoint) (c : Crossing) → edgePoint g m n e x ≡ On c → Good c
 
+-- so it is on the side of each event
 abbrev pub GoodEvents : List Float → ℕ → ℕ → (Crossing → Type 0) → List EdgeEvent → Type 0
-GoodEvents g m n Good [] = Unit {0}
-GoodEvents g m n Good (e ∷ es) = GoodEdge g m n Good (e .edge) × GoodEvents g m n Good es
+GoodEvents g m n Good = Each (λ (e : EdgeEvent). GoodEdge g m n Good (e .edge))
+
+-- where nothing is asked of a point, every event will do
+abbrev pub AnyCrossing : Crossing → Type 0
+AnyCrossing c = Unit {0}
+
+pub any-events : (g : List Float) (m n : ℕ) (es : List EdgeEvent) → GoodEvents g m n AnyCrossing es
+any-events g m n [] = tt
+any-events g m n (e ∷ es) = ((λ x c q. tt), any-events g m n es)
 
 module _ {S T : Type 0} (R : S → T → Type 0) (Q : S → Type 0) (Good : Crossing → Type 0)
     (push : Crossing → S → Step S) (flush : S → Step S) (push′ : Crossing → T → Step T) (flush′ : T → Step T)
@@ -63,13 +71,12 @@ module _ {S T : Type 0} (R : S → T → Type 0) (Q : S → Type 0) (Good : Cros
     abbrev Rel : Step S → Step T → Type 0
     Rel = Related R Q
 
-    pushed-related : (e : EdgePoint) → ((c : Crossing) → e ≡ On c → Good c) → (s : S) (t : T) → R s t → Rel (pushed push flush g m n e s) (pushed push′ flush′ g m n e t)
+    pushed-related : (e : EdgePoint) → ((c : Crossing) → e ≡ On c → Good c) → (s : S) (t : T) → R s t → Rel (pushed push e s) (pushed push′ e t)
     pushed-related (On c) good s t r = pushes c (good c refl) s t r
     pushed-related NoStep good s t r = both-off (refusable s t r)
 
-    unless-related : (b : Bool) (s : S) (t : T) → R s t → Rel (flushUnless push flush g m n b s) (flushUnless push′ flush′ g m n b t)
-    unless-related true s t r = both-on r
-    unless-related false s t r = flushes s t r
+    unless-related : (b : Bool) (s : S) (t : T) → R s t → Rel (flushUnless flush b s) (flushUnless flush′ b t)
+    unless-related b s t r = pick-related b (both-on r) (flushes s t r)
 
     crossed-related : (a b : ParamPoint) (previous : Float) (e : EdgeEvent) (next : Float) → GoodEdge g m n Good (e .edge) → (s : S) (t : T) → R s t
         → Rel (crossed push flush g m n a b previous e next s) (crossed push′ flush′ g m n a b previous e next t)
@@ -78,7 +85,7 @@ module _ {S T : Type 0} (R : S → T → Type 0) (Q : S → Type 0) (Good : Cros
         let before = beforeInside m n a b previous (e .lambda) in
         let after = afterInside m n a b (e .lambda) next in
         let x = lerp a b (e .lambda) in
-        follow-related (flushUnless push flush g m n after) (flushUnless push′ flush′ g m n after)
+        follow-related (flushUnless flush after) (flushUnless flush′ after)
         (pick-related (before || after) (pushed-related (edgePoint g m n (e .edge) x) (good x) s t r) (both-on r))
         (unless-related after)
 
@@ -94,7 +101,7 @@ module _ {S T : Type 0} (R : S → T → Type 0) (Q : S → Type 0) (Good : Cros
     append-related : (a b : ParamPoint) (s : S) (t : T) → R s t → Rel (appendEdgeCrossings push flush g m n a b s) (appendEdgeCrossings push′ flush′ g m n a b t)
     unfolding appendEdgeCrossings
     append-related a b s t r =
-        follow-related (flushUnless push flush g m n (paramInBounds m n b)) (flushUnless push′ flush′ g m n (paramInBounds m n b))
+        follow-related (flushUnless flush (paramInBounds m n b)) (flushUnless flush′ (paramInBounds m n b))
         (crossings-related a b zero64 (sortedEdgeEvents m n a b) (events a b) s t r)
         (unless-related (paramInBounds m n b))
 

@@ -1,5 +1,5 @@
 -- One sample by the tests of the code, and one turn of the trace over the samples: those from i on are the one at i and those after it. Assumes nothing.
-use mathlib.Core.Path.{_≡_, refl, sym, ap, _∙_}
+use mathlib.Core.Path.{_≡_, refl, ap, _∙_}
 use mathlib.Core.List.{List, [], _∷_}
 use Prim.Native.Nat.{ℕ, zero, suc, _+_, _*_, _≤_, _<_}
 use native.Mathlib.Numerals.{add-one}
@@ -65,38 +65,37 @@ samples-at (k ∷ ks) (u ∷ (v ∷ ps)) zero z h t = refl
 samples-at (k ∷ ks) (u ∷ (v ∷ ps)) (suc i) z h t =
     let e : 2 * suc i ≡ suc (suc (2 * i)) = omega arith in
     let q : 2 * suc i + 1 ≡ suc (suc (2 * i + 1)) = omega arith in
-    samples-at ks ps i z (omega arith) (omega arith)
-    ∙ ap (λ (n : ℕ). sample (getD ks i 0) (getD (u ∷ (v ∷ ps)) n nan) (getD ps (2 * i + 1) nan)) (sym e)
-    ∙ ap (λ (n : ℕ). sample (getD ks i 0) (getD (u ∷ (v ∷ ps)) (2 * suc i) nan) (getD (u ∷ (v ∷ ps)) n nan)) (sym q)
+    rw (q, e) (samples-at ks ps i z (omega arith) (omega arith))
 
-module _ (g : List Float) (m n : ℕ) (ks : List ℕ) (ps : List Float) (i : ℕ) (h : length ps ≡ 2 * length ks) where
-  pub trace-flushes : (p : Previous) (w : Page) → length ks ≤ i → traced pushPage flushPage g m n (drop i (samplesOf ks ps)) p w ≡ flushPage w
-  unfolding traced
-  trace-flushes p w t =
-      let past : length (samplesOf ks ps) ≤ i = omega (arith, samples-length ks ps h) in
-      ap (λ (xs : List Sample). traced pushPage flushPage g m n xs p w) (drop-of-length-le (samplesOf ks ps) past)
+module _ (g : List Float) (m n : ℕ) (ks : List ℕ) (ps : List Float) where
+  -- what is left of the trace: the samples from i on, with p before them
+  abbrev left : ℕ → Previous → Page → Step Page
+  left i p = traced pushPage flushPage g m n (drop i (samplesOf ks ps)) p
 
-  module _ (p : Previous) (w : Page) (t : i < length ks) {b : ParamPoint} (eb : b ≡ param (getD ps (2 * i) nan) (getD ps (2 * i + 1) nan)) where
-    abbrev pub here : Sample
-    here = sampleAt (getD ks i 0) b
-
-    trace-turn : traced pushPage flushPage g m n (drop i (samplesOf ks ps)) p w
-        ≡ follow (sampled pushPage flushPage g m n p here w) (traced pushPage flushPage g m n (drop (i + 1) (samplesOf ks ps)) (afterSample here))
+  module _ (i : ℕ) (h : length ps ≡ 2 * length ks) where
+    pub trace-flushes : (p : Previous) (w : Page) → length ks ≤ i → left i p w ≡ flushPage w
     unfolding traced
-    trace-turn =
-        let z = sample 0 nan nan in
-        let there : i < length (samplesOf ks ps) = omega (arith, samples-length ks ps h) in
-        let first : drop i (samplesOf ks ps) ≡ here ∷ drop (i + 1) (samplesOf ks ps) = rw (add-one i, drop-cons (samplesOf ks ps) i z there, samples-at ks ps i z h t, eb) in
-        ap (λ (xs : List Sample). traced pushPage flushPage g m n xs p w) first
+    trace-flushes p w t =
+        let past : length (samplesOf ks ps) ≤ i = omega (arith, samples-length ks ps h) in
+        rw (drop-of-length-le (samplesOf ks ps) past)
 
-    module _ {z : Step Page} (ez : z ≡ traced pushPage flushPage g m n (drop i (samplesOf ks ps)) p w)
-        {r : Penned} {a : List Float} {s d : List ℕ} {f : List Float} (u : Pushed (sampled pushPage flushPage g m n p here w) r a s d f)
-      where
+    module _ (p : Previous) (w : Page) (t : i < length ks) {b : ParamPoint} (eb : b ≡ param (getD ps (2 * i) nan) (getD ps (2 * i + 1) nan)) where
+      abbrev here : Sample
+      here = sampleAt (getD ks i 0) b
+
+      trace-turn : left i p w ≡ follow (sampled pushPage flushPage g m n p here w) (left (i + 1) (afterSample here))
+      unfolding traced
+      trace-turn =
+          let z = sample 0 nan nan in
+          let there : i < length (samplesOf ks ps) = omega (arith, samples-length ks ps h) in
+          let first : drop i (samplesOf ks ps) ≡ here ∷ drop (i + 1) (samplesOf ks ps) = rw (add-one i, drop-cons (samplesOf ks ps) i z there, samples-at ks ps i z h t, eb) in
+          rw first
+
+      module _ {z : Step Page} (ez : z ≡ left i p w) {r : Penned} {a : List Float} {s d : List ℕ} {f : List Float} (u : Pushed (sampled pushPage flushPage g m n p here w) r a s d f) where
         -- the trace goes on
-        pub trace-goes : {pen : Pen} {o : Previous} → r ≡ Down pen → o ≡ afterSample here → z ≡ traced pushPage flushPage g m n (drop (i + 1) (samplesOf ks ps)) o (pageOf a s d f pen)
-        trace-goes {pen} er eo =
-            rw eo (ez ∙ trace-turn ∙ down (sampled pushPage flushPage g m n p here w) (traced pushPage flushPage g m n (drop (i + 1) (samplesOf ks ps)) (afterSample here)) u pen er)
+        pub trace-goes : {pen : Pen} {o : Previous} → r ≡ Down pen → o ≡ afterSample here → z ≡ left (i + 1) o (pageOf a s d f pen)
+        trace-goes {pen} er eo = rw eo (ez ∙ trace-turn ∙ down (sampled pushPage flushPage g m n p here w) (left (i + 1) (afterSample here)) u pen er)
 
         -- it is refused
         pub trace-stops : {k : Refusal} → r ≡ Stop k → Pushed z (Stop k) a s d f
-        trace-stops {k} er = stops (sampled pushPage flushPage g m n p here w) (traced pushPage flushPage g m n (drop (i + 1) (samplesOf ks ps)) (afterSample here)) u k (ez ∙ trace-turn) er
+        trace-stops {k} er = stops (sampled pushPage flushPage g m n p here w) (left (i + 1) (afterSample here)) u k (ez ∙ trace-turn) er

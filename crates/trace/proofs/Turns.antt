@@ -1,7 +1,7 @@
 -- Points one after another in a list, w places each: the front of the list is unmoved by a drop, and grows by one point with a write. Over the width w. Assumes nothing.
 use mathlib.Core.Path.{_≡_, refl, sym, ap, _∙_}
 use mathlib.Core.List.{List, [], _∷_, _++_, append-assoc, append-nil}
-use Prim.Native.Nat.{ℕ, zero, suc, _+_, _-_, _*_, _≤_, _<_}
+use Prim.Native.Nat.{ℕ, zero, suc, _+_, _*_, _≤_, _<_}
 use native.Mathlib.Nat.{mul-suc, mul-zero, mul-le-mul-left}
 use native.Mathlib.Numerals.{add-one}
 use native.Mathlib.Omega.{arith}
@@ -21,7 +21,7 @@ unfolding inTurn
 turn-one f c = append-nil (f c)
 
 -- `sets` from a place on, and no further
-pub take-sets : {A : Type 0} (vs l : List A) (i : ℕ) → i + length vs ≤ length l → take (i + length vs) (sets l i vs) ≡ take i l ++ vs
+take-sets : {A : Type 0} (vs l : List A) (i : ℕ) → i + length vs ≤ length l → take (i + length vs) (sets l i vs) ≡ take i l ++ vs
 take-sets vs l i h =
     ap (take (i + length vs)) (sets-eq vs l i h) ∙ take-at (take i l ++ vs) (drop (i + length vs) l) (i + length vs) front
   where
@@ -46,29 +46,22 @@ module _ {A : Type 0} (w : ℕ) (f : Crossing → List A) (wide : (c : Crossing)
   pub holds-front : (l : List A) (cs ds : List Crossing) → Holds w f l (cs ++ ds) → Holds w f l cs
   holds-front l cs ds h =
       let k : w * length cs ≤ w * length (cs ++ ds) = mul-le-mul-left w (simp length-append (omega arith)) in
-      sym (take-take (w * length cs) (w * length (cs ++ ds)) l k)
-      ∙ ap (take (w * length cs)) (h ∙ turn-append f cs ds)
-      ∙ take-at (inTurn f cs) (inTurn f ds) (w * length cs) (length-turn cs)
+      rw (← take-take (w * length cs) (w * length (cs ++ ds)) l k, h, turn-append f cs ds) (take-at (inTurn f cs) (inTurn f ds) (w * length cs) (length-turn cs))
 
   last-turn : (cs : List Crossing) (c : Crossing) → inTurn f (cs ++ (c ∷ [])) ≡ inTurn f cs ++ f c
-  last-turn cs c = turn-append f cs (c ∷ []) ∙ ap (λ (x : List A). inTurn f cs ++ x) (turn-one f c)
+  last-turn cs c = rw (turn-append f cs (c ∷ []), turn-one f c)
 
   -- one point more, written at its place
   pub holds-more : (l : List A) (cs : List Crossing) (c : Crossing) → w * length cs + w ≤ length l → Holds w f l cs → Holds w f (sets l (w * length cs) (f c)) (cs ++ (c ∷ []))
   holds-more l cs c r h =
-      ap (λ (k : ℕ). take k (sets l (w * length cs) (f c))) (one-more w cs c ∙ ap (λ (x : ℕ). w * length cs + x) (sym (wide c)))
-      ∙ take-sets (f c) l (w * length cs) (rw (wide c) r)
-      ∙ ap (λ (x : List A). x ++ f c) h
-      ∙ sym (last-turn cs c)
+      let n : w * length cs + w ≡ w * length cs + length (f c) = rw (wide c) in
+      rw (one-more w cs c, n, last-turn cs c, ← h) (take-sets (f c) l (w * length cs) (rw (wide c) r))
 
   -- a place of the last point
   pub last-at : (l : List A) (cs : List Crossing) (c : Crossing) (i : ℕ) (z : A) → i < w → Holds w f l (cs ++ (c ∷ [])) → getD l (w * length cs + i) z ≡ getD (f c) i z
   last-at l cs c i z k h =
       let below : w * length cs + i < w * length (cs ++ (c ∷ [])) = rw (one-more w cs c) (omega arith) in
-      sym (getD-take (w * length (cs ++ (c ∷ []))) l (w * length cs + i) z below)
-      ∙ ap (λ (x : List A). getD x (w * length cs + i) z) (h ∙ last-turn cs c)
-      ∙ ap (λ (x : ℕ). getD (inTurn f cs ++ f c) (x + i) z) (sym (length-turn cs))
-      ∙ getD-append-add (inTurn f cs) (f c) i z
+      rw (← getD-take (w * length (cs ++ (c ∷ []))) l (w * length cs + i) z below, h, last-turn cs c, ← length-turn cs, getD-append-add (inTurn f cs) (f c) i z)
 
   -- a place of point i
   pub turn-at : (cs : List Crossing) (i j : ℕ) (z : A) (c₀ : Crossing) → i < length cs → j < w → getD (inTurn f cs) (w * i + j) z ≡ getD (f (getD cs i c₀)) j z

@@ -36,6 +36,7 @@ abbrev pub afterSample : Sample → Previous
 afterSample x = cond (eqb (x .mark) 0) Nowhere (At (x .point))
 
 module _ {S : Type 0} (push : Crossing → S → Step S) (flush : S → Step S) (g : List Float) (m n : ℕ) where
+  -- a point, with p before it
   abbrev pub paired : Previous → ParamPoint → S → Step S
   paired (At a) b s = appendEdgeCrossings push flush g m n a b s
   paired Nowhere b s = on s

@@ -13,6 +13,9 @@ ghost use Rattle.crossing.specs.Crossing.{GridFits};
 ghost use Rattle.page.specs.Page.{penAt, pageOf, pushPage, flushPage, Pushed, PenFits};
 ghost use Rattle.trace.specs.Curve.{sampleAt, samplesOf, afterSample, sampled, traced};
 
+// The most candidates of a step: 2 ends, 256 U and 256 V lines, 509 diagonals.
+const MAX_EVENTS: usize = 1023;
+
 // What stands before a sample: a point, or nothing after a break and at the start.
 pub enum Previous {
     At(ParamPoint),
@@ -85,6 +88,7 @@ fn trace_sample(
     }
 }
 
+// All samples in order, from a pen at the start of the lists; what is pending after the last one is flushed.
 // The scratch lists for a step's events are made once: clearing them for each step would cost more than the walk.
 pub fn trace_parametric_edge_curve(
     grid: &[f64],
@@ -103,8 +107,8 @@ pub fn trace_parametric_edge_curve(
         (pageOf (now (points .entry)) (now (starts .entry)) (now (sides .entry)) (now (fractions .entry)) (penAt 0 0 0))) r
         (now (points .exit)) (now (starts .exit)) (now (sides .exit)) (now (fractions .exit)) ⌝ }
 {
-    let mut lambdas = [0.0; 1023];
-    let mut codes = [0u32; 1023];
+    let mut lambdas = [0.0; MAX_EVENTS];
+    let mut codes = [0u32; MAX_EVENTS];
     let mut pen = Pen {
         count: 0,
         start: 0,

@@ -40,6 +40,7 @@ fn sample_fits(mark: u8, u: f64, v: f64) -> bool
     (mark == 0) | (float::sign::at_most(u, MAX_SAMPLE) & float::sign::at_most(v, MAX_SAMPLE))
 }
 
+// Whether every sample fits.
 fn pairs_fit(pairs: &[f64], marks: &[u8]) -> bool
     requires { ⌜ length (now pairs) ≡ 2 * length (now marks) ⌝ }
     ensures { λ r. ⌜ r ≡ pairsFit (now (pairs .entry)) (now (marks .entry)) ⌝ }

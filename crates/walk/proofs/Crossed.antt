@@ -41,45 +41,40 @@ pub after-near : (m n : ℕ) (a b : ParamPoint) (x y : Float) {r : Bool} → lt 
 unfolding afterInside
 after-near m n a b x y h er = rw (er, h)
 
-module _ (g : List Float) (m n : ℕ) where
-  -- ---- a push
+-- ---- a push
 
-  pub pushes : (x : EdgePoint) (w : Page) {e : EdgePoint} {c : Crossing} {r : Penned} {p : List Float} {s d : List ℕ} {f : List Float} →
-      e ≡ x → e ≡ On c → Pushed (pushPage c w) r p s d f → Pushed (pushed pushPage flushPage g m n x w) r p s d f
-  pushes x w ex ec u = rw (← ex, ec) u
+pub pushes : (x : EdgePoint) (w : Page) {e : EdgePoint} {c : Crossing} {r : Penned} {p : List Float} {s d : List ℕ} {f : List Float} →
+    e ≡ x → e ≡ On c → Pushed (pushPage c w) r p s d f → Pushed (pushed pushPage x w) r p s d f
+pushes x w ex ec u = rw (← ex, ec) u
 
-  pub no-step : (x : EdgePoint) (p : List Float) (s d : List ℕ) (f : List Float) (pen : Pen) {e : EdgePoint} →
-      e ≡ x → e ≡ NoStep → Pushed (pushed pushPage flushPage g m n x (pageOf p s d f pen)) (Stop refusals.NoStep) p s d f
-  no-step x p s d f pen ex ec = rw (← ex, ec) (record { answer = refl; points = refl; starts = refl; sides = refl; fractions = refl })
+pub no-step : (x : EdgePoint) (p : List Float) (s d : List ℕ) (f : List Float) (pen : Pen) {e : EdgePoint} →
+    e ≡ x → e ≡ NoStep → Pushed (pushed pushPage x (pageOf p s d f pen)) (Stop refusals.NoStep) p s d f
+no-step x p s d f pen ex ec = rw (← ex, ec) (record { answer = refl; points = refl; starts = refl; sides = refl; fractions = refl })
 
-  -- ---- the event
+-- ---- the event
 
-  pub unless-is : (b : Bool) (w : Page) → flushUnless pushPage flushPage g m n b w ≡ cond b (on w) (flushPage w)
-  unless-is true w = refl
-  unless-is false w = refl
+module _ (g : List Float) (m n : ℕ) (a b : ParamPoint) (previous : Float) (e : EdgeEvent) (next : Float) (w : Page) {before after : Bool}
+    (eb : before ≡ beforeInside m n a b previous (e .lambda)) (ea : after ≡ afterInside m n a b (e .lambda) next)
+  where
+    abbrev point : ParamPoint → Step Page
+    point x = pushed pushPage (edgePoint g m n (e .edge) x) w
 
-  module _ (a b : ParamPoint) (previous : Float) (e : EdgeEvent) (next : Float) (w : Page) {before after : Bool}
-      (eb : before ≡ beforeInside m n a b previous (e .lambda)) (ea : after ≡ afterInside m n a b (e .lambda) next)
-    where
-      abbrev point : ParamPoint → Step Page
-      point x = pushed pushPage flushPage g m n (edgePoint g m n (e .edge) x) w
+    crossed-is : {t : Bool} {x : ParamPoint} → (before || after) ≡ t → x ≡ lerp a b (e .lambda) →
+        crossed pushPage flushPage g m n a b previous e next w ≡ follow (cond t (point x) (on w)) (flushUnless flushPage after)
+    unfolding crossed
+    crossed-is h ex = rw (← h, ex, eb, ea)
 
-      crossed-is : {t : Bool} {x : ParamPoint} → (before || after) ≡ t → x ≡ lerp a b (e .lambda) →
-          crossed pushPage flushPage g m n a b previous e next w ≡ follow (cond t (point x) (on w)) (flushUnless pushPage flushPage g m n after)
-      unfolding crossed
-      crossed-is h ex = rw (← h, ex, eb, ea)
+    -- outside before and after
+    pub passes-by : {r : Penned} {p : List Float} {s d : List ℕ} {f : List Float} → (before || after) ≡ false → Pushed (flushUnless flushPage after w) r p s d f →
+        Pushed (crossed pushPage flushPage g m n a b previous e next w) r p s d f
+    passes-by h u = as-well (crossed-is h refl) u
 
-      -- outside before and after
-      pub passes-by : {r : Penned} {p : List Float} {s d : List ℕ} {f : List Float} → (before || after) ≡ false → Pushed (cond after (on w) (flushPage w)) r p s d f →
-          Pushed (crossed pushPage flushPage g m n a b previous e next w) r p s d f
-      passes-by h u = as-well (crossed-is h refl ∙ unless-is after w) u
+    module _ (h : (before || after) ≡ true) {x : ParamPoint} (ex : x ≡ lerp a b (e .lambda)) {r : Penned} {p : List Float} {s d : List ℕ} {f : List Float} (u : Pushed (point x) r p s d f) where
+      -- the point is pushed
+      pub crosses : {pen : Pen} → r ≡ Down pen → {r' : Penned} {p' : List Float} {s' d' : List ℕ} {f' : List Float} →
+          Pushed (flushUnless flushPage after (pageOf p s d f pen)) r' p' s' d' f' → Pushed (crossed pushPage flushPage g m n a b previous e next w) r' p' s' d' f'
+      crosses {pen} er v = as-well (crossed-is h ex ∙ down (point x) (flushUnless flushPage after) u pen er) v
 
-      module _ (h : (before || after) ≡ true) {x : ParamPoint} (ex : x ≡ lerp a b (e .lambda)) {r : Penned} {p : List Float} {s d : List ℕ} {f : List Float} (u : Pushed (point x) r p s d f) where
-        -- the point is pushed
-        pub crosses : {pen : Pen} → r ≡ Down pen → {r' : Penned} {p' : List Float} {s' d' : List ℕ} {f' : List Float} →
-            Pushed (cond after (on (pageOf p s d f pen)) (flushPage (pageOf p s d f pen))) r' p' s' d' f' → Pushed (crossed pushPage flushPage g m n a b previous e next w) r' p' s' d' f'
-        crosses {pen} er v = as-well (crossed-is h ex ∙ down (point x) (flushUnless pushPage flushPage g m n after) u pen er ∙ unless-is after (pageOf p s d f pen)) v
-
-        -- it is refused
-        pub crosses-refused : {k : Refusal} → r ≡ Stop k → Pushed (crossed pushPage flushPage g m n a b previous e next w) (Stop k) p s d f
-        crosses-refused {k} er = stops (point x) (flushUnless pushPage flushPage g m n after) u k (crossed-is h ex) er
+      -- it is refused
+      pub crosses-refused : {k : Refusal} → r ≡ Stop k → Pushed (crossed pushPage flushPage g m n a b previous e next w) (Stop k) p s d f
+      crosses-refused {k} er = stops (point x) (flushUnless flushPage after) u k (crossed-is h ex) er

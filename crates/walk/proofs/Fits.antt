@@ -1,6 +1,6 @@
 -- `PenFits` holds after each event of a step and after the whole step, which do nothing to a page but push and flush. Assumes nothing.
 use Prim.Native.Nat.{ℕ}
-use mathlib.Core.Bool.{Bool, true, false, _||_, cond}
+use mathlib.Core.Bool.{Bool, _||_, cond}
 use mathlib.Core.List.{List, [], _∷_}
 use lib.Ieee.{Float}
 use Rattle.float.specs.Consts.{zero64}
@@ -16,22 +16,21 @@ use Rattle.page.specs.Page.{Page, pushPage, flushPage}
 use Rattle.page.proofs.Fits.{Fitting, Fits, push-fits, flush-fits, follow-fits, cond-fits}
 use Rattle.walk.specs.Walk.{beforeInside, afterInside, nextLambda, pushed, flushUnless, crossed, crossings, appendEdgeCrossings}
 
+pub pushed-fits : (e : EdgePoint) (s : Page) → Fitting s → Fits (pushed pushPage e s)
+pushed-fits (On c) s h = push-fits c s h
+pushed-fits NoStep s h = tt
+
+unless-fits : (b : Bool) (s : Page) → Fitting s → Fits (flushUnless flushPage b s)
+unless-fits b s h = cond-fits b (on s) (flushPage s) h (flush-fits s h)
+
 module _ (g : List Float) (m n : ℕ) where
-  pub pushed-fits : (e : EdgePoint) (s : Page) → Fitting s → Fits (pushed pushPage flushPage g m n e s)
-  pushed-fits (On c) s h = push-fits c s h
-  pushed-fits NoStep s h = tt
-
-  unless-fits : (b : Bool) (s : Page) → Fitting s → Fits (flushUnless pushPage flushPage g m n b s)
-  unless-fits true s h = h
-  unless-fits false s h = flush-fits s h
-
   pub crossed-fits : (a b : ParamPoint) (previous : Float) (e : EdgeEvent) (next : Float) (s : Page) → Fitting s → Fits (crossed pushPage flushPage g m n a b previous e next s)
   unfolding crossed
   crossed-fits a b previous e next s h =
       let before = beforeInside m n a b previous (e .lambda) in
       let after = afterInside m n a b (e .lambda) next in
-      let point = pushed pushPage flushPage g m n (edgePoint g m n (e .edge) (lerp a b (e .lambda))) s in
-      follow-fits (cond (before || after) point (on s)) (flushUnless pushPage flushPage g m n after)
+      let point = pushed pushPage (edgePoint g m n (e .edge) (lerp a b (e .lambda))) s in
+      follow-fits (cond (before || after) point (on s)) (flushUnless flushPage after)
       (cond-fits (before || after) point (on s) (pushed-fits (edgePoint g m n (e .edge) (lerp a b (e .lambda))) s h) h) (unless-fits after)
 
   pub crossings-fits : (a b : ParamPoint) (previous : Float) (es : List EdgeEvent) (s : Page) → Fitting s → Fits (crossings pushPage flushPage g m n a b previous es s)
@@ -44,5 +43,5 @@ module _ (g : List Float) (m n : ℕ) where
   pub append-fits : (a b : ParamPoint) (s : Page) → Fitting s → Fits (appendEdgeCrossings pushPage flushPage g m n a b s)
   unfolding appendEdgeCrossings
   append-fits a b s h =
-      follow-fits (crossings pushPage flushPage g m n a b zero64 (sortedEdgeEvents m n a b) s) (flushUnless pushPage flushPage g m n (paramInBounds m n b))
+      follow-fits (crossings pushPage flushPage g m n a b zero64 (sortedEdgeEvents m n a b) s) (flushUnless flushPage (paramInBounds m n b))
       (crossings-fits a b zero64 (sortedEdgeEvents m n a b) s h) (unless-fits (paramInBounds m n b))

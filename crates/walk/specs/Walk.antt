@@ -1,6 +1,6 @@
 -- The walk along a step from a sample a to the next, b: "`append_edge_crossings` fixes which events become points". It is over what holds the lines: any state with a way
 -- to push a point and one to flush the pending line. Reference: `append_edge_crossings`. Assumes nothing.
-use mathlib.Core.Bool.{Bool, true, false, _||_, cond}
+use mathlib.Core.Bool.{Bool, _||_, cond}
 use mathlib.Core.List.{List, [], _∷_}
 use Prim.Native.Nat.{ℕ}
 use lib.Ieee.{Float, binary64, ofBits, lt, add, mul}
@@ -38,23 +38,22 @@ abbrev pub nextLambda : List EdgeEvent → Float
 nextLambda [] = one64
 nextLambda (e ∷ es) = e .lambda
 
+-- 11: "`step_index` has no answer for an event's point"
+abbrev pub pushed : {S : Type 0} → (Crossing → S → Step S) → EdgePoint → S → Step S
+pushed push (On c) s = push c s
+pushed push NoStep s = off refusals.NoStep s
+
+-- the line ends where the step leaves the grid
+abbrev pub flushUnless : {S : Type 0} → (S → Step S) → Bool → S → Step S
+flushUnless flush inside s = cond inside (on s) (flush s)
+
 module _ {S : Type 0} (push : Crossing → S → Step S) (flush : S → Step S) (g : List Float) (m n : ℕ) where
-  -- 11: "`step_index` has no answer for an event's point"
-  abbrev pub pushed : EdgePoint → S → Step S
-  pushed (On c) s = push c s
-  pushed NoStep s = off refusals.NoStep s
-
-  -- the line ends where the step leaves the grid
-  abbrev pub flushUnless : Bool → S → Step S
-  flushUnless true s = on s
-  flushUnless false s = flush s
-
   -- one event: its point where the step is inside before or after it
   unfoldable pub crossed : ParamPoint → ParamPoint → Float → EdgeEvent → Float → S → Step S
   crossed a b previous e next s =
       let before = beforeInside m n a b previous (e .lambda) in
       let after = afterInside m n a b (e .lambda) next in
-      follow (cond (before || after) (pushed (edgePoint g m n (e .edge) (lerp a b (e .lambda))) s) (on s)) (flushUnless after)
+      follow (cond (before || after) (pushed push (edgePoint g m n (e .edge) (lerp a b (e .lambda))) s) (on s)) (flushUnless flush after)
 
   -- the events in order, after one at `previous`
   unfoldable pub crossings : ParamPoint → ParamPoint → Float → List EdgeEvent → S → Step S
@@ -63,4 +62,4 @@ module _ {S : Type 0} (push : Crossing → S → Step S) (flush : S → Step S) 
 
   -- `append_edge_crossings`
   unfoldable pub appendEdgeCrossings : ParamPoint → ParamPoint → S → Step S
-  appendEdgeCrossings a b s = follow (crossings a b zero64 (sortedEdgeEvents m n a b) s) (flushUnless (paramInBounds m n b))
+  appendEdgeCrossings a b s = follow (crossings a b zero64 (sortedEdgeEvents m n a b) s) (flushUnless flush (paramInBounds m n b))

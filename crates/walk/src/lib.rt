@@ -83,7 +83,7 @@ fn push_edge_point(
     requires { ⌜ GridFits (now grid) m n ⌝ }
     requires { ⌜ Inside m n edge ⌝ }
     requires { ⌜ PenFits (now points) pen ⌝ }
-    ensures { λ r. ⌜ ((starts : List ℕ) → Pushed (pushed pushPage flushPage (now (grid .entry)) m n (edgePoint (now (grid .entry)) m n edge point)
+    ensures { λ r. ⌜ ((starts : List ℕ) → Pushed (pushed pushPage (edgePoint (now (grid .entry)) m n edge point)
         (pageOf (now (points .entry)) starts (now (sides .entry)) (now (fractions .entry)) pen)) r
         (now (points .exit)) starts (now (sides .exit)) (now (fractions .exit))) ⌝ }
 {

@@ -23,18 +23,21 @@ cross-events-requires c κs =
 flush-unless-requires : tie.Need-flush-unless-requires
 flush-unless-requires c κs =
     let t = c .before .before .before .before .before .before .before .before .before .before .before .before .before in
-    fits-down (t .cross-events .ensures) (c .before .before .before .crossed .given .1) (crossings-fits _ _ _ _ _ _ _ _ (t .before .before .before .before .before .before .before .before .before .before .before .before .before .before .before .before .before .before .before .before .before .pre .1 .1)) .0
+    let s = t .before .before .before .before .before .before .before .before .before .before .before .before .before .before .before .before .before .before .before .before .before in
+    fits-down (t .cross-events .ensures) (c .before .before .before .crossed .given .1) (crossings-fits _ _ _ _ _ _ _ _ (s .pre .1 .1)) .0
 
 returns : tie.Need-returns
 returns c =
     let t = c .before .before .before .before .before .before .before .before .before .before .before .before .before .before .before .before in
-    step-goes _ _ _ _ _ _ (t .before .before .before .before .before .before .before .before .before .before .before .sorted-edge-events .ensures .1) (t .cross-events .ensures) (c .before .before .before .before .before .before .crossed .given .1)
+    let e = t .before .before .before .before .before .before .before .before .before .before .before in
+    step-goes _ _ _ _ _ _ (e .sorted-edge-events .ensures .1) (t .cross-events .ensures) (c .before .before .before .before .before .before .crossed .given .1)
     (c .before .before .before .before .param-in-bounds .ensures) (c .before .before .flush-unless .ensures _ _ _)
 
 returns-2 : tie.Need-returns-2
 returns-2 c =
     let t = c .before .before .before .before .before .before .before .before .before .before .before in
-    step-stops _ _ _ _ _ _ (t .before .before .before .before .before .before .before .before .before .before .before .sorted-edge-events .ensures .1) (t .cross-events .ensures) (c .before .refusal .given .1)
+    let e = t .before .before .before .before .before .before .before .before .before .before .before in
+    step-stops _ _ _ _ _ _ (e .sorted-edge-events .ensures .1) (t .cross-events .ensures) (c .before .refusal .given .1)
 
 pub append-edge-crossings-spec : {M : Type 1} → statement M
 append-edge-crossings-spec =

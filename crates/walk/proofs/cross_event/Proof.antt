@@ -15,7 +15,7 @@ flush-unless-requires c κs =
     let s = t .before .before .before .before .before .before .before .before .before .before .before .before .before in
     let a = s .args in
     fits-down (t .push-edge-point .ensures (now (a .starts))) (c .before .before .pushed .given .1)
-    (pushed-fits (now (a .grid)) (a .m) (a .n) (edgePoint (now (a .grid)) (a .m) (a .n) (a .event .edge) (t .before .lerp .result))
+    (pushed-fits (edgePoint (now (a .grid)) (a .m) (a .n) (a .event .edge) (t .before .lerp .result))
     (pageOf (now (a .points)) (now (a .starts)) (now (a .sides)) (now (a .fractions)) (a .pen)) (s .pre .1 .1)) .0
 
 returns : tie.Need-returns
@@ -23,7 +23,8 @@ returns c =
     let t = c .before .before .before .before .before .before .before .before .before .before .before .before .before in
     let i = t .before .before .before .before .before in
     crosses _ _ _ _ _ _ _ _ _ (i .before .before .before-inside .ensures) (i .before .after-inside .ensures) (i .if1 .taken) (t .before .lerp .ensures)
-    (t .push-edge-point .ensures (now (i .before .before .before .before .before .before .before .before .args .starts))) (c .before .before .before .before .before .pushed .given .1) (c .before .before .flush-unless .ensures _ _ _)
+    (t .push-edge-point .ensures (now (i .before .before .before .before .before .before .before .before .args .starts)))
+    (c .before .before .before .before .before .pushed .given .1) (c .before .before .flush-unless .ensures _ _ _)
 
 returns-2 : tie.Need-returns-2
 returns-2 c =

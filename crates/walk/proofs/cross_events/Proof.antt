@@ -30,16 +30,24 @@ cross-event-requires c κs =
     let e = c .before .before .before .before .before in
     let l = e .before .before in
     let s = l .before .before .before .before .before .before .before .before in
-    let side = event-inside (now (s .args .lambdas)) (now (s .args .codes)) (s .args .count) (l .loop .i) (s .pre .1 .0 .0) (s .pre .1 .0 .1) (s .args .m) (s .args .n) (s .pre .1 .1 .0) (e .before .loop-test .taken) (e .event-at .ensures) in
-    (s .pre .0, (side, l .loop .inv .5))
+    let a = s .args in (
+      s .pre .0,
+      (
+        event-inside (now (a .lambdas)) (now (a .codes)) (a .count) (l .loop .i) (s .pre .1 .0 .0) (s .pre .1 .0 .1) (a .m) (a .n) (s .pre .1 .1 .0)
+            (e .before .loop-test .taken) (e .event-at .ensures),
+        l .loop .inv .5,
+      ),
+    )
 
 returns : tie.Need-returns Inv-loop μ-loop
 returns c =
     let t = c .before .before .before .before .before .before .before .before .before .before .before in
-    let l = t .before .before .before .before .before .before .before .before in
+    let n = t .before .before .before .before .before in
+    let l = n .before .before .before in
     let s = l .before .before .before .before .before .before .before .before in
-    turn-stops (now (s .args .grid)) (s .args .m) (s .args .n) (s .args .a) (s .args .b) (now (s .args .lambdas)) (now (s .args .codes)) (s .args .count) (l .loop .i) (s .pre .1 .0 .0) (s .pre .1 .0 .1)
-    (t .before .before .before .before .before .before .before .loop-test .taken) _ _ (t .before .before .before .before .before .before .event-at .ensures) (t .before .before .before .before .before .lambda-or-one .ensures) (l .loop .inv .6) (t .cross-event .ensures) (c .before .refusal .given .1)
+    let a = s .args in
+    turn-stops (now (a .grid)) (a .m) (a .n) (a .a) (a .b) (now (a .lambdas)) (now (a .codes)) (a .count) (l .loop .i) (s .pre .1 .0 .0) (s .pre .1 .0 .1)
+    (n .before .before .loop-test .taken) _ _ (n .before .event-at .ensures) (n .lambda-or-one .ensures) (l .loop .inv .6) (t .cross-event .ensures) (c .before .refusal .given .1)
 
 add-i : tie.Need-add-i Inv-loop μ-loop
 add-i c =
@@ -49,22 +57,28 @@ add-i c =
 loop-again : tie.Need-loop-again Inv-loop μ-loop
 loop-again c =
     let t = c .before .before .before .before .before .before .before .before .before .before .before in
-    let l = t .before .before .before .before .before .before .before .before in
-    let s = l .before .before .before .before .before .before .before .before in (
-      omega (arith, t .before .before .before .before .before .before .before .loop-test .taken),
+    let n = t .before .before .before .before .before in
+    let l = n .before .before .before in
+    let s = l .before .before .before .before .before .before .before .before in
+    let a = s .args in (
+      omega (arith, n .before .before .loop-test .taken),
       omega (arith, c .before .before .before .before .before .before .before .before .before .before .points .given, l .loop .inv .1),
       omega (arith, c .before .before .before .before .before .before .before .before .starts .given, l .loop .inv .2),
       omega (arith, c .before .before .before .before .before .before .sides .given, l .loop .inv .3),
       omega (arith, c .before .before .before .before .fractions .given, l .loop .inv .4),
       fits-down (t .cross-event .ensures) (c .before .crossed .given .1) (crossed-fits _ _ _ _ _ _ _ _ _ (l .loop .inv .5)),
-      turn-goes (now (s .args .grid)) (s .args .m) (s .args .n) (s .args .a) (s .args .b) (now (s .args .lambdas)) (now (s .args .codes)) (s .args .count) (l .loop .i) (s .pre .1 .0 .0) (s .pre .1 .0 .1)
-          (t .before .before .before .before .before .before .before .loop-test .taken) _ _ (t .before .before .before .before .before .before .event-at .ensures) (t .before .before .before .before .before .lambda-or-one .ensures) (l .loop .inv .6) (t .cross-event .ensures) (c .before .crossed .given .1),
+      turn-goes (now (a .grid)) (a .m) (a .n) (a .a) (a .b) (now (a .lambdas)) (now (a .codes)) (a .count) (l .loop .i) (s .pre .1 .0 .0) (s .pre .1 .0 .1)
+          (n .before .before .loop-test .taken) _ _ (n .before .event-at .ensures) (n .lambda-or-one .ensures) (l .loop .inv .6) (t .cross-event .ensures) (c .before .crossed .given .1),
     )
 
 returns-2 : tie.Need-returns-2 Inv-loop μ-loop
 returns-2 c =
-    let s = c .before .before .before .before .before .before .before .before .before in
-    still _ _ _ _ _ (c .before .loop .inv .6 ∙ walk-ends (now (s .args .grid)) (s .args .m) (s .args .n) (s .args .a) (s .args .b) (now (s .args .lambdas)) (now (s .args .codes)) (s .args .count) (c .before .loop .i) (s .pre .1 .0 .0) (s .pre .1 .0 .1) _ _ (c .loop-test .left))
+    let l = c .before in
+    let s = l .before .before .before .before .before .before .before .before in
+    let a = s .args in
+    still _ _ _ _ _
+    (l .loop .inv .6
+    ∙ walk-ends (now (a .grid)) (a .m) (a .n) (a .a) (a .b) (now (a .lambdas)) (now (a .codes)) (a .count) (l .loop .i) (s .pre .1 .0 .0) (s .pre .1 .0 .1) _ _ (c .loop-test .left))
 
 pub cross-events-spec : {M : Type 1} → statement M
 cross-events-spec =

@@ -1,5 +1,4 @@
 -- `walk::push_edge_point` meets its contract: a side's point is pushed, and where there is none 11 is said. Assumes nothing.
-use denote.Ref.{now}
 use Rattle.walk.proofs.Crossed.{pushes, no-step}
 use borrow.Author.Needs.{needs}
 use Rattle.walk.proofs.push_edge_point.Statement.{statement}
@@ -9,13 +8,10 @@ returns : tie.Need-returns
 returns c s =
     let p = c .before .before .before .before .before .before in
     let e = p .before .before .before .before .before .before .before in
-    let a = e .before .before .before .before .before .args in
-    pushes (now (a .grid)) (a .m) (a .n) _ _ (e .edge-point .ensures) (p .before .before .before .before .before .c .given .1) (p .push-segment-point .ensures s)
+    pushes _ _ (e .edge-point .ensures) (p .before .before .before .before .before .c .given .1) (p .push-segment-point .ensures s)
 
 returns-2 : tie.Need-returns-2
-returns-2 c s =
-    let a = c .before .before .before .before .before .before .before .args in
-    no-step (now (a .grid)) (a .m) (a .n) _ _ s _ _ _ (c .before .before .edge-point .ensures) (c .enum-told .given .1)
+returns-2 c s = no-step _ _ s _ _ _ (c .before .before .edge-point .ensures) (c .enum-told .given .1)
 
 pub push-edge-point-spec : {M : Type 1} → statement M
 push-edge-point-spec =

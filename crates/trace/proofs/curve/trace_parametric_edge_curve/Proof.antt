@@ -33,21 +33,24 @@ trace-sample-requires c κs =
 returns : tie.Need-returns Inv-loop μ-loop
 returns c =
     let t = c .before .before .before .before .before .before .before .before .before .before .before .before .before in
-    let l = t .before .before .before .before .before .before .before .before .before .before in
+    let o = t .before .before .before .before .before .before .before in
+    let l = o .before .before .before in
     let s = l .before .before .before .before .before .before .before .before in
-    trace-stops _ _ _ (now (s .args .marks)) (now (s .args .pairs)) (l .loop .i) (s .pre .1 .0) _ _ (t .before .before .before .before .before .before .before .before .before .loop-test .taken) (t .before .before .before .before .before .before .before .point-of .ensures) (l .loop .inv .8) (t .trace-sample .ensures) (c .before .refusal .given .1)
+    trace-stops _ _ _ (now (s .args .marks)) (now (s .args .pairs)) (l .loop .i) (s .pre .1 .0) _ _ (o .before .before .loop-test .taken) (o .point-of .ensures) (l .loop .inv .8)
+    (t .trace-sample .ensures) (c .before .refusal .given .1)
 
 add-i : tie.Need-add-i Inv-loop μ-loop
 add-i c =
-    let l = c .before .before .before .before .before .before .before .before .before .before .before .before .before .before .before .before .before .before .before .before .before .before .before .before in
-    omega (arith, c .before .before .before .before .before .before .before .before .before .before .before .before .before .before .before .before .before .before .before .before .before .before .before .loop-test .taken, l .before .before .before .before .before .before .before .before .pre .1 .1)
+    let o = c .before .before .before .before .before .before .before .before .before .before .before .before .before .before .before .before .before .before .before .before .before .before .before in
+    omega (arith, o .loop-test .taken, o .before .before .before .before .before .before .before .before .before .pre .1 .1)
 
 loop-again : tie.Need-loop-again Inv-loop μ-loop
 loop-again c =
     let t = c .before .before .before .before .before .before .before .before .before .before .before .before .before .before in
-    let l = t .before .before .before .before .before .before .before .before .before .before in
+    let o = t .before .before .before .before .before .before .before in
+    let l = o .before .before .before in
     let s = l .before .before .before .before .before .before .before .before in (
-      omega (arith, t .before .before .before .before .before .before .before .before .before .loop-test .taken),
+      omega (arith, o .before .before .loop-test .taken),
       omega (arith, c .before .before .before .before .before .before .before .before .before .before .before .points .given, l .loop .inv .1),
       omega (arith, c .before .before .before .before .before .before .before .before .before .starts .given, l .loop .inv .2),
       omega (arith, c .before .before .before .before .before .before .before .sides .given, l .loop .inv .3),
@@ -55,7 +58,8 @@ loop-again c =
       search needs,
       search needs,
       fits-down (t .trace-sample .ensures) (c .before .before .traced .given .1) (sampled-fits _ _ _ _ _ _ (l .loop .inv .7)),
-      trace-goes _ _ _ (now (s .args .marks)) (now (s .args .pairs)) (l .loop .i) (s .pre .1 .0) _ _ (t .before .before .before .before .before .before .before .before .before .loop-test .taken) (t .before .before .before .before .before .before .before .point-of .ensures) (l .loop .inv .8) (t .trace-sample .ensures) (c .before .before .traced .given .1) (c .after-sample .ensures),
+      trace-goes _ _ _ (now (s .args .marks)) (now (s .args .pairs)) (l .loop .i) (s .pre .1 .0) _ _ (o .before .before .loop-test .taken) (o .point-of .ensures) (l .loop .inv .8)
+          (t .trace-sample .ensures) (c .before .before .traced .given .1) (c .after-sample .ensures),
     )
 
 flush-segment-requires : tie.Need-flush-segment-requires Inv-loop μ-loop
@@ -63,8 +67,10 @@ flush-segment-requires c κs = c .before .before .loop .inv .7 .0
 
 returns-2 : tie.Need-returns-2 Inv-loop μ-loop
 returns-2 c =
-    let s = c .before .before .before .before .before .before .before .before .before .before .before .before .before in
-    as-well (c .before .before .before .before .before .loop .inv .8 ∙ trace-flushes _ _ _ (now (s .args .marks)) (now (s .args .pairs)) (c .before .before .before .before .before .loop .i) (s .pre .1 .0) _ _ (c .before .before .before .before .loop-test .left)) (c .before .before .flush-segment .ensures _ _ _)
+    let l = c .before .before .before .before .before in
+    let s = l .before .before .before .before .before .before .before .before in
+    as-well (l .loop .inv .8 ∙ trace-flushes _ _ _ (now (s .args .marks)) (now (s .args .pairs)) (l .loop .i) (s .pre .1 .0) _ _ (c .before .before .before .before .loop-test .left))
+    (c .before .before .flush-segment .ensures _ _ _)
 
 pub trace-parametric-edge-curve-spec : {M : Type 1} → statement M
 trace-parametric-edge-curve-spec =

@@ -10,7 +10,8 @@ returns c = sample-break _ _ _ _ _ _ _ (c .before .before .before .before .if1 .
 returns-2 : tie.Need-returns-2
 returns-2 c =
     let t = c .before .before .before .before .before .before .before .before .before .before .before .before in
-    sample-pair _ _ _ _ _ _ _ (t .before .before .before .before .before .before .before .before .before .before .if1 .left) (t .before .before .before .before .before .before .before .before .previous .given .1) (t .append-edge-crossings .ensures)
+    let a = t .before .before .before .before .before .before .before .before in
+    sample-pair _ _ _ _ _ _ _ (a .before .before .if1 .left) (a .previous .given .1) (t .append-edge-crossings .ensures)
 
 returns-3 : tie.Need-returns-3
 returns-3 c = sample-first _ _ _ _ _ _ _ _ _ _ _ (c .before .before .if1 .left) (c .enum-told .given .1)

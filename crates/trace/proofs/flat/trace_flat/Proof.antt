@@ -2,7 +2,7 @@
 use denote.Ref.{now}
 use Rattle.trace.specs.Trace.{lists}
 use Rattle.trace.proofs.Demands.{demand3}
-use Rattle.trace.proofs.Ended.{passes, refused-before, counted, drawn, refused-within}
+use Rattle.trace.proofs.Ended.{passes, refused-before, counted, zeroed}
 use borrow.Author.Needs.{needs}
 use Rattle.trace.proofs.flat.trace_flat.Statement.{statement}
 use Rattle.trace.proofs.flat.trace_flat.Tie as tie
@@ -11,7 +11,8 @@ returns : tie.Need-returns
 returns c =
     let k = c .before .before .before in
     let a = k .before .before .before .before .before .before .before .before .args in
-    (refused-before (now (a .grid)) (a .m) (a .n) (now (a .pairs)) (now (a .marks)) (lists (now (a .points)) (now (a .starts)) (now (a .sides)) (now (a .fractions))) (k .check-trace .ensures) (c .before .refusal .given .1), demand3 _ _ _)
+    let l = lists (now (a .points)) (now (a .starts)) (now (a .sides)) (now (a .fractions)) in
+    (refused-before (now (a .grid)) (a .m) (a .n) (now (a .pairs)) (now (a .marks)) l (k .check-trace .ensures) (c .before .refusal .given .1), demand3 _ _ _)
 
 trace-parametric-edge-curve-requires : tie.Need-trace-parametric-edge-curve-requires
 trace-parametric-edge-curve-requires c κs =
@@ -23,16 +24,18 @@ zero-past-requires : tie.Need-zero-past-requires
 zero-past-requires c κs =
     let t = c .before .before .before .before .before .before .before .before .before .before .before .before .before .before .before in
     let a = t .before .before .before .before .before .before .before .before .before .before .before .before .before .before .before .args in
-    counted (now (a .grid)) (a .m) (a .n) (now (a .pairs)) (now (a .marks)) (lists (now (a .points)) (now (a .starts)) (now (a .sides)) (now (a .fractions))) (t .trace-parametric-edge-curve .ensures) (c .before .before .before .before .before .pen .given .1)
+    let l = lists (now (a .points)) (now (a .starts)) (now (a .sides)) (now (a .fractions)) in
+    counted (now (a .grid)) (a .m) (a .n) (now (a .pairs)) (now (a .marks)) l (t .trace-parametric-edge-curve .ensures) (c .before .before .before .before .before .pen .given .1)
 
 returns-2 : tie.Need-returns-2
 returns-2 c =
     let t = c .before .before .before .before .before .before .before .before .before .before .before .before .before .before .before .before .before .before .before .before .before .before .before .before in
     let k = t .before .before .before .before .before .before .before in
     let a = k .before .before .before .before .before .before .before .before .args in
+    let l = lists (now (a .points)) (now (a .starts)) (now (a .sides)) (now (a .fractions)) in
     let z = c .before .before .before .before .before .before .before .before .zero-past .ensures in (
-      drawn (now (a .grid)) (a .m) (a .n) (now (a .pairs)) (now (a .marks)) (lists (now (a .points)) (now (a .starts)) (now (a .sides)) (now (a .fractions)))
-          (t .trace-parametric-edge-curve .ensures) (k .check-trace .ensures) (t .before .before .before .before .before .enum-told .given .1) (c .before .before .before .before .before .before .before .before .before .before .before .before .before .before .pen .given .1) (z .0) (z .1) (z .2) (z .3),
+      zeroed (now (a .grid)) (a .m) (a .n) (now (a .pairs)) (now (a .marks)) l (t .trace-parametric-edge-curve .ensures) (k .check-trace .ensures) (t .before .before .before .before .before .enum-told .given .1)
+          (c .before .before .before .before .before .before .before .before .before .before .before .before .before .before .pen .given .1) (z .0) (z .1) (z .2) (z .3),
       demand3 _ _ _,
     )
 
@@ -41,9 +44,10 @@ returns-3 c =
     let t = c .before .before .before .before .before .before .before .before .before .before .before .before .before .before .before .before .before .before .before .before .before .before .before .before in
     let k = t .before .before .before .before .before .before .before in
     let a = k .before .before .before .before .before .before .before .before .args in
+    let l = lists (now (a .points)) (now (a .starts)) (now (a .sides)) (now (a .fractions)) in
     let z = c .before .before .before .before .before .before .before .before .zero-past2 .ensures in (
-      refused-within (now (a .grid)) (a .m) (a .n) (now (a .pairs)) (now (a .marks)) (lists (now (a .points)) (now (a .starts)) (now (a .sides)) (now (a .fractions)))
-          (t .trace-parametric-edge-curve .ensures) (k .check-trace .ensures) (t .before .before .before .before .before .enum-told .given .1) (c .before .before .before .before .before .before .before .before .before .before .before .before .before .before .refusal2 .given .1) (z .0) (z .1) (z .2) (z .3),
+      zeroed (now (a .grid)) (a .m) (a .n) (now (a .pairs)) (now (a .marks)) l (t .trace-parametric-edge-curve .ensures) (k .check-trace .ensures) (t .before .before .before .before .before .enum-told .given .1)
+          (c .before .before .before .before .before .before .before .before .before .before .before .before .before .before .refusal2 .given .1) (z .0) (z .1) (z .2) (z .3),
       demand3 _ _ _,
     )
 

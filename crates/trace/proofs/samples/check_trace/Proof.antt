@@ -1,6 +1,5 @@
 -- `trace::samples::check_trace` meets its contract: proofs/Checks.antt has `traceCheck` by these tests. Assumes nothing.
-use mathlib.Core.Path.{sym, _∙_}
-use borrow.Author.Tests.{not-true, not-false}
+use Rattle.float.proofs.Tests.{held, failed}
 use Rattle.trace.proofs.Checks.{grid-refused, pairs-twice, mark-refused, sample-refused, check-passes}
 use borrow.Author.Needs.{needs}
 use Rattle.trace.proofs.samples.check_trace.Statement.{statement}
@@ -15,7 +14,7 @@ returns-2 : tie.Need-returns-2
 returns-2 c =
     let t = c .before .before in
     let g = t .before .before in
-    mark-refused _ _ _ _ _ (g .before .check-lengths .ensures) (g .check-grid .ensures) (t .enum-told .given .1) (sym (c .before .marks-fit .ensures) ∙ not-true _ (c .if1 .taken))
+    mark-refused _ _ _ _ _ (g .before .check-lengths .ensures) (g .check-grid .ensures) (t .enum-told .given .1) (failed (c .before .marks-fit .ensures) (c .if1 .taken))
 
 pairs-fit-requires : tie.Need-pairs-fit-requires
 pairs-fit-requires c κs =
@@ -29,16 +28,16 @@ returns-3 c =
     let e = c .before .before in
     let t = e .before .before in
     let g = t .before .before in
-    sample-refused _ _ _ _ _ (g .before .check-lengths .ensures) (g .check-grid .ensures) (t .enum-told .given .1) (sym (e .before .marks-fit .ensures) ∙ not-false _ (e .if1 .left))
-    (sym (c .before .pairs-fit .ensures) ∙ not-true _ (c .if2 .taken))
+    sample-refused _ _ _ _ _ (g .before .check-lengths .ensures) (g .check-grid .ensures) (t .enum-told .given .1) (held (e .before .marks-fit .ensures) (e .if1 .left))
+    (failed (c .before .pairs-fit .ensures) (c .if2 .taken))
 
 returns-4 : tie.Need-returns-4
 returns-4 c =
     let e = c .before .before in
     let t = e .before .before in
     let g = t .before .before in
-    check-passes _ _ _ _ _ (g .before .check-lengths .ensures) (g .check-grid .ensures) (t .enum-told .given .1) (sym (e .before .marks-fit .ensures) ∙ not-false _ (e .if1 .left))
-    (sym (c .before .pairs-fit .ensures) ∙ not-false _ (c .if2 .left))
+    check-passes _ _ _ _ _ (g .before .check-lengths .ensures) (g .check-grid .ensures) (t .enum-told .given .1) (held (e .before .marks-fit .ensures) (e .if1 .left))
+    (held (c .before .pairs-fit .ensures) (c .if2 .left))
 
 pub check-trace-spec : {M : Type 1} → statement M
 check-trace-spec =

@@ -1,0 +1,217 @@
+-- A page shows a drawing where the front of each lent list holds the drawing's points, the pending ones last, and the pen has its counts. Each push and each flush leaves it so: a push writes
+-- one point after them, and a flush moves the count where the drawing moves its pending points. Assumes nothing.
+use mathlib.Core.Path.{_≡_, refl, sym, ap, _∙_}
+use mathlib.Core.Logic.{_⊎_, inl, inr}
+use mathlib.Core.Bool.{Bool, true, false, _&&_}
+use mathlib.Core.List.{List, [], _∷_, _++_, append-assoc, append-nil}
+use Prim.Native.Nat.{ℕ, suc, _+_, _-_, _*_, _/_, _≤_, _<_, min}
+use native.Mathlib.Nat.{add-zero}
+use native.Mathlib.Numerals.{add-one}
+use native.Mathlib.Omega.{arith}
+use lib.Dec.{ltb, leb}
+use lib.ListN.{length, take, getD, set, length-append, length-set}
+use lib.Seq.{take-suc-set, sets}
+use lib.Ieee.{Float, nan}
+use borrow.Author.Tests.{ltb-true, ltb-false, lt-ltb, le-ltb, leb-true, leb-false, le-leb, lt-leb}
+use Rattle.float.proofs.Tests.{and-both}
+use Rattle.vector.specs.Vectors.{allClose}
+use Rattle.grid.specs.Grid.{pointAt}
+use Rattle.crossing.specs.declared.Crossing.{Crossing}
+use Rattle.page.specs.Page.{Page, writePoint, writeSide, hasRoom, closeToPending, written, pushPage, kept, dropped, flushPage}
+use Rattle.trace.specs.Drawing.{Drawing, drawing, Room, roomIn, closeToLast, pushSegmentPoint, flushSegment}
+use Rattle.trace.specs.Trace.{pointOf, sideOf, fractionOf, Lists}
+use Rattle.trace.proofs.Related.{Related, both-on, both-off, test-related}
+use Rattle.trace.proofs.Turns.{Holds, holds-front, holds-more, last-at}
+
+-- the lists have the lengths that they were lent with
+pub record Sized (l : Lists) (g : Page) : Type 0 where
+  pub points : length (g .points) ≡ length (l .points)
+  pub starts : length (g .starts) ≡ length (l .starts)
+  pub sides : length (g .sides) ≡ length (l .sides)
+  pub fractions : length (g .fractions) ≡ length (l .fractions)
+
+-- the points that stand in the lists: the kept ones and after them the pending ones
+abbrev pub all : Drawing → List Crossing
+all d = d .drawn ++ d .segment
+
+-- the page shows the drawing
+pub record Shows (l : Lists) (g : Page) (d : Drawing) : Type 0 where
+  pub sized : Sized l g
+  pub start : g .pen .start ≡ length (d .drawn)
+  pub count : g .pen .count ≡ length (d .drawn) + length (d .segment)
+  pub lines : g .pen .lines ≡ length (d .starts)
+  pub points : Holds 3 pointOf (g .points) (all d)
+  pub sides : Holds 2 sideOf (g .sides) (all d)
+  pub fractions : Holds 1 fractionOf (g .fractions) (all d)
+  pub starts : take (length (d .starts)) (g .starts) ≡ d .starts
+
+-- how many points and lines the lent lists can hold
+abbrev pub roomOf : Lists → Room
+roomOf l = roomIn (l .points) (l .starts) (l .sides) (l .fractions)
+
+-- ---- flush
+
+-- two pending points or more, by the pen's counts and by the drawing's
+two-same : (s c a b : ℕ) → s ≡ a → c ≡ a + b → leb (s + 2) c ≡ leb 2 b
+two-same s c a b p q = go (leb 2 b) refl
+  where
+    go : (t : Bool) → leb 2 b ≡ t → leb (s + 2) c ≡ t
+    go true e = le-leb (s + 2) c (omega (arith, leb-true 2 b e))
+    go false e = lt-leb (s + 2) c (omega (arith, leb-false 2 b e))
+
+-- one start more, written at its place
+start-more : (ss l : List ℕ) (x : ℕ) {i y : ℕ} → take (length ss) l ≡ ss → i ≡ length ss → y ≡ x → i < length l → take (length (ss ++ (x ∷ []))) (set l i y) ≡ ss ++ (x ∷ [])
+start-more ss l x {i} {y} h p q k =
+    let j : length ss < length l = omega arith in
+    rw (p, q, length-append, add-one, take-suc-set l (length ss) x, h)
+
+module _ (l : Lists) (g : Page) (d : Drawing) (h : Shows l g d) where
+  -- the pending points stand past the count
+  dropped-shows : Shows l (dropped g) (drawing (d .drawn) (d .starts) [])
+  unfolding dropped
+  dropped-shows =
+      record {
+        sized = record { points = h .sized .points; starts = h .sized .starts; sides = h .sized .sides; fractions = h .sized .fractions };
+        start = h .start;
+        count = h .start ∙ omega arith;
+        lines = h .lines;
+        points = rw append-nil (holds-front 3 pointOf (λ c. refl) (g .points) (d .drawn) (d .segment) (h .points));
+        sides = rw append-nil (holds-front 2 sideOf (λ c. refl) (g .sides) (d .drawn) (d .segment) (h .sides));
+        fractions = rw append-nil (holds-front 1 fractionOf (λ c. refl) (g .fractions) (d .drawn) (d .segment) (h .fractions));
+        starts = h .starts;
+      }
+
+  -- the pending points are kept where they stand
+  kept-shows : g .pen .lines < length (g .starts) → Shows l (kept g) (drawing (all d) (d .starts ++ (length (d .drawn) ∷ [])) [])
+  unfolding kept
+  kept-shows k =
+      record {
+        sized = record { points = h .sized .points; starts = simp length-set (h .sized .starts); sides = h .sized .sides; fractions = h .sized .fractions };
+        start = h .count ∙ sym (length-append (d .drawn) (d .segment));
+        count = h .count ∙ sym (simp length-append (omega arith));
+        lines = rw length-append (omega (arith, h .lines));
+        points = rw append-nil (h .points);
+        sides = rw append-nil (h .sides);
+        fractions = rw append-nil (h .fractions);
+        starts = start-more (d .starts) (g .starts) (length (d .drawn)) (h .starts) (h .lines) (h .start) k;
+      }
+
+  pub flush-related : Related (Shows l) (Sized l) (flushPage g) (flushSegment (roomOf l) d)
+  unfolding flushPage flushSegment
+  flush-related =
+      test-related (leb (g .pen .start + 2) (g .pen .count)) (leb 2 (length (d .segment)))
+      (two-same (g .pen .start) (g .pen .count) (length (d .drawn)) (length (d .segment)) (h .start) (h .count))
+      (λ p. test-related (ltb (g .pen .lines) (length (g .starts))) (ltb (length (d .starts)) (length (l .starts))) (rw (h .lines, h .sized .starts))
+      (λ q. both-on (kept-shows (omega (arith, h .lines, h .sized .starts, ltb-true (length (d .starts)) (length (l .starts)) q))))
+      (λ q. both-off (h .sized)))
+      (λ p. both-on dropped-shows)
+
+-- ---- push
+
+abbrev HasLast : List Crossing → Type 0
+HasLast cs = (ys : List Crossing) × (y : Crossing) × (cs ≡ ys ++ (y ∷ []))
+
+-- a pending line is empty, or has a last point
+last-view : (cs : List Crossing) → (cs ≡ []) ⊎ HasLast cs
+last-view [] = inl refl
+last-view (c ∷ cs) = go (last-view cs)
+  where
+    go : (cs ≡ []) ⊎ HasLast cs → (c ∷ cs ≡ []) ⊎ HasLast (c ∷ cs)
+    go (inl e) = inr ([], c, rw e)
+    go (inr w) = inr (c ∷ w .0, w .1, rw (w .2))
+
+-- closeness to the last point, where that is known
+close-last : (ys : List Crossing) (y c : Crossing) → closeToLast (ys ++ (y ∷ [])) c ≡ allClose (y .point) (c .point)
+close-last [] y c = refl
+close-last (a ∷ []) y c = refl
+close-last (a ∷ (b ∷ ys)) y c = close-last (b ∷ ys) y c
+
+-- the point that stands last in a list is the last point
+last-point : (l : List Float) (cs : List Crossing) (c : Crossing) → Holds 3 pointOf l (cs ++ (c ∷ [])) → pointAt l (length cs) ≡ c .point
+unfolding pointAt
+last-point l cs c h =
+    let x : getD l (3 * length cs) nan ≡ c .point .x = simp add-zero at (last-at 3 pointOf (λ c. refl) l cs c 0 nan (omega arith) h) in
+    let y : getD l (3 * length cs + 1) nan ≡ c .point .y = last-at 3 pointOf (λ c. refl) l cs c 1 nan (omega arith) h in
+    let z : getD l (3 * length cs + 2) nan ≡ c .point .z = last-at 3 pointOf (λ c. refl) l cs c 2 nan (omega arith) h in
+    rw (x, y, z)
+
+-- below the smaller is below both
+ltb-min : (c a b : ℕ) → ltb c (min a b) ≡ ltb c a && ltb c b
+ltb-min c a b = go (ltb c a) (ltb c b) refl refl
+  where
+    go : (s t : Bool) → ltb c a ≡ s → ltb c b ≡ t → ltb c (min a b) ≡ s && t
+    go true true p q = lt-ltb c (min a b) (omega (arith, ltb-true c a p, ltb-true c b q))
+    go true false p q = le-ltb c (min a b) (omega (arith, ltb-false c b q))
+    go false t p q = le-ltb c (min a b) (omega (arith, ltb-false c a p))
+
+-- what the room test says of the lengths
+room-means : (k p s f : ℕ) → ltb k (p / 3) && (ltb k (s / 2) && ltb k f) ≡ true → (3 * k + 3 ≤ p) × (2 * k + 2 ≤ s) × (k + 1 ≤ f)
+room-means k p s f h =
+    let a = and-both (ltb k (p / 3)) (ltb k (s / 2) && ltb k f) h in
+    let b = and-both (ltb k (s / 2)) (ltb k f) (a .1) in
+    (omega (arith, ltb-true k (p / 3) (a .0)), omega (arith, ltb-true k (s / 2) (b .0)), omega (arith, ltb-true k f (b .1)))
+
+-- the writes of one point, as one run of stores
+write-point : (l : List Float) (c : Crossing) {i k : ℕ} → i ≡ k → writePoint l i c ≡ sets l (3 * k) (pointOf c)
+write-point l c {i} {k} e =
+    let e0 : 3 * i ≡ 3 * k = omega arith in
+    let e1 : 3 * i + 1 ≡ suc (3 * k) = omega arith in
+    let e2 : 3 * i + 2 ≡ suc (suc (3 * k)) = omega arith in
+    rw (e2, e1, e0)
+
+write-side : (l : List ℕ) (c : Crossing) {i k : ℕ} → i ≡ k → writeSide l i c ≡ sets l (2 * k) (sideOf c)
+write-side l c {i} {k} e =
+    let e0 : 2 * i ≡ 2 * k = omega arith in
+    let e1 : 2 * i + 1 ≡ suc (2 * k) = omega arith in
+    rw (e1, e0)
+
+write-fraction : (l : List Float) (c : Crossing) {i k : ℕ} → i ≡ k → set l i (c .t) ≡ sets l (1 * k) (fractionOf c)
+write-fraction l c {i} {k} e = let e0 : i ≡ 1 * k = omega arith in rw e0
+
+module _ (l : Lists) (g : Page) (d : Drawing) (h : Shows l g d) (c : Crossing) where
+  -- closeness to the last pending point, by the list and by the drawing
+  close-same : closeToPending c g ≡ closeToLast (d .segment) c
+  close-same = go (last-view (d .segment))
+    where
+      go : (d .segment ≡ []) ⊎ HasLast (d .segment) → closeToPending c g ≡ closeToLast (d .segment) c
+      go (inl e) =
+          let none : g .pen .count ≤ g .pen .start = omega (arith, h .count, h .start, ap length e) in
+          rw (le-ltb (g .pen .start) (g .pen .count) none, e)
+      go (inr w) =
+          let ys = w .0 in
+          let y = w .1 in
+          let more : length (d .segment) ≡ length ys + 1 = ap length (w .2) ∙ length-append ys (y ∷ []) in
+          let some : g .pen .start < g .pen .count = omega (arith, h .count, h .start) in
+          let at : g .pen .count - 1 ≡ length (d .drawn ++ ys) = omega (arith, h .count, length-append (d .drawn) ys) in
+          let last : Holds 3 pointOf (g .points) ((d .drawn ++ ys) ++ (y ∷ [])) = rw append-assoc (rw (w .2) at (h .points)) in
+          rw (lt-ltb (g .pen .start) (g .pen .count) some, at, last-point (g .points) (d .drawn ++ ys) y last, w .2, close-last ys y c)
+
+  -- room for one point more, in each list
+  room-same : hasRoom g ≡ ltb (length (d .drawn) + length (d .segment)) (roomOf l .points)
+  room-same = rw (h .count, h .sized .points, h .sized .sides, h .sized .fractions, ltb-min, ltb-min)
+
+  -- one point more, after the others
+  written-shows : hasRoom g ≡ true → Shows l (written c g) (drawing (d .drawn) (d .starts) (d .segment ++ (c ∷ [])))
+  unfolding written
+  written-shows r =
+      let n : g .pen .count ≡ length (all d) = h .count ∙ sym (length-append (d .drawn) (d .segment)) in
+      let fits = room-means (g .pen .count) (length (g .points)) (length (g .sides)) (length (g .fractions)) r in
+      record {
+        sized = record { points = simp length-set (h .sized .points); starts = h .sized .starts; sides = simp length-set (h .sized .sides); fractions = simp length-set (h .sized .fractions) };
+        start = h .start;
+        count = rw length-append (omega (arith, h .count));
+        lines = h .lines;
+        points = rw (← append-assoc, write-point (g .points) c n) (holds-more 3 pointOf (λ c. refl) (g .points) (all d) c (omega (arith, fits .0)) (h .points));
+        sides = rw (← append-assoc, write-side (g .sides) c n) (holds-more 2 sideOf (λ c. refl) (g .sides) (all d) c (omega (arith, fits .1)) (h .sides));
+        fractions = rw (← append-assoc, write-fraction (g .fractions) c n) (holds-more 1 fractionOf (λ c. refl) (g .fractions) (all d) c (omega (arith, fits .2)) (h .fractions));
+        starts = h .starts;
+      }
+
+  pub push-related : Related (Shows l) (Sized l) (pushPage c g) (pushSegmentPoint (roomOf l) c d)
+  unfolding pushPage pushSegmentPoint
+  push-related =
+      test-related (closeToPending c g) (closeToLast (d .segment) c) close-same
+      (λ p. both-on h)
+      (λ p. test-related (hasRoom g) (ltb (length (d .drawn) + length (d .segment)) (roomOf l .points)) room-same
+      (λ q. both-on (written-shows (room-same ∙ q)))
+      (λ q. both-off (h .sized)))
