@@ -3,10 +3,10 @@
 use Prim.Native.Nat.{ℕ, zero, suc, _+_, _*_, _≤_, _<_}
 use mathlib.Core.Path.{_≡_, refl, sym, ap, _∙_}
 use mathlib.Core.Logic.{_⊎_, inl, inr, ⊎-elim}
-use mathlib.Core.Bool.{Bool, true, _||_, not, true≢false}
+use mathlib.Core.Bool.{Bool, true, not, true≢false}
 use native.Mathlib.Omega.{arith}
 use lib.Arith.{digits-div, digits-mod}
-use Rattle.surface.specs.Surface.{Seam, unjoined, forward, reverse, joined, reversed, inverse, Rule, once, twice, Split, falling, rising, Shape, number, at, EnoughSteps}
+use Rattle.surface.specs.Surface.{Seam, unjoined, forward, reverse, joined, reversed, inverse, Rule, once, twice, Split, falling, rising, Shape, number, at, StepsAround, NoneOfTwo}
 use Rattle.surface.proofs.Covered.{AtZero, Beside, Covered, neither, only-u, only-v, both-u, both-v}
 use Rattle.surface.proofs.Steps.{Fits, Offset, inv-forward, inv-reverse}
 use Rattle.surface.proofs.Strip.{Strip, Kind, straight, across, diagonal}
@@ -112,23 +112,24 @@ pub number-inj : (a : Axis) (s : Shape) (x y x′ y′ : ℕ) → x ≤ columns 
 number-inj axisU s x y x′ y′ h k h′ k′ e = digits-inj x y x′ y′ (s .N + 1) (omega arith) (omega arith) e
 number-inj axisV s x y x′ y′ h k h′ k′ e = let r = digits-inj y x y′ x′ (s .N + 1) (omega arith) (omega arith) e in (r .1, r .0)
 
--- steps both ways, and enough of them
+-- steps both ways, and 2 around wherever a seam joins
 pub record HasSteps (s : Shape) : Type 0 where
   pub u-some : 0 < s .M
   pub v-some : 0 < s .N
-  pub enough : EnoughSteps s
+  pub around : StepsAround 2 s
 
 pub some : (a : Axis) (s : Shape) → HasSteps s → (0 < columns a s) × (0 < rows a s)
 some axisU s h = (h .u-some, h .v-some)
 some axisV s h = (h .v-some, h .u-some)
 
-pub enough-columns : (a : Axis) (s : Shape) → HasSteps s → joined (seamOf a s) ≡ true → 3 ≤ columns a s
-enough-columns axisU s h e = h .enough .0 (rw e)
-enough-columns axisV s h e = h .enough .1 (rw e)
+-- so many steps around, by columns and rows
+pub around-seen : (k : ℕ) (a : Axis) (s : Shape) → StepsAround k s → (joined (seamOf a s) ≡ true → k ≤ columns a s) × (joined (closing a s) ≡ true → k ≤ rows a s)
+around-seen k axisU s h = h
+around-seen k axisV s h = (h .1, h .0)
 
-pub enough-rows : (a : Axis) (s : Shape) → HasSteps s → (joined (closing a s) || reversed (seamOf a s)) ≡ true → 3 ≤ rows a s
-enough-rows axisU s h e = h .enough .1 e
-enough-rows axisV s h e = h .enough .0 e
+pub none-seen : (a : Axis) (s : Shape) → NoneOfTwo s → reversed (seamOf a s) ≡ true → rows a s ≡ 2 → ⊥
+none-seen axisU s h = h .0
+none-seen axisV s h = h .1
 
 -- the strip that a shape is, seen along an axis
 unfoldable pub strip : (s : Shape) → HasSteps s → (a : Axis) → SeenAlong a s → Strip
@@ -142,8 +143,8 @@ strip s h a w =
       num = λ x y. number s (at (xOf a x y) (yOf a x y));
       X>0 = some a s h .0;
       Y>0 = some a s h .1;
-      X≥3 = enough-columns a s h;
-      Y≥3 = enough-rows a s h;
+      X≥2 = around-seen 2 a s (h .around) .0;
+      Y≥2 = around-seen 2 a s (h .around) .1;
       fits = w .fits;
       inj = number-inj a s;
       half = sideHalf a (s .split);

@@ -1,4 +1,4 @@
--- Demand 3 for every covered joining with enough steps. Seen along one of its seams the surface is a strip, in which all is said of
+-- Demand 3 for every covered joining. Seen along one of its seams the surface is a strip, in which all is said of
 -- halves of cells (Owners, Directions); what is left is to say it of triangle numbers, which are the slots' since no triangle is left out.
 -- Assumes nothing.
 use Prim.Native.Nat.{ℕ, _+_, _-_, _*_, _≤_, _<_}
@@ -10,14 +10,14 @@ use native.Mathlib.Omega.{arith}
 use lib.Arith.{digits-div, digits-mod}
 use lib.ListN.{length}
 use borrow.Author.Tests.{ne-eqb}
-use Rattle.surface.specs.Surface.{Seam, unjoined, forward, reverse, reversed, Shape, J, Triangle, slot, proper, slots, triangles, Pair, pair, ordered, triangleNumber, stepOn, process, flipped, Follows, nth, Owns, OwnedOnce, OwnedTwice, Rim, SameWay, GridEdge, along-u, along-v, number, at, Jₙ, Meets, falls, rises}
+use Rattle.surface.specs.Surface.{Seam, unjoined, forward, reverse, reversed, Shape, J, Triangle, slot, proper, slots, triangles, Pair, pair, ordered, triangleNumber, stepOn, process, flipped, Follows, nth, Owns, OwnedOnce, OwnedTwice, Rim, SameWay, GridEdge, along-u, along-v, number, at, Jₙ, StepsAround, NoneOfTwo, Meets, falls, rises}
 use Rattle.surface.proofs.Covered.{Covered}
 use Rattle.surface.proofs.Steps.{lt-or-le, Fits, laidOn, on-below}
-use Rattle.surface.proofs.Strip.{Strip, straight, reversed≥3}
+use Rattle.surface.proofs.Strip.{Strip, ThreeAround, reversed-joined, straight}
 use Rattle.surface.proofs.CellSides.{Cell}
 use Rattle.surface.proofs.Owners.{Holds, SameTri, Other, owned}
 use Rattle.surface.proofs.Directions.{Runs, Turn, runs-holds, holds-flip, holds-runs, runs-differ, same-way, turn-shared}
-use Rattle.surface.proofs.Axes.{Axis, xOf, yOf, turn-x, turn-y, SeenAlong, HasSteps, strip, covered-along}
+use Rattle.surface.proofs.Axes.{Axis, xOf, yOf, turn-x, turn-y, SeenAlong, HasSteps, around-seen, none-seen, strip, covered-along}
 use Rattle.surface.proofs.Seen.{to-runs, from-runs, seen-cell, rim-seen, seen-rim, edge-seen, lows, highs, low-index, high-index, flipped-seen}
 use Rattle.surface.proofs.Triangles.{index, halfAt, uAt, vAt, slot-at, uAt-lt, vAt-lt, index-at, index-lt, uAt-index, vAt-index, halfAt-index, kept-length, kept-at}
 use Rattle.surface.proofs.Pairs.{step-on, pair-eq, mem-in, AllLaid, process-to, process-from}
@@ -26,7 +26,7 @@ pub proper-of : (t : Triangle) → (t .a ≡ t .b → ⊥) → (t .a ≡ t .c �
 proper-of t p q r = rw (ne-eqb (t .a) (t .b) p, ne-eqb (t .a) (t .c) q, ne-eqb (t .b) (t .c) r)
 
 -- `process_flipped` finds the step that a reversed seam lays a step on
-reversed-step : (m : Seam) (c : Bool) (n y : ℕ) → 3 ≤ n → Fits m c n → reversed m ≡ true → y < n → stepOn m n y ≡ laidOn m n y
+reversed-step : (m : Seam) (c : Bool) (n y : ℕ) → (n ≡ 2 → ⊥) → Fits m c n → reversed m ≡ true → y < n → stepOn m n y ≡ laidOn m n y
 reversed-step (reverse o) c n y h f e k = step-on o c n y h f k
 reversed-step unjoined c n y h f e k = cc
 reversed-step (forward o) c n y h f e k = cc
@@ -178,12 +178,16 @@ module _ (s : Shape) (steps : HasSteps s) (ax : Axis) (seen : SeenAlong ax s) wh
       out-of-order h =
           record { first = j; second = i; apart = omega (arith, differ); owns-first = o₂; owns-second = o; only = λ k q. ⊎-elim (λ e. inr e) (λ e. inl e) (either k q) }
 
-  sides : (a b i : ℕ) → Owns (triangles s) a b i → (Rim s a b × OwnedOnce (triangles s) a b) ⊎ ((Rim s a b → ⊥) × OwnedTwice (triangles s) a b)
-  sides a b i o =
+  three : StepsAround 3 s → ThreeAround S
+  unfolding strip
+  three around = around-seen 3 ax s around
+
+  sides : StepsAround 3 s → (a b i : ℕ) → Owns (triangles s) a b i → (Rim s a b × OwnedOnce (triangles s) a b) ⊎ ((Rim s a b → ⊥) × OwnedTwice (triangles s) a b)
+  sides around a b i o =
       ⊎-elim
       (λ w. inl (seen-rim s steps ax seen a b (w .0), owned-once a b i o (w .1)))
       (λ w. inr (λ r. w .0 (rim-seen s steps ax seen a b r), owned-twice a b i o (w .1)))
-      (owned S (owns-holds a b i o))
+      (owned S (three around) (owns-holds a b i o))
 
   -- each grid edge is a side of a cell, and so of one of its halves
   edges : (u v u′ v′ : ℕ) → GridEdge s u v u′ v′ → (i : ℕ) × Owns (triangles s) (J s u v) (J s u′ v′) i
@@ -234,10 +238,11 @@ module _ (s : Shape) (steps : HasSteps s) (ax : Axis) (seen : SeenAlong ax s) wh
   slot-listed : (i : ℕ) → i < slots s → (proper (slot s i) ≡ true) × (triangleNumber s i ≡ i)
   slot-listed i h = (slot-proper i h, number-is i h)
 
-  laid : reversed (S .seam) ≡ true → AllLaid s (S .seam) (S .Y) (lows ax s) (highs ax s) on
-  laid e =
+  laid : NoneOfTwo s → reversed (S .seam) ≡ true → AllLaid s (S .seam) (S .Y) (lows ax s) (highs ax s) on
+  unfolding strip
+  laid none e =
       record {
-        on-is = λ y h. reversed-step (S .seam) (S .closed) (S .Y) y (reversed≥3 S e .1) (S .fits) e h;
+        on-is = λ y h. reversed-step (S .seam) (S .closed) (S .Y) y (none-seen ax s none e) (S .fits) e h;
         on-lt = on-lt;
         low-proper = λ y h. slot-listed (lows ax s y) (omega (arith, low-is y, indexOf-lt low-half 0 y (low-cell y h)));
         high-proper = λ y h. slot-listed (highs ax s y) (omega (arith, high-is far y far-is, indexOf-lt high-half far y (high-cell y h)));
@@ -264,18 +269,18 @@ module _ (s : Shape) (steps : HasSteps s) (ax : Axis) (seen : SeenAlong ax s) wh
   turn-high i j t = is-indexOf j high-half (xAt j) (yAt j) (t .high-half, refl, refl) ∙ sym (high-is (xAt j) (yAt j) (t .high-x))
 
   -- and their pair is in the list
-  turn-listed : (i j : ℕ) → TurnAt i j → List·Memᴰ (ordered i j) (flipped s)
-  turn-listed i j t =
+  turn-listed : NoneOfTwo s → (i j : ℕ) → TurnAt i j → List·Memᴰ (ordered i j) (flipped s)
+  turn-listed none i j t =
       mem-in (sym (flipped-reversed (t .rev)))
-      (Memᴰ·cast (cc (turn-low i j t, turn-high i j t)) (process-from (laid (t .rev)) (S .Y) (omega arith) (yAt j) (t .below)))
+      (Memᴰ·cast (cc (turn-low i j t, turn-high i j t)) (process-from (laid none (t .rev)) (S .Y) (omega arith) (yAt j) (t .below)))
 
   -- two triangles that run the same way are at a turn, and so a listed pair
-  way-flipped : (i j : ℕ) → i < j → SameWay (triangles s) i j → List·Memᴰ (pair i j) (flipped s)
-  way-flipped i j h w =
+  way-flipped : StepsAround 3 s → NoneOfTwo s → (i j : ℕ) → i < j → SameWay (triangles s) i j → List·Memᴰ (pair i j) (flipped s)
+  way-flipped around none i j h w =
       ⊎-elim
-      (λ t. Memᴰ·cast (pair-eq (pair i j) (ordered i j) (omega arith) (omega arith)) (turn-listed i j t))
-      (λ t. Memᴰ·cast (pair-eq (pair i j) (ordered j i) (omega arith) (omega arith)) (turn-listed j i t))
-      (same-way S (nth-runs i (w .there-i) (w .along-i)) (nth-runs j (w .there-j) (w .along-j)) (λ e. omega (arith, same-index i j e)))
+      (λ t. Memᴰ·cast (pair-eq (pair i j) (ordered i j) (omega arith) (omega arith)) (turn-listed none i j t))
+      (λ t. Memᴰ·cast (pair-eq (pair i j) (ordered j i) (omega arith) (omega arith)) (turn-listed none j i t))
+      (same-way S (three around) (nth-runs i (w .there-i) (w .along-i)) (nth-runs j (w .there-j) (w .along-j)) (λ e. omega (arith, same-index i j e)))
 
   way-swap : (i j : ℕ) → SameWay (triangles s) i j → SameWay (triangles s) j i
   way-swap i j w = record { there-i = w .there-j; there-j = w .there-i; a = w .a; b = w .b; along-i = w .along-j; along-j = w .along-i }
@@ -300,7 +305,7 @@ module _ (s : Shape) (steps : HasSteps s) (ax : Axis) (seen : SeenAlong ax s) wh
   step-apart : (y : ℕ) → y < S .Y → reversed (S .seam) ≡ true → indexOf low-half 0 (on y) ≡ indexOf high-half far y → ⊥
   step-apart y h r e =
       let first : 0 ≡ far = sym (x-indexOf low-half 0 (on y) (low-cell (on y) (on-lt y h))) ∙ ap xAt e ∙ x-indexOf high-half far y (high-cell y h) in
-      omega (arith, far-is, reversed≥3 S r .0)
+      omega (arith, far-is, S .X≥2 (reversed-joined (S .seam) r))
 
   ordered-way : (p : Pair) (i j : ℕ) → p ≡ ordered i j → (i ≡ j → ⊥) → SameWay (triangles s) i j → (p .low < p .high) × SameWay (triangles s) (p .low) (p .high)
   ordered-way p i j e d w =
@@ -313,22 +318,32 @@ module _ (s : Shape) (steps : HasSteps s) (ax : Axis) (seen : SeenAlong ax s) wh
       at p q w = rw (p, q) w
 
   -- so a listed pair, which is that of a step, runs the same way
-  flipped-way : (p : Pair) → List·Memᴰ p (flipped s) → (p .low < p .high) × SameWay (triangles s) (p .low) (p .high)
-  flipped-way p q = go (reversed (S .seam)) refl
+  flipped-way : NoneOfTwo s → (p : Pair) → List·Memᴰ p (flipped s) → (p .low < p .high) × SameWay (triangles s) (p .low) (p .high)
+  flipped-way none p q = go (reversed (S .seam)) refl
     where
       go : (t : Bool) → reversed (S .seam) ≡ t → (p .low < p .high) × SameWay (triangles s) (p .low) (p .high)
       go false e = absurd (List·Memᴰ·not-nil (mem-in (flipped-none e) q))
       go true e =
-          let t = process-to (laid e) (S .Y) (omega arith) p (mem-in (flipped-reversed e) q) in
+          let t = process-to (laid none e) (S .Y) (omega arith) p (mem-in (flipped-reversed e) q) in
           let y = t .0 in
           let f : p ≡ ordered (indexOf low-half 0 (on y)) (indexOf high-half far y) = t .2 ∙ cc (low-is (on y), high-is far y far-is) in
           ordered-way p (indexOf low-half 0 (on y)) (indexOf high-half far y) f (step-apart y (t .1) e) (step-way y (t .1) e)
 
-  pub meets : Meets s
-  meets = record { sides = sides; flipped-if = way-flipped; flipped-only-if = flipped-way; edges = edges }
+pub covered-meets : (s : Shape) → 0 < s .M → 0 < s .N → Covered s → Meets s
+covered-meets s hm hn c =
+    let w = covered-along s c in
+    record {
+      sides = λ around. sides s (steps (two around)) (w .0) (w .1) around;
+      flipped-if = λ around none. way-flipped s (steps (two around)) (w .0) (w .1) around none;
+      flipped-only-if = λ around none. flipped-way s (steps (two around)) (w .0) (w .1) none;
+      edges = λ around. edges s (steps around) (w .0) (w .1);
+    }
+  where
+    steps : StepsAround 2 s → HasSteps s
+    steps around = record { u-some = hm; v-some = hn; around = around }
 
-pub covered-meets : (s : Shape) → HasSteps s → Covered s → Meets s
-covered-meets s steps c = let w = covered-along s c in meets s steps (w .0) (w .1)
+    two : StepsAround 3 s → StepsAround 2 s
+    two around = (λ e. let h = around .0 e in omega arith, λ e. let h = around .1 e in omega arith)
 
 -- J of a point by its number
 J-number : (s : Shape) (u v : ℕ) → v ≤ s .N → Jₙ s (u * (s .N + 1) + v) ≡ J s u v
@@ -346,9 +361,9 @@ pub record EdgeNumbers (s : Shape) (p q : ℕ) : Type 0 where
   pub q-is : q ≡ number s (at u′ v′)
 
 -- what a trace records: J of the two numbers are the ends of a side
-pub traced : (s : Shape) → Meets s → (p q : ℕ) → EdgeNumbers s p q → (i : ℕ) × Owns (triangles s) (Jₙ s p) (Jₙ s q) i
-traced s m p q e =
-    let r = m .edges (e .u) (e .v) (e .u′) (e .v′) (e .edge) in
+pub traced : (s : Shape) → Meets s → StepsAround 2 s → (p q : ℕ) → EdgeNumbers s p q → (i : ℕ) × Owns (triangles s) (Jₙ s p) (Jₙ s q) i
+traced s m around p q e =
+    let r = m .edges around (e .u) (e .v) (e .u′) (e .v′) (e .edge) in
     let b = bounds (e .u) (e .v) (e .u′) (e .v′) (e .edge) in
     let jp : Jₙ s p ≡ J s (e .u) (e .v) = ap (Jₙ s) (e .p-is) ∙ J-number s (e .u) (e .v) (b .0) in
     let jq : Jₙ s q ≡ J s (e .u′) (e .v′) = ap (Jₙ s) (e .q-is) ∙ J-number s (e .u′) (e .v′) (b .1) in

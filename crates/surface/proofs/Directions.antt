@@ -10,7 +10,7 @@ use borrow.Author.Tests.{eqb-true, eq-eqb}
 use Rattle.surface.specs.Surface.{reversed, Same}
 use Rattle.float.proofs.Tests.{and-both}
 use Rattle.surface.proofs.Steps.{laidOn, on-below}
-use Rattle.surface.proofs.Strip.{Strip, reversed-joined, Kind, straight, across, diagonal, nameFrom, nameTo, fromY, toX, toY, Valid, x-le, toX-le, fromY-le, toY-le, turned, colOf, stepAt, col-ne, next-ne}
+use Rattle.surface.proofs.Strip.{Strip, ThreeAround, reversed-joined, Kind, straight, across, diagonal, nameFrom, nameTo, fromY, toX, toY, Valid, x-le, toX-le, fromY-le, toY-le, turned, colOf, stepAt, col-ne, next-ne}
 use Rattle.surface.proofs.CellSides.{Cell, sideFrom, sideTo, nameX, nameY, turnedAt, valid, named, far-col, far-step}
 use Rattle.surface.proofs.Owners.{not-self, SideAt, side-flip, Holds, firstEnd, lastEnd, name-ends, compare, SameTri, Opposite}
 
@@ -154,13 +154,13 @@ module _ (S : Strip) where
       off = refl
 
   -- two triangles that run along a side the same way are at a turn
-  pub same-way : {h h′ : Bool} {x y x′ y′ a b : ℕ} → Runs h x y a b → Runs h′ x′ y′ a b → (SameTri S h x y h′ x′ y′ → ⊥) →
+  pub same-way : ThreeAround S → {h h′ : Bool} {x y x′ y′ a b : ℕ} → Runs h x y a b → Runs h′ x′ y′ a b → (SameTri S h x y h′ x′ y′ → ⊥) →
       Turn h x y h′ x′ y′ ⊎ Turn h′ x′ y′ h x y
-  same-way {h} {h′} {x} {y} {x′} {y′} p q n =
+  same-way three {h} {h′} {x} {y} {x′} {y′} p q n =
       ⊎-elim
       (λ w. absurd (n (cc (w .0, w .1, q .on, p .on), w .2, w .3)))
       (λ o. go o (begins p) (begins q))
-      (compare S (sideOf p) (sideOf q))
+      (compare S three (sideOf p) (sideOf q))
     where
       swap : Opposite S (sideOf p) (sideOf q) → Opposite S (sideOf q) (sideOf p)
       swap o =

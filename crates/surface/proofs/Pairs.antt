@@ -26,7 +26,7 @@ both-eq : (a b c d : ℕ) → a ≡ b → c ≡ d → (eqb a b && eqb c d) ≡ t
 both-eq a b c d p q = rw (eq-eqb a b p, eq-eqb c d q)
 
 -- the lower of two indices that follow each other, and of a row's two ends
-lower-up : (n a : ℕ) → 3 ≤ n → wrapEnds n (a + 1) a ≡ a
+lower-up : (n a : ℕ) → (n ≡ 2 → ⊥) → wrapEnds n (a + 1) a ≡ a
 lower-up n a h =
     rw (
       both-ne (a + 1 + 1) n a 0 (λ p q. omega arith),
@@ -35,19 +35,16 @@ lower-up n a h =
       eq-eqb (a + 1) (a + 1) refl,
     )
 
-lower-end : (n a : ℕ) → 3 ≤ n → a + 1 ≡ n → wrapEnds n 0 a ≡ a
-lower-end n a h e =
-    rw (
-      both-ne (0 + 1) n a 0 (λ p q. omega arith),
-      both-eq (a + 1) n 0 0 e refl,
-    )
+lower-end : (n a : ℕ) → a + 1 ≡ n → wrapEnds n 0 a ≡ a
+lower-end n zero e = rw (both-eq (0 + 1) n 0 0 e refl)
+lower-end n (suc a) e = rw (both-ne (0 + 1) n (suc a) 0 (λ p q. omega arith), both-eq (suc a + 1) n 0 0 e refl)
 
-lower : (c : Bool) (n i j a : ℕ) → 3 ≤ n → j ≡ a → Meet c n i (a + 1) → wrapEnds n i j ≡ a
+lower : (c : Bool) (n i j a : ℕ) → (n ≡ 2 → ⊥) → j ≡ a → Meet c n i (a + 1) → wrapEnds n i j ≡ a
 lower c n i j a h p (inl w) = rw (p, w) (lower-up n a h)
-lower c n i j a h p (inr w) = rw (p, w .1) (lower-end n a h (w .2))
+lower c n i j a h p (inr w) = rw (p, w .1) (lower-end n a (w .2))
 
 -- a reversed seam's step, as process_flipped finds it
-pub step-on : (o : ℕ) (c : Bool) (n y : ℕ) → 3 ≤ n → Offset o c n → y < n → stepOn (reverse o) n y ≡ laidOn (reverse o) n y
+pub step-on : (o : ℕ) (c : Bool) (n y : ℕ) → (n ≡ 2 → ⊥) → Offset o c n → y < n → stepOn (reverse o) n y ≡ laidOn (reverse o) n y
 unfolding stepOn
 step-on o c n y h f k = let r = reverse-step o c n y f k in lower c n _ _ _ h (r .0) (r .1)
 

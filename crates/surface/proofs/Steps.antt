@@ -66,8 +66,8 @@ wrap-wrap false n i h = wrap-open n (wrap false n i)
 wrap-wrap true n i h =
     ⊎-elim (λ w. wrap-below true n (wrap true n i) (omega arith)) (λ w. ap (wrap true n) (w .0)) (wrap-closed n i)
 
--- one step on is not where it was, and two steps are not back, if a closed row has 3 steps; and steps end apart that start apart
-pub step-ne : (c : Bool) (n i : ℕ) → (c ≡ true → 3 ≤ n) → i < n → wrap c n (i + 1) ≡ i → ⊥
+-- one step on is not where it was, if a closed row has 2 steps, and two steps are not back, if it has 3; and steps end apart that start apart
+pub step-ne : (c : Bool) (n i : ℕ) → (c ≡ true → 2 ≤ n) → i < n → wrap c n (i + 1) ≡ i → ⊥
 step-ne true n i h k e = let t = h refl in ⊎-elim (λ w. omega arith) (λ w. omega arith) (wrap-two true n (i + 1))
 step-ne false n i h k e = omega (arith, wrap-open n (i + 1))
 

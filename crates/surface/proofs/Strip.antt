@@ -4,7 +4,7 @@
 use Prim.Native.Nat.{ℕ, _+_, _≤_, _<_}
 use mathlib.Core.Path.{_≡_, refl, sym, _∙_}
 use mathlib.Core.Logic.{_⊎_, inl, inr, ⊎-elim}
-use mathlib.Core.Bool.{Bool, true, false, _&&_, _||_, not, cond, and-false, or-true}
+use mathlib.Core.Bool.{Bool, true, false, _&&_, not, cond, and-false}
 use native.Mathlib.Omega.{arith}
 use lib.Dec.{eqb}
 use borrow.Author.Tests.{ne-eqb}
@@ -28,9 +28,9 @@ pub record Strip : Type 0 where
   pub num : ℕ → ℕ → ℕ
   pub X>0 : 0 < X
   pub Y>0 : 0 < Y
-  -- enough steps around, and along a seam that is reversed
-  pub X≥3 : joined seam ≡ true → 3 ≤ X
-  pub Y≥3 : (closed || reversed seam) ≡ true → 3 ≤ Y
+  -- no cell meets itself
+  pub X≥2 : joined seam ≡ true → 2 ≤ X
+  pub Y≥2 : closed ≡ true → 2 ≤ Y
   pub fits : Fits seam closed Y
   pub inj : (x y x′ y′ : ℕ) → x ≤ X → y ≤ Y → x′ ≤ X → y′ ≤ Y → num x y ≡ num x′ y′ → (x ≡ x′) × (y ≡ y′)
   -- which half of its cell has the low (false) or high (true) side of a kind; a diagonal is a side of both
@@ -39,6 +39,10 @@ pub record Strip : Type 0 where
   -- whether that half runs along it from its first end to its second; the half beyond the side runs the other way
   pub dir : Kind → Bool → Bool
   pub dir-not : (k : Kind) (t : Bool) → dir k (not t) ≡ not (dir k t)
+
+-- no two cells lie between the same points
+abbrev pub ThreeAround : Strip → Type 0
+ThreeAround S = (joined (S .seam) ≡ true → 3 ≤ S .X) × (S .closed ≡ true → 3 ≤ S .Y)
 
 pub reversed-joined : (m : Seam) → reversed m ≡ true → joined m ≡ true
 reversed-joined unjoined e = e
@@ -117,20 +121,13 @@ module _ (S : Strip) where
 
   -- ---- no step ends where it starts, and no two go there and back
 
-  closed≥3 : closed ≡ true → 3 ≤ Y
-  closed≥3 e = S .Y≥3 (rw e)
-
-  -- a reversed seam joins the last column to the first, and has enough steps
-  pub reversed≥3 : reversed seam ≡ true → (3 ≤ X) × (3 ≤ Y)
-  reversed≥3 e = (S .X≥3 (reversed-joined seam e), S .Y≥3 (rw e (or-true closed)))
-
   pub next-ne : (y : ℕ) → y < Y → next S y ≡ y → ⊥
   unfolding next
-  next-ne y h = step-ne closed Y y closed≥3 h
+  next-ne y h = step-ne closed Y y (S .Y≥2) h
 
-  next-two : (y z : ℕ) → y < Y → z < Y → next S y ≡ z → next S z ≡ y → ⊥
+  next-two : ThreeAround S → (y z : ℕ) → y < Y → z < Y → next S y ≡ z → next S z ≡ y → ⊥
   unfolding next
-  next-two y z h k = step-two closed Y y z closed≥3 h k
+  next-two w y z h k = step-two closed Y y z (w .1) h k
 
   pub next-inj : (y z : ℕ) → y < Y → z < Y → next S y ≡ next S z → y ≡ z
   unfolding next
@@ -138,11 +135,11 @@ module _ (S : Strip) where
 
   pub col-ne : (x : ℕ) → x < X → colOf S (x + 1) ≡ x → ⊥
   unfolding colOf
-  col-ne x h = step-ne (joined seam) X x (S .X≥3) h
+  col-ne x h = step-ne (joined seam) X x (S .X≥2) h
 
-  col-two : (x z : ℕ) → x < X → z < X → colOf S (x + 1) ≡ z → colOf S (z + 1) ≡ x → ⊥
+  col-two : ThreeAround S → (x z : ℕ) → x < X → z < X → colOf S (x + 1) ≡ z → colOf S (z + 1) ≡ x → ⊥
   unfolding colOf
-  col-two x z h k = step-two (joined seam) X x z (S .X≥3) h k
+  col-two w x z h k = step-two (joined seam) X x z (w .0) h k
 
   pub col-inj : (x z : ℕ) → x < X → z < X → colOf S (x + 1) ≡ colOf S (z + 1) → x ≡ z
   unfolding colOf
@@ -268,27 +265,27 @@ module _ (S : Strip) where
   in-order diagonal diagonal rising x y x′ y′ v v′ p q r s = (refl, p, q)
 
   -- the ends of two names never agree the other way round
-  in-turn : (k k′ : Kind) (d : Split) (x y x′ y′ : ℕ) → Valid S k x y → Valid S k′ x′ y′ →
+  in-turn : ThreeAround S → (k k′ : Kind) (d : Split) (x y x′ y′ : ℕ) → Valid S k x y → Valid S k′ x′ y′ →
       x ≡ toX S k′ x′ → fromY S k d y ≡ toY S k′ d x′ y′ → toX S k x ≡ x′ → toY S k d x y ≡ fromY S k′ d y′ → ⊥
-  in-turn straight straight d x y x′ y′ v v′ p q r s = next-two S y y′ (v .1) (v′ .1) s (sym q)
-  in-turn straight across d x y x′ y′ v v′ p q r s = col-ne S x′ (v′ .0) (sym p ∙ r)
-  in-turn straight diagonal d x y x′ y′ v v′ p q r s = col-ne S x′ (v′ .0) (sym p ∙ r)
-  in-turn across straight d x y x′ y′ v v′ p q r s = col-ne S x (v .0) (r ∙ sym p)
-  in-turn across across d x y x′ y′ v v′ p q r s = col-two S x x′ (v .0) (v′ .0) r (sym p)
-  in-turn across diagonal d x y x′ y′ v v′ p q r s = col-two S x x′ (v .0) (v′ .0) r (sym p)
-  in-turn diagonal straight d x y x′ y′ v v′ p q r s = col-ne S x (v .0) (r ∙ sym p)
-  in-turn diagonal across d x y x′ y′ v v′ p q r s = col-two S x x′ (v .0) (v′ .0) r (sym p)
-  in-turn diagonal diagonal d x y x′ y′ v v′ p q r s = col-two S x x′ (v .0) (v′ .0) r (sym p)
+  in-turn w straight straight d x y x′ y′ v v′ p q r s = next-two S w y y′ (v .1) (v′ .1) s (sym q)
+  in-turn w straight across d x y x′ y′ v v′ p q r s = col-ne S x′ (v′ .0) (sym p ∙ r)
+  in-turn w straight diagonal d x y x′ y′ v v′ p q r s = col-ne S x′ (v′ .0) (sym p ∙ r)
+  in-turn w across straight d x y x′ y′ v v′ p q r s = col-ne S x (v .0) (r ∙ sym p)
+  in-turn w across across d x y x′ y′ v v′ p q r s = col-two S w x x′ (v .0) (v′ .0) r (sym p)
+  in-turn w across diagonal d x y x′ y′ v v′ p q r s = col-two S w x x′ (v .0) (v′ .0) r (sym p)
+  in-turn w diagonal straight d x y x′ y′ v v′ p q r s = col-ne S x (v .0) (r ∙ sym p)
+  in-turn w diagonal across d x y x′ y′ v v′ p q r s = col-two S w x x′ (v .0) (v′ .0) r (sym p)
+  in-turn w diagonal diagonal d x y x′ y′ v v′ p q r s = col-two S w x x′ (v .0) (v′ .0) r (sym p)
 
   -- so a side has one name
-  pub one-name : (k k′ : Kind) (x y x′ y′ : ℕ) → Valid S k x y → Valid S k′ x′ y′ →
+  pub one-name : ThreeAround S → (k k′ : Kind) (x y x′ y′ : ℕ) → Valid S k x y → Valid S k′ x′ y′ →
       Same (nameFrom S k x y) (nameTo S k x y) (nameFrom S k′ x′ y′) (nameTo S k′ x′ y′) → Agree k k′ x y x′ y′
   unfolding nameFrom nameTo
-  one-name k k′ x y x′ y′ v v′ (inl e) =
+  one-name w k k′ x y x′ y′ v v′ (inl e) =
       let p = inj _ _ _ _ (x-le k x y v) (fromY-le k split x y v) (x-le k′ x′ y′ v′) (fromY-le k′ split x′ y′ v′) (e .0) in
       let q = inj _ _ _ _ (toX-le k x y v) (toY-le k split x y v) (toX-le k′ x′ y′ v′) (toY-le k′ split x′ y′ v′) (e .1) in
       in-order k k′ split x y x′ y′ v v′ (p .0) (p .1) (q .0) (q .1)
-  one-name k k′ x y x′ y′ v v′ (inr e) =
+  one-name w k k′ x y x′ y′ v v′ (inr e) =
       let p = inj _ _ _ _ (x-le k x y v) (fromY-le k split x y v) (toX-le k′ x′ y′ v′) (toY-le k′ split x′ y′ v′) (e .0) in
       let q = inj _ _ _ _ (toX-le k x y v) (toY-le k split x y v) (x-le k′ x′ y′ v′) (fromY-le k′ split x′ y′ v′) (e .1) in
-      absurd (in-turn k k′ split x y x′ y′ v v′ (p .0) (p .1) (q .0) (q .1))
+      absurd (in-turn w k k′ split x y x′ y′ v v′ (p .0) (p .1) (q .0) (q .1))
