@@ -1,14 +1,14 @@
 -- A covered joining is a strip when it is seen along one of its two seams: the other seam is unjoined or joins each point to the one opposite, so
 -- it closes the columns or leaves them open, and no more. Assumes nothing.
-use Prim.Native.Nat.{ℕ, zero, suc, _+_, _-_, _*_, _/_, _%_, _≤_, _<_}
-use mathlib.Core.Path.{_≡_, refl, sym, ap, _∙_, subst}
+use Prim.Native.Nat.{ℕ, zero, suc, _+_, _*_, _≤_, _<_}
+use mathlib.Core.Path.{_≡_, refl, sym, ap, _∙_}
 use mathlib.Core.Logic.{_⊎_, inl, inr, ⊎-elim}
-use mathlib.Core.Bool.{Bool, true, _||_, not, true≢false}
+use mathlib.Core.Bool.{Bool, true, not, true≢false}
 use native.Mathlib.Omega.{arith}
 use lib.Arith.{digits-div, digits-mod}
-use Rattle.surface.specs.Surface.{Seam, unjoined, forward, reverse, joined, reversed, inverse, Rule, once, twice, Split, falling, rising, Shape, number, at, EnoughSteps}
+use Rattle.surface.specs.Surface.{Seam, unjoined, forward, reverse, joined, reversed, inverse, Rule, once, twice, Split, falling, rising, Shape, number, at, StepsAround, NoneOfTwo}
 use Rattle.surface.proofs.Covered.{AtZero, Beside, Covered, neither, only-u, only-v, both-u, both-v}
-use Rattle.surface.proofs.Steps.{Fits, Offset, inv-forward-0, inv-forward, inv-reverse}
+use Rattle.surface.proofs.Steps.{Fits, Offset, inv-forward, inv-reverse}
 use Rattle.surface.proofs.Strip.{Strip, Kind, straight, across, diagonal}
 use Rattle.surface.proofs.Halves.{cellHalf, cellDir}
 
@@ -75,10 +75,8 @@ sideDir axisV falling diagonal t = not t
 sideDir axisV rising diagonal t = t
 
 pub half-diagonal : (a : Axis) (d : Split) (t : Bool) → sideHalf a d diagonal t ≡ t
-half-diagonal axisU falling t = refl
-half-diagonal axisU rising t = refl
-half-diagonal axisV falling t = refl
-half-diagonal axisV rising t = refl
+half-diagonal axisU d t = refl
+half-diagonal axisV d t = refl
 
 pub dir-not : (a : Axis) (d : Split) (k : Kind) (t : Bool) → sideDir a d k (not t) ≡ not (sideDir a d k t)
 dir-not axisU d straight t = refl
@@ -106,37 +104,34 @@ pub record SeenAlong (a : Axis) (s : Shape) : Type 0 where
   pub inside : KeepsInside (s .rule) (seamOf a s) (joined (closing a s)) (rows a s)
 
 digits-inj : (q r q′ r′ m : ℕ) → r < m → r′ < m → q * m + r ≡ q′ * m + r′ → (q ≡ q′) × (r ≡ r′)
-digits-inj q r q′ r′ m h h′ e = (
-  sym (digits-div q h) ∙ ap (λ (z : ℕ). z / m) e ∙ digits-div q′ h′,
-  sym (digits-mod q h) ∙ ap (λ (z : ℕ). z % m) e ∙ digits-mod q′ h′,
-)
+digits-inj q r q′ r′ m h h′ e = (cc (digits-div q h, digits-div q′ h′), cc (digits-mod q h, digits-mod q′ h′))
 
+-- a point's number tells its column and its row
 pub number-inj : (a : Axis) (s : Shape) (x y x′ y′ : ℕ) → x ≤ columns a s → y ≤ rows a s → x′ ≤ columns a s → y′ ≤ rows a s →
     number s (at (xOf a x y) (yOf a x y)) ≡ number s (at (xOf a x′ y′) (yOf a x′ y′)) → (x ≡ x′) × (y ≡ y′)
 number-inj axisU s x y x′ y′ h k h′ k′ e = digits-inj x y x′ y′ (s .N + 1) (omega arith) (omega arith) e
 number-inj axisV s x y x′ y′ h k h′ k′ e = let r = digits-inj y x y′ x′ (s .N + 1) (omega arith) (omega arith) e in (r .1, r .0)
 
--- steps both ways, and enough of them
+-- steps both ways, and 2 around wherever a seam joins
 pub record HasSteps (s : Shape) : Type 0 where
   pub u-some : 0 < s .M
   pub v-some : 0 < s .N
-  pub enough : EnoughSteps s
+  pub around : StepsAround 2 s
 
 pub some : (a : Axis) (s : Shape) → HasSteps s → (0 < columns a s) × (0 < rows a s)
 some axisU s h = (h .u-some, h .v-some)
 some axisV s h = (h .v-some, h .u-some)
 
-or-left : {a : Bool} (b : Bool) → a ≡ true → (a || b) ≡ true
-or-left b e = rw e
+-- so many steps around, by columns and rows
+pub around-seen : (k : ℕ) (a : Axis) (s : Shape) → StepsAround k s → (joined (seamOf a s) ≡ true → k ≤ columns a s) × (joined (closing a s) ≡ true → k ≤ rows a s)
+around-seen k axisU s h = h
+around-seen k axisV s h = (h .1, h .0)
 
-pub enough-columns : (a : Axis) (s : Shape) → HasSteps s → joined (seamOf a s) ≡ true → 3 ≤ columns a s
-enough-columns axisU s h e = h .enough .0 (or-left _ e)
-enough-columns axisV s h e = h .enough .1 (or-left _ e)
+pub none-seen : (a : Axis) (s : Shape) → NoneOfTwo s → reversed (seamOf a s) ≡ true → rows a s ≡ 2 → ⊥
+none-seen axisU s h = h .0
+none-seen axisV s h = h .1
 
-pub enough-rows : (a : Axis) (s : Shape) → HasSteps s → (joined (closing a s) || reversed (seamOf a s)) ≡ true → 3 ≤ rows a s
-enough-rows axisU s h e = h .enough .1 e
-enough-rows axisV s h e = h .enough .0 e
-
+-- the strip that a shape is, seen along an axis
 unfoldable pub strip : (s : Shape) → HasSteps s → (a : Axis) → SeenAlong a s → Strip
 strip s h a w =
     record {
@@ -148,8 +143,8 @@ strip s h a w =
       num = λ x y. number s (at (xOf a x y) (yOf a x y));
       X>0 = some a s h .0;
       Y>0 = some a s h .1;
-      X≥3 = enough-columns a s h;
-      Y≥3 = enough-rows a s h;
+      X≥2 = around-seen 2 a s (h .around) .0;
+      Y≥2 = around-seen 2 a s (h .around) .1;
       fits = w .fits;
       inj = number-inj a s;
       half = sideHalf a (s .split);
@@ -160,10 +155,10 @@ strip s h a w =
 
 -- ---- the covered joinings
 
+-- beside a seam that is forward at offset 0, under 01's rule, a seam takes no point inside a column to its end
 inside-mapping : (m : Seam) (n : ℕ) → Beside once m n → (b : ℕ) → b < n → inverse m n b < n
 inside-mapping unjoined n h b k = absurd h
-inside-mapping (forward zero) n h b k = omega (arith, inv-forward-0 n b)
-inside-mapping (forward (suc o)) n h b k = ⊎-elim (λ w. omega arith) (λ w. omega arith) (inv-forward (suc o) n b (omega arith) h (omega arith))
+inside-mapping (forward o) n h b k = ⊎-elim (λ w. omega arith) (λ w. omega arith) (inv-forward o n b h (omega arith))
 inside-mapping (reverse o) n h b k = ⊎-elim (λ w. omega arith) (λ w. omega arith) (inv-reverse o n b (h .0) (h .1) (omega arith))
 
 offset-closed : (o n : ℕ) → o < n → Offset o true n
@@ -178,7 +173,7 @@ beside-fits twice (reverse o) n h = offset-closed o n h
 
 offset-zero : (o : ℕ) (c : Bool) (n : ℕ) → o ≡ 0 → Offset o c n
 offset-zero zero c n e = tt
-offset-zero (suc o) c n e = let z : ⊥ = omega arith in absurd z
+offset-zero (suc o) c n e = absurd (omega arith)
 
 at-zero-fits : (m : Seam) (c : Bool) (n : ℕ) → AtZero m → Fits m c n
 at-zero-fits unjoined c n h = absurd h
@@ -199,7 +194,7 @@ module _ (a : Axis) (s : Shape) where
 
   -- beside a seam that is forward at offset 0
   closed-columns : closing a s ≡ forward 0 → Beside (s .rule) (seamOf a s) (rows a s) → SeenAlong a s
-  closed-columns e b = record { fits = subst (λ (m : Seam). Fits (seamOf a s) (joined m) (rows a s)) (sym e) (beside-fits (s .rule) (seamOf a s) (rows a s) b); plain = inr e; inside = keeps (s .rule) b }
+  closed-columns e b = record { fits = rw e (beside-fits (s .rule) (seamOf a s) (rows a s) b); plain = inr e; inside = keeps (s .rule) b }
     where
       keeps : (r : Rule) → Beside r (seamOf a s) (rows a s) → KeepsInside r (seamOf a s) (joined (closing a s)) (rows a s)
       keeps once h = λ d i k. inside-mapping (seamOf a s) (rows a s) h i k

@@ -3,12 +3,11 @@
 use Prim.Native.Nat.{ℕ, _+_, _-_, _≤_, _<_}
 use mathlib.Core.Path.{_≡_, refl, sym, ap, _∙_}
 use mathlib.Core.Logic.{_⊎_, inl, inr, ⊎-elim}
-use mathlib.Core.Bool.{Bool, true, false, _&&_, not, cond}
+use mathlib.Core.Bool.{Bool, true, false, not, cond}
 use native.Mathlib.Omega.{arith}
-use lib.Dec.{eqb}
 use borrow.Author.Tests.{eq-eqb}
 use Rattle.surface.specs.Surface.{Seam, unjoined, forward, reverse, joined, Split, falling, rising}
-use Rattle.surface.proofs.Steps.{lt-or-le, wrap, wrap-open, wrap-below, wrap-end, laidOn, laidBack, back-below, on-back, on-inj}
+use Rattle.surface.proofs.Steps.{lt-or-le, wrap-open, wrap-below, wrap-end, laidOn, laidBack, back-below, on-back, on-inj}
 use Rattle.surface.proofs.Strip.{Strip, crossing, colOf, rowOf, pointOf, stepAt, turned, next, Kind, straight, across, diagonal, nameFrom, nameTo, fromY, toY, Valid, row-below, col-below, step-below, stepAt-lt, col-le, next-le, next-ne, next-inj, col-ne, col-inj, row-next, adjacent}
 
 abbrev pub Cell : Strip → ℕ → ℕ → Type 0
@@ -54,7 +53,14 @@ nameY S across false x y = y
 nameY S across true x y = next S y
 nameY S diagonal t x y = y
 
--- whether its ends lie the other way round under its name
+-- the two ends of that name
+abbrev pub firstOf : Strip → Kind → Bool → ℕ → ℕ → ℕ
+firstOf S k t x y = nameFrom S k (nameX S k t x) (nameY S k t x y)
+
+abbrev pub lastOf : Strip → Kind → Bool → ℕ → ℕ → ℕ
+lastOf S k t x y = nameTo S k (nameX S k t x) (nameY S k t x y)
+
+-- whether the side's ends lie the other way round
 abbrev pub turnedAt : Strip → Kind → Bool → ℕ → Bool
 turnedAt S straight false x = false
 turnedAt S straight true x = turned S (x + 1)
@@ -69,8 +75,17 @@ RimAt S across false x y = (S .closed ≡ false) × (y ≡ 0)
 RimAt S across true x y = (S .closed ≡ false) × (y + 1 ≡ S .Y)
 RimAt S diagonal t x y = ⊥
 
+unjoined-or-joined : (m : Seam) → (m ≡ unjoined) ⊎ (joined m ≡ true)
+unjoined-or-joined unjoined = inl refl
+unjoined-or-joined (forward o) = inr refl
+unjoined-or-joined (reverse o) = inr refl
+
+open-or-closed : (c : Bool) → (c ≡ false) ⊎ (c ≡ true)
+open-or-closed false = inl refl
+open-or-closed true = inr refl
+
 module _ (S : Strip) where
-  open Strip S using (X, Y, closed, seam, split, num, X>0, Y>0, fits, inj)
+  open Strip S using (X, Y, closed, seam, split, num, fits)
 
   pub valid : (k : Kind) (t : Bool) (x y : ℕ) → Cell S x y → Valid S k (nameX S k t x) (nameY S k t x y)
   valid straight false x y c = (omega arith, c .1)
@@ -79,43 +94,43 @@ module _ (S : Strip) where
   valid across true x y c = (c .0, next-le S y (c .1))
   valid diagonal t x y c = c
 
-  pt : (x y a b : ℕ) → colOf S x ≡ a → rowOf S x y ≡ b → pointOf S x y ≡ num a b
+  -- the point that (x, y) is joined to, by its row; inside the strip it is (x, y) itself, and the next one up its column is in the next row
+  at-row : (x y : ℕ) {b : ℕ} → rowOf S x y ≡ b → pointOf S x y ≡ num (colOf S x) b
   unfolding pointOf
-  pt x y a b p q = ap (λ (z : ℕ). num z (rowOf S x y)) p ∙ ap (num a) q
+  at-row x y e = ap (num (colOf S x)) e
 
   low : (x y : ℕ) → x < X → y < Y → pointOf S x y ≡ num x y
-  low x y h k = pt x y x y (col-below S x h) (row-below S x y h ∙ wrap-below closed Y y k)
+  low x y h k = cc (at-row x y (row-below S x y h), col-below S x h, wrap-below closed Y y k)
 
   up : (x y : ℕ) → x < X → pointOf S x (y + 1) ≡ num x (next S y)
   unfolding next
-  up x y h = pt x (y + 1) x (next S y) (col-below S x h) (row-below S x (y + 1) h)
+  up x y h = cc (at-row x (y + 1) (row-below S x (y + 1) h), col-below S x h)
 
-  -- the ends of a cell's side are those of its name
+  -- the ends of a cell's side are those of its name, in their order or the other way round
   abbrev pub Named : Kind → Bool → ℕ → ℕ → Type 0
   Named k t x y =
-      ((turnedAt S k t x ≡ false) × (sideFrom S k t x y ≡ nameFrom S k (nameX S k t x) (nameY S k t x y)) × (sideTo S k t x y ≡ nameTo S k (nameX S k t x) (nameY S k t x y)))
-      ⊎ ((turnedAt S k t x ≡ true) × (sideFrom S k t x y ≡ nameTo S k (nameX S k t x) (nameY S k t x y)) × (sideTo S k t x y ≡ nameFrom S k (nameX S k t x) (nameY S k t x y)))
-
-  named-across-high : (x y : ℕ) → pointOf S (x + 1) (y + 1) ≡ num (colOf S (x + 1)) (rowOf S (x + 1) (next S y))
-  named-across-high x y = pt (x + 1) (y + 1) (colOf S (x + 1)) (rowOf S (x + 1) (next S y)) refl (sym (row-next S (x + 1) y))
+      ((turnedAt S k t x ≡ false) × (sideFrom S k t x y ≡ firstOf S k t x y) × (sideTo S k t x y ≡ lastOf S k t x y))
+      ⊎ ((turnedAt S k t x ≡ true) × (sideFrom S k t x y ≡ lastOf S k t x y) × (sideTo S k t x y ≡ firstOf S k t x y))
 
   pub named : (k : Kind) (t : Bool) (x y : ℕ) → Cell S x y → Named k t x y
   unfolding sideFrom sideTo nameFrom nameTo
   named straight false x y c = inl (refl, low x y (c .0) (c .1), up x y (c .0))
   named straight true x y c =
       ⊎-elim
-      (λ w. inl (w .0, pt (x + 1) y (colOf S (x + 1)) (stepAt S (x + 1) y) refl (w .1), pt (x + 1) (y + 1) (colOf S (x + 1)) (next S (stepAt S (x + 1) y)) refl (w .2)))
-      (λ w. inr (w .0, pt (x + 1) y (colOf S (x + 1)) (next S (stepAt S (x + 1) y)) refl (w .2), pt (x + 1) (y + 1) (colOf S (x + 1)) (stepAt S (x + 1) y) refl (w .1)))
+      (λ w. inl (w .0, at-row (x + 1) y (w .1), at-row (x + 1) (y + 1) (w .2)))
+      (λ w. inr (w .0, at-row (x + 1) y (w .2), at-row (x + 1) (y + 1) (w .1)))
       (adjacent S (x + 1) y (c .1))
-  named across false x y c = inl (refl, low x y (c .0) (c .1), pt (x + 1) y (colOf S (x + 1)) (rowOf S (x + 1) y) refl refl)
-  named across true x y c = inl (refl, up x y (c .0), named-across-high x y)
-  named diagonal t x y c = go split
+  named across false x y c = inl (refl, low x y (c .0) (c .1), at-row (x + 1) y refl)
+  named across true x y c = inl (refl, up x y (c .0), at-row (x + 1) (y + 1) (sym (row-next S (x + 1) y)))
+  named diagonal t x y c = inl (refl, from split, to split)
     where
-      go : (d : Split) →
-          ((false ≡ false) × (endsOf (corners S x y) diagonal d t .0 ≡ num x (fromY S diagonal d y)) × (endsOf (corners S x y) diagonal d t .1 ≡ num (colOf S (x + 1)) (toY S diagonal d x y)))
-          ⊎ ((false ≡ true) × (endsOf (corners S x y) diagonal d t .0 ≡ num (colOf S (x + 1)) (toY S diagonal d x y)) × (endsOf (corners S x y) diagonal d t .1 ≡ num x (fromY S diagonal d y)))
-      go falling = inl (refl, up x y (c .0), pt (x + 1) y (colOf S (x + 1)) (rowOf S (x + 1) y) refl refl)
-      go rising = inl (refl, low x y (c .0) (c .1), pt (x + 1) (y + 1) (colOf S (x + 1)) (rowOf S (x + 1) (y + 1)) refl refl)
+      from : (d : Split) → endsOf (corners S x y) diagonal d t .0 ≡ num x (fromY S diagonal d y)
+      from falling = up x y (c .0)
+      from rising = low x y (c .0) (c .1)
+
+      to : (d : Split) → endsOf (corners S x y) diagonal d t .1 ≡ num (colOf S (x + 1)) (toY S diagonal d x y)
+      to falling = at-row (x + 1) y refl
+      to rising = at-row (x + 1) (y + 1) refl
 
   -- ---- no two cells have the same low side, or the same high side
 
@@ -132,43 +147,28 @@ module _ (S : Strip) where
   one-place straight false x y x′ y′ c c′ p q = (p, q)
   one-place straight true x y x′ y′ c c′ p q =
       let e : x ≡ x′ = col-inj S x x′ (c .0) (c′ .0) p in
-      (e, step-inj-at (x′ + 1) y y′ (c .1) (c′ .1) (ap (λ (z : ℕ). stepAt S (z + 1) y) (sym e) ∙ q))
+      (e, step-inj-at (x′ + 1) y y′ (c .1) (c′ .1) (cc))
   one-place across false x y x′ y′ c c′ p q = (p, q)
   one-place across true x y x′ y′ c c′ p q = (p, next-inj S y y′ (c .1) (c′ .1) q)
   one-place diagonal t x y x′ y′ c c′ p q = (p, q)
 
   -- ---- the cell on the other side
 
-  seam-cases : (seam ≡ unjoined) ⊎ (joined seam ≡ true)
-  seam-cases = go seam refl
-    where
-      go : (m : Seam) → seam ≡ m → (seam ≡ unjoined) ⊎ (joined seam ≡ true)
-      go unjoined e = inl e
-      go (forward o) e = inr (ap joined e)
-      go (reverse o) e = inr (ap joined e)
-
-  closed-cases : (closed ≡ false) ⊎ (closed ≡ true)
-  closed-cases = go closed refl
-    where
-      go : (c : Bool) → closed ≡ c → (closed ≡ false) ⊎ (closed ≡ true)
-      go false e = inl e
-      go true e = inr e
-
   pub far-col : joined seam ≡ true → colOf S X ≡ 0
   unfolding colOf
-  far-col j = ap (λ (t : Bool). wrap t X X) j ∙ wrap-end X
+  far-col j = rw j (wrap-end X)
 
   pub far-step : (y : ℕ) → joined seam ≡ true → stepAt S X y ≡ laidOn seam Y y
   unfolding stepAt
-  far-step y j = ap (λ (t : Bool). cond t (laidOn seam Y y) y) (ap (λ (t : Bool). t && eqb X X) j ∙ eq-eqb X X refl)
+  far-step y j = rw (j, eq-eqb X X refl)
 
   col-unjoined : (x : ℕ) → seam ≡ unjoined → colOf S x ≡ x
   unfolding colOf
-  col-unjoined x e = ap (λ (m : Seam). wrap (joined m) X x) e ∙ wrap-open X x
+  col-unjoined x e = rw e (wrap-open X x)
 
   next-open : (y : ℕ) → closed ≡ false → next S y ≡ y + 1
   unfolding next
-  next-open y e = ap (λ (c : Bool). wrap c Y (y + 1)) e ∙ wrap-open Y (y + 1)
+  next-open y e = rw e (wrap-open Y (y + 1))
 
   next-below : (y : ℕ) → y + 1 < Y → next S y ≡ y + 1
   unfolding next
@@ -176,7 +176,7 @@ module _ (S : Strip) where
 
   next-last : (y : ℕ) → closed ≡ true → y + 1 ≡ Y → next S y ≡ 0
   unfolding next
-  next-last y e h = ap (λ (c : Bool). wrap c Y (y + 1)) e ∙ ap (wrap true Y) h ∙ wrap-end Y
+  next-last y e h = rw (e, h) (wrap-end Y)
 
   -- cell (x′, y′) has as its high side the low side of cell (x, y), or the other way round
   pub record Partner (k : Kind) (t : Bool) (x y : ℕ) : Type 0 where
@@ -188,65 +188,52 @@ module _ (S : Strip) where
 
   -- a side is on a rim, or there is such a cell
   pub partner : (k : Kind) (t : Bool) (x y : ℕ) → Cell S x y → RimAt S k t x y ⊎ Partner k t x y
-  partner straight false x y c = ⊎-elim (λ h. inr (before h)) (λ h. ⊎-elim (λ j. inl (j, omega arith)) (λ j. inr (around j h)) seam-cases) (lt-or-le 0 x)
+  partner straight false x y c = go (lt-or-le 0 x) (unjoined-or-joined seam)
     where
+      go : (0 < x) ⊎ (x ≤ 0) → (seam ≡ unjoined) ⊎ (joined seam ≡ true) → RimAt S straight false x y ⊎ Partner straight false x y
       -- the cell before it in the row of cells
-      before : 0 < x → Partner straight false x y
-      before h =
+      go (inl h) j =
           let e : x - 1 + 1 ≡ x = omega arith in
-          record {
-            x′ = x - 1;
-            y′ = y;
-            cell = (omega arith, c .1);
-            same-x = ap (colOf S) e ∙ col-below S x (c .0);
-            same-y = step-below S (x - 1 + 1) y (omega arith);
-          }
-
+          inr (record { x′ = x - 1; y′ = y; cell = (omega arith, c .1); same-x = rw e (col-below S x (c .0)); same-y = rw e (step-below S x y (c .0)) })
+      go (inr h) (inl j) = inl (j, omega arith)
       -- from column 0, the cell of the last column that the seam lays on it
-      around : joined seam ≡ true → x ≤ 0 → Partner straight false x y
-      around j h =
+      go (inr h) (inr j) =
           let e : X - 1 + 1 ≡ X = omega arith in
           let y₁ = laidBack seam Y y in
-          record {
+          inr (record {
             x′ = X - 1;
             y′ = y₁;
             cell = (omega arith, back-below seam closed Y y fits (c .1));
-            same-x = ap (colOf S) e ∙ far-col j ∙ omega arith;
-            same-y = ap (λ (z : ℕ). stepAt S z y₁) e ∙ far-step y₁ j ∙ on-back seam closed Y y fits (c .1);
-          }
-  partner straight true x y c =
-      ⊎-elim
-      (λ h. inr (found (omega (arith, col-below S (x + 1) h))))
-      (λ h. ⊎-elim
-      (λ j. inl (j, omega arith))
-      (λ j. inr (found (omega (arith, far-col j, ap (colOf S) (last h)))))
-      seam-cases)
-      (lt-or-le (x + 1) X)
+            same-x = rw e (far-col j ∙ omega arith);
+            same-y = rw e (far-step y₁ j ∙ on-back seam closed Y y fits (c .1));
+          })
+  partner straight true x y c = go (lt-or-le (x + 1) X) (unjoined-or-joined seam)
     where
-      last : X ≤ x + 1 → x + 1 ≡ X
-      last h = omega arith
-
       found : colOf S (x + 1) < X → Partner straight true x y
       found h = record { x′ = colOf S (x + 1); y′ = stepAt S (x + 1) y; cell = (h, stepAt-lt S (x + 1) y (c .1)); same-x = refl; same-y = refl }
-  partner across false x y c =
-      ⊎-elim
-      (λ h. inr (record { x′ = x; y′ = y - 1; cell = (c .0, omega arith); same-x = refl; same-y = next-below (y - 1) (omega arith) ∙ omega arith }))
-      (λ h. ⊎-elim
-      (λ j. inl (j, omega arith))
-      (λ j. inr (record { x′ = x; y′ = Y - 1; cell = (c .0, omega arith); same-x = refl; same-y = next-last (Y - 1) j (omega arith) ∙ omega arith }))
-      closed-cases)
-      (lt-or-le 0 y)
-  partner across true x y c =
-      ⊎-elim
-      (λ h. inr (found (omega (arith, next-below y h))))
-      (λ h. ⊎-elim
-      (λ j. inl (j, omega arith))
-      (λ j. inr (found (omega (arith, next-last y j (omega arith)))))
-      closed-cases)
-      (lt-or-le (y + 1) Y)
+
+      go : (x + 1 < X) ⊎ (X ≤ x + 1) → (seam ≡ unjoined) ⊎ (joined seam ≡ true) → RimAt S straight true x y ⊎ Partner straight true x y
+      go (inl h) j = inr (found (omega (arith, col-below S (x + 1) h)))
+      go (inr h) (inl j) = inl (j, omega arith)
+      go (inr h) (inr j) = let e : x + 1 ≡ X = omega arith in inr (found (rw e (omega (arith, far-col j))))
+  partner across false x y c = go (lt-or-le 0 y) (open-or-closed closed)
+    where
+      found : (y′ : ℕ) → y′ < Y → next S y′ ≡ y → Partner across false x y
+      found y′ h e = record { x′ = x; y′ = y′; cell = (c .0, h); same-x = refl; same-y = e }
+
+      go : (0 < y) ⊎ (y ≤ 0) → (closed ≡ false) ⊎ (closed ≡ true) → RimAt S across false x y ⊎ Partner across false x y
+      go (inl h) j = inr (found (y - 1) (omega arith) (next-below (y - 1) (omega arith) ∙ omega arith))
+      go (inr h) (inl j) = inl (j, omega arith)
+      go (inr h) (inr j) = inr (found (Y - 1) (omega arith) (next-last (Y - 1) j (omega arith) ∙ omega arith))
+  partner across true x y c = go (lt-or-le (y + 1) Y) (open-or-closed closed)
     where
       found : next S y < Y → Partner across true x y
       found h = record { x′ = x; y′ = next S y; cell = (c .0, h); same-x = refl; same-y = refl }
+
+      go : (y + 1 < Y) ⊎ (Y ≤ y + 1) → (closed ≡ false) ⊎ (closed ≡ true) → RimAt S across true x y ⊎ Partner across true x y
+      go (inl h) j = inr (found (omega (arith, next-below y h)))
+      go (inr h) (inl j) = inl (j, omega arith)
+      go (inr h) (inr j) = inr (found (omega (arith, next-last y j (omega arith))))
   partner diagonal t x y c = inr (record { x′ = x; y′ = y; cell = c; same-x = refl; same-y = refl })
 
   -- on a rim there is none

@@ -1,38 +1,58 @@
 -- Which way a triangle runs along its sides. Of the two that share a side, one runs along it from the first end of its name to the second and the
 -- other back. Only across a reversed seam the ends lie the other way round on one side, and there the two run the same way. Assumes nothing.
-use Prim.Native.Nat.{ℕ, _+_, _-_, _<_}
-use mathlib.Core.Path.{_≡_, refl, sym, ap, _∙_, subst}
+use Prim.Native.Nat.{ℕ, _+_, _<_}
+use mathlib.Core.Path.{_≡_, refl, sym, _∙_}
 use mathlib.Core.Logic.{_⊎_, inl, inr, ⊎-elim}
-use mathlib.Core.Bool.{Bool, true, false, _&&_, not, false≢true, cond, Bool·not-not}
+use mathlib.Core.Bool.{Bool, true, false, not, false≢true, cond, Bool·not-not}
 use native.Mathlib.Omega.{arith}
 use lib.Dec.{eqb}
 use borrow.Author.Tests.{eqb-true, eq-eqb}
-use Rattle.surface.specs.Surface.{Seam, unjoined, forward, reverse, joined, reversed, Same}
+use Rattle.surface.specs.Surface.{reversed, Same}
 use Rattle.float.proofs.Tests.{and-both}
 use Rattle.surface.proofs.Steps.{laidOn, on-below}
-use Rattle.surface.proofs.Strip.{Strip, Kind, straight, across, diagonal, nameFrom, nameTo, fromY, toX, toY, Valid, x-le, toX-le, fromY-le, toY-le, turned, colOf, stepAt, col-ne, next-ne}
+use Rattle.surface.proofs.Strip.{Strip, ThreeAround, reversed-joined, Kind, straight, across, diagonal, nameFrom, nameTo, fromY, toX, toY, Valid, x-le, toX-le, fromY-le, toY-le, turned, colOf, stepAt, col-ne, next-ne}
 use Rattle.surface.proofs.CellSides.{Cell, sideFrom, sideTo, nameX, nameY, turnedAt, valid, named, far-col, far-step}
-use Rattle.surface.proofs.Owners.{same-flip, not-self, Holds, compare, SameTri, Opposite}
+use Rattle.surface.proofs.Owners.{not-self, SideAt, side-flip, Holds, firstEnd, lastEnd, name-ends, compare, SameTri, Opposite}
+
+-- a to b is c to d, or d to c where w is false
+abbrev pub Along : Bool → ℕ → ℕ → ℕ → ℕ → Type 0
+Along w a b c d = ((w ≡ true) × (a ≡ c) × (b ≡ d)) ⊎ ((w ≡ false) × (a ≡ d) × (b ≡ c))
+
+-- either way they are the same two; two that are the same go along one way, or the other way when they are exchanged
+along-same : {w : Bool} {a b c d : ℕ} → Along w a b c d → Same a b c d
+along-same (inl e) = inl (e .1, e .2)
+along-same (inr e) = inr (e .1, e .2)
+
+same-along : (w : Bool) {a b c d : ℕ} → Same a b c d → Along w a b c d ⊎ Along w b a c d
+same-along true (inl e) = inl (inl (refl, e .0, e .1))
+same-along true (inr e) = inr (inl (refl, e .1, e .0))
+same-along false (inl e) = inr (inr (refl, e .1, e .0))
+same-along false (inr e) = inl (inr (refl, e .0, e .1))
+
+-- the same, by where it starts and where it ends
+pub along-ends : {w : Bool} {a b c d : ℕ} → Along w a b c d → (a ≡ cond w c d) × (b ≡ cond w d c)
+along-ends (inl e) = rw (e .0) (e .1, e .2)
+along-ends (inr e) = rw (e .0) (e .1, e .2)
+
+pub ends-along : (w : Bool) {a b : ℕ} (c d : ℕ) → a ≡ cond w c d → b ≡ cond w d c → Along w a b c d
+ends-along true c d p q = inl (refl, p, q)
+ends-along false c d p q = inr (refl, p, q)
 
 module _ (S : Strip) where
-  open Strip S using (X, Y, closed, seam, split, num, X>0, Y>0, fits, inj)
+  open Strip S using (X, Y, seam, split, fits, inj, half, dir, dir-not)
 
   -- the two ends of a side differ
   names-differ : (k : Kind) (x y : ℕ) → Valid S k x y → nameFrom S k x y ≡ nameTo S k x y → ⊥
   unfolding nameFrom nameTo
-  names-differ k x y v e = go k v (inj x (fromY S k split y) (toX S k x) (toY S k split x y) (x-le S k x y v) (fromY-le S k split x y v) (toX-le S k x y v) (toY-le S k split x y v) e)
+  names-differ k x y v e = go k v (inj _ _ _ _ (x-le S k x y v) (fromY-le S k split x y v) (toX-le S k x y v) (toY-le S k split x y v) e)
     where
       go : (k : Kind) → Valid S k x y → (x ≡ toX S k x) × (fromY S k split y ≡ toY S k split x y) → ⊥
       go straight v p = next-ne S y (v .1) (sym (p .1))
       go across v p = col-ne S x (v .0) (sym (p .0))
       go diagonal v p = col-ne S x (v .0) (sym (p .0))
 
-  pub ends-differ : (k : Kind) (t : Bool) (x y : ℕ) → Cell S x y → sideFrom S k t x y ≡ sideTo S k t x y → ⊥
-  ends-differ k t x y c e =
-      ⊎-elim
-      (λ w. names-differ k (nameX S k t x) (nameY S k t x y) (valid S k t x y c) (sym (w .1) ∙ e ∙ w .2))
-      (λ w. names-differ k (nameX S k t x) (nameY S k t x y) (valid S k t x y c) (sym (w .2) ∙ sym e ∙ w .1))
-      (named S k t x y c)
+  ends-differ : {x y a b : ℕ} (p : SideAt S x y a b) → firstEnd S p ≡ lastEnd S p → ⊥
+  ends-differ {x} {y} p = names-differ (p .k) (nameX S (p .k) (p .t) x) (nameY S (p .k) (p .t) x y) (valid S (p .k) (p .t) x y (p .cell))
 
   -- only the last column of a reversed seam lies the other way round
   turned-straight : (k : Kind) (t : Bool) (x : ℕ) → turnedAt S k t x ≡ true → (k ≡ straight) × (t ≡ true) × (turned S (x + 1) ≡ true)
@@ -47,23 +67,9 @@ module _ (S : Strip) where
 
   far-turned : reversed seam ≡ true → turned S X ≡ true
   unfolding turned
-  far-turned r = ap (λ (b : Bool). b && eqb X X) r ∙ eq-eqb X X refl
-
-  reversed-joined : reversed seam ≡ true → joined seam ≡ true
-  reversed-joined r = go seam r
-    where
-      go : (m : Seam) → reversed m ≡ true → joined m ≡ true
-      go unjoined e = e
-      go (forward o) e = refl
-      go (reverse o) e = refl
+  far-turned r = rw (r, eq-eqb X X refl)
 
   -- ---- runs
-
-  open Strip S using (half, half-diagonal, dir, dir-not)
-
-  -- a to b is c to d, or d to c where w is false
-  abbrev pub Along : Bool → ℕ → ℕ → ℕ → ℕ → Type 0
-  Along w a b c d = ((w ≡ true) × (a ≡ c) × (b ≡ d)) ⊎ ((w ≡ false) × (a ≡ d) × (b ≡ c))
 
   -- going around half h of cell (x, y), b follows a
   pub record Runs (h : Bool) (x y a b : ℕ) : Type 0 where
@@ -73,12 +79,36 @@ module _ (S : Strip) where
     pub on : half k t ≡ h
     pub along : Along (dir k t) a b (sideFrom S k t x y) (sideTo S k t x y)
 
-  along-same : {w : Bool} {a b c d : ℕ} → Along w a b c d → Same a b c d
-  along-same (inl e) = inl (e .1, e .2)
-  along-same (inr e) = inr (e .1, e .2)
+  -- the side that it runs along
+  abbrev sideOf : {h : Bool} {x y a b : ℕ} → Runs h x y a b → SideAt S x y a b
+  sideOf r = record { k = r .k; t = r .t; cell = r .cell; ends = along-same (r .along) }
 
-  pub runs-holds : (h : Bool) (x y a b : ℕ) → Runs h x y a b → Holds S h x y a b
-  runs-holds h x y a b r = record { k = r .k; t = r .t; cell = r .cell; on = r .on; ends = along-same (r .along) }
+  pub runs-holds : {h : Bool} {x y a b : ℕ} → Runs h x y a b → Holds S h x y a b
+  runs-holds r = record { side = sideOf r; on = r .on }
+
+  -- a run starts at the first end of the side's name or at the last, as its direction says
+  abbrev Begins : {h : Bool} {x y a b : ℕ} → Runs h x y a b → Type 0
+  Begins {h} {x} {y} {a} r = ((dir (r .k) (r .t) ≡ true) × (a ≡ firstEnd S (sideOf r))) ⊎ ((dir (r .k) (r .t) ≡ false) × (a ≡ lastEnd S (sideOf r)))
+
+  -- unless the side's ends lie the other way round under its name
+  abbrev Turned : {h : Bool} {x y a b : ℕ} → Runs h x y a b → Type 0
+  Turned {h} {x} r = turnedAt S (r .k) (r .t) x ≡ true
+
+  begins : {h : Bool} {x y a b : ℕ} (r : Runs h x y a b) → Turned r ⊎ Begins r
+  begins {h} {x} {y} r =
+      ⊎-elim
+      (λ w. inr (⊎-elim (λ e. inl (e .0, e .1 ∙ w .1)) (λ e. inr (e .0, e .1 ∙ w .2)) (r .along)))
+      (λ w. inl (w .0))
+      (named S (r .k) (r .t) x y (r .cell))
+
+  -- two opposite halves do not start at the same end
+  clash : {h h′ : Bool} {x y x′ y′ a b : ℕ} (p : Runs h x y a b) (q : Runs h′ x′ y′ a b) → Opposite S (sideOf p) (sideOf q) → Begins p → Begins q → ⊥
+  clash p q o (inl b) (inl d) = not-self true (cc (o .0, o .1, dir-not (p .k) (p .t), b .0, d .0))
+  clash p q o (inl b) (inr d) = ends-differ (sideOf p) (cc (o .0, o .1, o .2, o .3, b .1, d .1))
+  clash p q o (inr b) (inl d) = ends-differ (sideOf p) (cc (o .0, o .1, o .2, o .3, b .1, d .1))
+  clash p q o (inr b) (inr d) = not-self false (cc (o .0, o .1, dir-not (p .k) (p .t), b .0, d .0))
+
+  -- ---- turns
 
   -- across a reversed seam: half h has a low side of column 0, and half h′ the high side of the last column that lies on it the other way round
   pub record Turn (h : Bool) (x y : ℕ) (h′ : Bool) (x′ y′ : ℕ) : Type 0 where
@@ -90,24 +120,7 @@ module _ (S : Strip) where
     pub high-half : h′ ≡ half straight true
     pub high-x : x′ + 1 ≡ X
 
-  -- a run from a starts at the first end of the side's name or at the second, as its direction says
-  Begins : Kind → Bool → ℕ → ℕ → ℕ → Type 0
-  Begins k t x y a =
-      ((dir k t ≡ true) × (a ≡ nameFrom S k (nameX S k t x) (nameY S k t x y))) ⊎ ((dir k t ≡ false) × (a ≡ nameTo S k (nameX S k t x) (nameY S k t x y)))
-
-  begins : (k : Kind) (t : Bool) (x y a b : ℕ) → Cell S x y → Along (dir k t) a b (sideFrom S k t x y) (sideTo S k t x y) → (turnedAt S k t x ≡ true) ⊎ Begins k t x y a
-  unfolding Begins
-  begins k t x y a b c (inl e) = ⊎-elim (λ w. inr (inl (e .0, e .1 ∙ w .1))) (λ w. inl (w .0)) (named S k t x y c)
-  begins k t x y a b c (inr e) = ⊎-elim (λ w. inr (inr (e .0, e .1 ∙ w .2))) (λ w. inl (w .0)) (named S k t x y c)
-
-  -- two opposite halves do not start at the same end
-  clash : (k k′ : Kind) (t t′ : Bool) (x y x′ y′ a : ℕ) → Cell S x y → Opposite S k t x y k′ t′ x′ y′ → Begins k t x y a → Begins k′ t′ x′ y′ a → ⊥
-  unfolding Begins
-  clash k k′ t t′ x y x′ y′ a c o (inl p) (inl q) = not-self true (cc (o .0, o .1, dir-not k t, p .0, q .0))
-  clash k k′ t t′ x y x′ y′ a c o (inl p) (inr q) = names-differ k (nameX S k t x) (nameY S k t x y) (valid S k t x y c) (cc (o .0, o .1, o .2, o .3, p .1, q .1))
-  clash k k′ t t′ x y x′ y′ a c o (inr p) (inl q) = names-differ k (nameX S k t x) (nameY S k t x y) (valid S k t x y c) (cc (o .0, o .1, o .2, o .3, p .1, q .1))
-  clash k k′ t t′ x y x′ y′ a c o (inr p) (inr q) = not-self false (cc (o .0, o .1, dir-not k t, p .0, q .0))
-
+  -- the cell beyond a high straight side
   opposite-low : (k : Kind) (t : Bool) (x y x′ y′ : ℕ) → k ≡ straight → t ≡ true → nameX S k (not t) x′ ≡ nameX S k t x →
       nameY S k (not t) x′ y′ ≡ nameY S k t x y → (x′ ≡ colOf S (x + 1)) × (y′ ≡ stepAt S (x + 1) y)
   opposite-low straight true x y x′ y′ e f p q = (p, q)
@@ -115,15 +128,15 @@ module _ (S : Strip) where
   opposite-low across t x y x′ y′ e f p q = (cc, cc)
   opposite-low diagonal t x y x′ y′ e f p q = (cc, cc)
 
-  turn-of : (h h′ : Bool) (x y x′ y′ a b : ℕ) (p : Runs h x y a b) (q : Runs h′ x′ y′ a b) → Opposite S (p .k) (p .t) x y (q .k) (q .t) x′ y′ →
-      turnedAt S (p .k) (p .t) x ≡ true → Turn h′ x′ y′ h x y
-  turn-of h h′ x y x′ y′ a b p q o e =
+  turn-of : {h h′ : Bool} {x y x′ y′ a b : ℕ} (p : Runs h x y a b) (q : Runs h′ x′ y′ a b) → Opposite S (sideOf p) (sideOf q) → Turned p →
+      Turn h′ x′ y′ h x y
+  turn-of {h} {h′} {x} {y} {x′} {y′} p q o e =
       record {
         rev = far .0;
         below = p .cell .1;
         low-half = cc (q .on, o .0, o .1, st .0, st .1, off);
-        low-x = lo .0 ∙ ap (colOf S) (far .1) ∙ far-col S (reversed-joined (far .0));
-        low-y = lo .1 ∙ ap (λ (z : ℕ). stepAt S z y) (far .1) ∙ far-step S y (reversed-joined (far .0));
+        low-x = lo .0 ∙ rw (far .1) (far-col S (reversed-joined seam (far .0)));
+        low-y = lo .1 ∙ rw (far .1) (far-step S y (reversed-joined seam (far .0)));
         high-half = cc (p .on, st .0, st .1);
         high-x = far .1;
       }
@@ -141,22 +154,25 @@ module _ (S : Strip) where
       off = refl
 
   -- two triangles that run along a side the same way are at a turn
-  pub same-way : (h h′ : Bool) (x y x′ y′ a b : ℕ) → Runs h x y a b → Runs h′ x′ y′ a b → (SameTri S h x y h′ x′ y′ → ⊥) → Turn h x y h′ x′ y′ ⊎ Turn h′ x′ y′ h x y
-  same-way h h′ x y x′ y′ a b p q n =
+  pub same-way : ThreeAround S → {h h′ : Bool} {x y x′ y′ a b : ℕ} → Runs h x y a b → Runs h′ x′ y′ a b → (SameTri S h x y h′ x′ y′ → ⊥) →
+      Turn h x y h′ x′ y′ ⊎ Turn h′ x′ y′ h x y
+  same-way three {h} {h′} {x} {y} {x′} {y′} p q n =
       ⊎-elim
       (λ w. absurd (n (cc (w .0, w .1, q .on, p .on), w .2, w .3)))
-      (λ o. ⊎-elim
-      (λ e. inr (turn-of h h′ x y x′ y′ a b p q o e))
-      (λ f. ⊎-elim
-      (λ e. inl (turn-of h′ h x′ y′ x y a b q p (swap o) e))
-      (λ g. absurd (clash (p .k) (q .k) (p .t) (q .t) x y x′ y′ a (p .cell) o f g))
-      (begins (q .k) (q .t) x′ y′ a b (q .cell) (q .along)))
-      (begins (p .k) (p .t) x y a b (p .cell) (p .along)))
-      (compare S a b (p .k) (q .k) (p .t) (q .t) x y x′ y′ (p .cell) (q .cell) (along-same (p .along)) (along-same (q .along)))
+      (λ o. go o (begins p) (begins q))
+      (compare S three (sideOf p) (sideOf q))
     where
-      swap : Opposite S (p .k) (p .t) x y (q .k) (q .t) x′ y′ → Opposite S (q .k) (q .t) x′ y′ (p .k) (p .t) x y
-      swap o = (sym (o .0), cc (o .1, Bool·not-not (p .t)), cc (o .0, o .1, o .2, Bool·not-not (p .t)), cc (o .0, o .1, o .3, Bool·not-not (p .t)))
+      swap : Opposite S (sideOf p) (sideOf q) → Opposite S (sideOf q) (sideOf p)
+      swap o =
+          let n = Bool·not-not (p .t) in
+          (sym (o .0), cc (o .1, n), cc (o .0, o .1, o .2, n), cc (o .0, o .1, o .3, n))
 
+      go : Opposite S (sideOf p) (sideOf q) → Turned p ⊎ Begins p → Turned q ⊎ Begins q → Turn h x y h′ x′ y′ ⊎ Turn h′ x′ y′ h x y
+      go o (inl e) g = inr (turn-of p q o e)
+      go o (inr f) (inl e) = inl (turn-of q p (swap o) e)
+      go o (inr f) (inr g) = absurd (clash p q o f g)
+
+  -- both run from a to b
   pub record Shared (h : Bool) (x y : ℕ) (h′ : Bool) (x′ y′ : ℕ) : Type 0 where
     pub a : ℕ
     pub b : ℕ
@@ -164,23 +180,23 @@ module _ (S : Strip) where
     pub two : Runs h′ x′ y′ a b
 
   -- and at a turn they do
-  pub turn-shared : (h h′ : Bool) (x y x′ y′ : ℕ) → Turn h x y h′ x′ y′ → Shared h x y h′ x′ y′
-  turn-shared h h′ x y x′ y′ r = go (dir straight false) refl
+  pub turn-shared : {h h′ : Bool} {x y x′ y′ : ℕ} → Turn h x y h′ x′ y′ → Shared h x y h′ x′ y′
+  turn-shared {h} {h′} {x} {y} {x′} {y′} r = go (dir straight false) refl
     where
       cell-low : Cell S x y
-      cell-low = (omega (arith, r .low-x), subst (λ (z : ℕ). z < Y) (sym (r .low-y)) (on-below seam (S .closed) Y y′ fits (r .below)))
+      cell-low = (omega (arith, r .low-x), rw (r .low-y) (on-below seam (S .closed) Y y′ fits (r .below)))
 
       cell-high : Cell S x′ y′
       cell-high = (omega (arith, r .high-x), r .below)
 
       name-x : colOf S (x′ + 1) ≡ x
-      name-x = ap (colOf S) (r .high-x) ∙ far-col S (reversed-joined (r .rev)) ∙ sym (r .low-x)
+      name-x = rw (r .high-x) (far-col S (reversed-joined seam (r .rev)) ∙ sym (r .low-x))
 
       name-y : stepAt S (x′ + 1) y′ ≡ y
-      name-y = ap (λ (z : ℕ). stepAt S z y′) (r .high-x) ∙ far-step S y′ (reversed-joined (r .rev)) ∙ sym (r .low-y)
+      name-y = rw (r .high-x) (far-step S y′ (reversed-joined seam (r .rev)) ∙ sym (r .low-y))
 
       is-turned : turned S (x′ + 1) ≡ true
-      is-turned = ap (turned S) (r .high-x) ∙ far-turned (r .rev)
+      is-turned = rw (r .high-x) (far-turned (r .rev))
 
       low : (sideFrom S straight false x y ≡ nameFrom S straight x y) × (sideTo S straight false x y ≡ nameTo S straight x y)
       low = ⊎-elim (λ w. (w .1, w .2)) (λ w. absurd (not-self true (w .0))) (named S straight false x y cell-low)
@@ -192,46 +208,44 @@ module _ (S : Strip) where
           (λ w. (cc (w .2, name-x, name-y), cc (w .1, name-x, name-y)))
           (named S straight true x′ y′ cell-high)
 
+      low-run : {a b : ℕ} → Along (dir straight false) a b (sideFrom S straight false x y) (sideTo S straight false x y) → Runs h x y a b
+      low-run l = record { k = straight; t = false; cell = cell-low; on = sym (r .low-half); along = l }
+
+      high-run : {a b : ℕ} → Along (dir straight true) a b (sideFrom S straight true x′ y′) (sideTo S straight true x′ y′) → Runs h′ x′ y′ a b
+      high-run l = record { k = straight; t = true; cell = cell-high; on = sym (r .high-half); along = l }
+
       go : (w : Bool) → dir straight false ≡ w → Shared h x y h′ x′ y′
       go true e =
           record {
             a = nameFrom S straight x y;
             b = nameTo S straight x y;
-            one = record { k = straight; t = false; cell = cell-low; on = sym (r .low-half); along = inl (e, sym (low .0), sym (low .1)) };
-            two = record { k = straight; t = true; cell = cell-high; on = sym (r .high-half); along = inr (dir-not straight false ∙ ap not e, sym (high .0), sym (high .1)) };
+            one = low-run (inl (e, sym (low .0), sym (low .1)));
+            two = high-run (inr (rw e at (dir-not straight false), sym (high .0), sym (high .1)));
           }
       go false e =
           record {
             a = nameTo S straight x y;
             b = nameFrom S straight x y;
-            one = record { k = straight; t = false; cell = cell-low; on = sym (r .low-half); along = inr (e, sym (low .1), sym (low .0)) };
-            two = record { k = straight; t = true; cell = cell-high; on = sym (r .high-half); along = inl (dir-not straight false ∙ ap not e, sym (high .1), sym (high .0)) };
+            one = low-run (inr (e, sym (low .1), sym (low .0)));
+            two = high-run (inl (rw e at (dir-not straight false), sym (high .1), sym (high .0)));
           }
 
-  pub along-ends : (w : Bool) (a b c d : ℕ) → Along w a b c d → (a ≡ cond w c d) × (b ≡ cond w d c)
-  along-ends w a b c d (inl e) = (e .1 ∙ ap (λ (z : Bool). cond z c d) (sym (e .0)), e .2 ∙ ap (λ (z : Bool). cond z d c) (sym (e .0)))
-  along-ends w a b c d (inr e) = (e .1 ∙ ap (λ (z : Bool). cond z c d) (sym (e .0)), e .2 ∙ ap (λ (z : Bool). cond z d c) (sym (e .0)))
+  pub holds-flip : {h : Bool} {x y a b : ℕ} → Holds S h x y a b → Holds S h x y b a
+  holds-flip p = record { side = side-flip S (p .side); on = p .on }
 
-  pub ends-along : (w : Bool) (a b c d : ℕ) → a ≡ cond w c d → b ≡ cond w d c → Along w a b c d
-  ends-along true a b c d p q = inl (refl, p, q)
-  ends-along false a b c d p q = inr (refl, p, q)
-
-  pub holds-flip : (h : Bool) (x y a b : ℕ) → Holds S h x y a b → Holds S h x y b a
-  holds-flip h x y a b p = record { k = p .k; t = p .t; cell = p .cell; on = p .on; ends = same-flip (p .ends) }
-
-  pub holds-runs : (h : Bool) (x y a b : ℕ) → Holds S h x y a b → Runs h x y a b ⊎ Runs h x y b a
-  holds-runs h x y a b p = go (dir (p .k) (p .t)) refl (p .ends)
+  -- who has a side runs along it, one way or the other
+  pub holds-runs : {h : Bool} {x y a b : ℕ} → Holds S h x y a b → Runs h x y a b ⊎ Runs h x y b a
+  holds-runs {h} {x} {y} {a} {b} p = ⊎-elim (λ l. inl (run l)) (λ l. inr (run l)) (same-along (dir k t) (p .side .ends))
     where
-      go : (w : Bool) → dir (p .k) (p .t) ≡ w → Same a b (sideFrom S (p .k) (p .t) x y) (sideTo S (p .k) (p .t) x y) → Runs h x y a b ⊎ Runs h x y b a
-      go true e (inl q) = inl (record { k = p .k; t = p .t; cell = p .cell; on = p .on; along = inl (e, q .0, q .1) })
-      go true e (inr q) = inr (record { k = p .k; t = p .t; cell = p .cell; on = p .on; along = inl (e, q .1, q .0) })
-      go false e (inl q) = inr (record { k = p .k; t = p .t; cell = p .cell; on = p .on; along = inr (e, q .1, q .0) })
-      go false e (inr q) = inl (record { k = p .k; t = p .t; cell = p .cell; on = p .on; along = inr (e, q .0, q .1) })
+      k : Kind
+      k = p .side .k
+
+      t : Bool
+      t = p .side .t
+
+      run : {c d : ℕ} → Along (dir k t) c d (sideFrom S k t x y) (sideTo S k t x y) → Runs h x y c d
+      run l = record { k = k; t = t; cell = p .side .cell; on = p .on; along = l }
 
   -- what a triangle runs along has two ends
-  pub runs-differ : (h : Bool) (x y a b : ℕ) → Runs h x y a b → a ≡ b → ⊥
-  runs-differ h x y a b r e = go (r .along)
-    where
-      go : Along (dir (r .k) (r .t)) a b (sideFrom S (r .k) (r .t) x y) (sideTo S (r .k) (r .t) x y) → ⊥
-      go (inl q) = ends-differ (r .k) (r .t) x y (r .cell) (sym (q .1) ∙ e ∙ q .2)
-      go (inr q) = ends-differ (r .k) (r .t) x y (r .cell) (sym (q .2) ∙ sym e ∙ q .1)
+  pub runs-differ : {h : Bool} {x y a b : ℕ} → Runs h x y a b → a ≡ b → ⊥
+  runs-differ r e = ends-differ (sideOf r) (⊎-elim (λ q. cc (q .0, q .1)) (λ q. cc (q .0, q .1)) (name-ends S (sideOf r)))

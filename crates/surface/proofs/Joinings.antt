@@ -7,7 +7,6 @@ use mathlib.Core.List.{List}
 use native.Mathlib.Omega.{arith}
 use lib.Ieee.{Float}
 use Rattle.vector.specs.Vectors.{allClose}
-use Rattle.grid.specs.Grid.{Accepted}
 use Rattle.grid.proofs.Laws.{accepted-known}
 use Rattle.cyclic.specs.declared.mapping.CyclicMapping.{CyclicMapping}
 use Rattle.cyclic.specs.declared.mapping.CyclicMapping.the-variants.{Forward, Reverse}
@@ -17,11 +16,11 @@ use Rattle.cyclic.specs.Mapping.{stepsOf, offsetOf}
 use Rattle.cyclic.specs.Mapping as mapping
 use Rattle.cyclic.specs.Search.{Row, rowOf, Closeness, searchRows}
 use Rattle.cyclic.proofs.Laws.{found-steps, found-below}
-use Rattle.surface.specs.Surface.{forward, inverse, EnoughSteps, Meets, triangles, Owns, Jₙ}
-use Rattle.surface.specs.Found.{uSearch, vSearch, ofMapping, surfaceWith, surfaceOf, ForwardAtZero, CoveredJoining, CoveredGrid, SurfaceMeets}
+use Rattle.surface.specs.Surface.{forward, inverse, Meets}
+use Rattle.surface.specs.Found.{uSearch, vSearch, ofMapping, surfaceWith, ForwardAtZero, CoveredJoining, SurfaceMeets}
 use Rattle.surface.proofs.Covered.{Covered, neither, only-u, only-v, both-u, both-v}
 use Rattle.surface.proofs.Searches.{u-search, v-search}
-use Rattle.surface.proofs.Demand.{covered-meets, EdgeNumbers, traced}
+use Rattle.surface.proofs.Demand.{covered-meets}
 
 -- ---- what a search finds
 
@@ -66,15 +65,11 @@ covered m n (Joined (Forward o k)) (Joined j) p q (inr c) = both-u (p .1) (at-ze
 covered m n (Joined (Reverse o k)) (Joined j) p q (inr c) = both-u (omega (arith, c .0), p .1) (at-zero j (c .1))
 
 -- demand 3 of the surface that two seam answers make, found or given
-pub joining-meets : (m n : ℕ) (su sv : Seam) → 1 ≤ m → 1 ≤ n → EnoughSteps (surfaceWith m n su sv) → OfRow n su → OfRow m sv → CoveredJoining su sv → Meets (surfaceWith m n su sv)
-joining-meets m n su sv hm hn e p q c = covered-meets (surfaceWith m n su sv) (record { u-some = hm; v-some = hn; enough = e }) (covered m n su sv p q c)
+pub joining-meets : (m n : ℕ) (su sv : Seam) → 1 ≤ m → 1 ≤ n → OfRow n su → OfRow m sv → CoveredJoining su sv → Meets (surfaceWith m n su sv)
+joining-meets m n su sv hm hn p q c = covered-meets (surfaceWith m n su sv) hm hn (covered m n su sv p q c)
 
+-- demand 3 of the surface of a grid, with the seams that are found in it
 pub surface-meets : (g : List Float) (m n : ℕ) → SurfaceMeets g m n
-surface-meets g m n a e c =
+surface-meets g m n a c =
     let s = accepted-known g m n a .steps in
-    joining-meets m n (uSearch g m n .seam) (vSearch g m n .seam) (s .m-least) (s .n-least) e (u-of-row g m n (s .n-least)) (v-of-row g m n (s .m-least)) c
-
--- of a grid edge, J of the numbers of its two ends are the two ends of a side
-pub edge-side : (g : List Float) (m n : ℕ) → Accepted g m n → EnoughSteps (surfaceOf g m n) → CoveredGrid g m n → (p q : ℕ) → EdgeNumbers (surfaceOf g m n) p q →
-    (i : ℕ) × Owns (triangles (surfaceOf g m n)) (Jₙ (surfaceOf g m n) p) (Jₙ (surfaceOf g m n) q) i
-edge-side g m n a h c p q e = traced (surfaceOf g m n) (surface-meets g m n a h c) p q e
+    joining-meets m n (uSearch g m n .seam) (vSearch g m n .seam) (s .m-least) (s .n-least) (u-of-row g m n (s .n-least)) (v-of-row g m n (s .m-least)) c

@@ -1,33 +1,32 @@
 -- The list of flipped pairs: that `insert` keeps it ascending, what `process` puts into it, how long it is at most, and that its numbers are of
 -- triangles in the list. Assumes nothing.
-use Prim.Native.Nat.{ℕ, zero, suc, _+_, _-_, _≤_, _<_}
-use mathlib.Core.Path.{_≡_, refl, sym, ap, _∙_, subst}
+use Prim.Native.Nat.{ℕ, zero, suc, _+_, _≤_, _<_}
+use mathlib.Core.Path.{_≡_, refl, sym, ap, _∙_}
 use mathlib.Core.Logic.{_⊎_, inl, inr, ⊎-elim}
 use mathlib.Core.Bool.{Bool, true, false, _&&_, cond}
-use mathlib.Core.List.{List, [], _∷_, List·Memᴰ, List·Memᴰ·head, List·Memᴰ·tail, List·Memᴰ·cases-cons, List·Memᴰ·not-nil, Memᴰ·cast}
+use mathlib.Core.List.{List, [], _∷_, List·Memᴰ, List·Memᴰ·head, List·Memᴰ·tail, List·Memᴰ·cases-cons, List·Memᴰ·not-nil}
 use native.Mathlib.Omega.{arith}
+use native.Mathlib.Nat.{eq-or-lt-of-le}
 use lib.Dec.{eqb, ltb}
 use lib.ListN.{length}
 use borrow.Author.Tests.{eq-eqb, ne-eqb, ltb-true, ltb-false, lt-ltb}
-use Rattle.surface.specs.Surface.{Seam, reverse, reversed, inverse, Shape, slot, proper, triangles, Pair, pair, ordered, insert, triangleNumber, stepOn, process, flipped, lowU, highU, lowV, highV, wrapEnds}
-use Rattle.float.proofs.Tests.{and-both}
-use Rattle.surface.proofs.Steps.{eqb-cases, lt-or-le, Offset, laidOn, reverse-step}
+use Rattle.surface.specs.Surface.{Seam, reverse, reversed, Shape, slot, proper, triangles, Pair, pair, ordered, insert, triangleNumber, stepOn, process, flipped, lowU, highU, lowV, highV, wrapEnds}
+use Rattle.float.proofs.Tests.{and-both, cond-keeps}
+use Rattle.cyclic.proofs.Mappings.{three}
+use Rattle.surface.proofs.Steps.{eqb-cases, Offset, laidOn, Meet, reverse-step}
 use Rattle.surface.proofs.Triangles.{number-below}
 use Rattle.surface.proofs.Halves.{lowU-lt, highU-lt, lowV-lt, highV-lt}
 
 -- ---- the step of row a that `process` finds
 
 both-ne : (a b c d : ℕ) → (a ≡ b → c ≡ d → ⊥) → (eqb a b && eqb c d) ≡ false
-both-ne a b c d h =
-    ⊎-elim
-    (λ w. ap (λ (t : Bool). t && eqb c d) (w .0) ∙ ne-eqb c d (λ e. h (w .1) e))
-    (λ w. ap (λ (t : Bool). t && eqb c d) (w .0))
-    (eqb-cases a b)
+both-ne a b c d h = ⊎-elim (λ w. rw (w .0) (ne-eqb c d (h (w .1)))) (λ w. rw (w .0)) (eqb-cases a b)
 
 both-eq : (a b c d : ℕ) → a ≡ b → c ≡ d → (eqb a b && eqb c d) ≡ true
-both-eq a b c d p q = ap (λ (t : Bool). t && eqb c d) (eq-eqb a b p) ∙ eq-eqb c d q
+both-eq a b c d p q = rw (eq-eqb a b p, eq-eqb c d q)
 
-lower-up : (n a : ℕ) → 3 ≤ n → wrapEnds n (a + 1) a ≡ a
+-- the lower of two indices that follow each other, and of a row's two ends
+lower-up : (n a : ℕ) → (n ≡ 2 → ⊥) → wrapEnds n (a + 1) a ≡ a
 lower-up n a h =
     rw (
       both-ne (a + 1 + 1) n a 0 (λ p q. omega arith),
@@ -36,23 +35,18 @@ lower-up n a h =
       eq-eqb (a + 1) (a + 1) refl,
     )
 
-lower-end : (n a : ℕ) → 3 ≤ n → a + 1 ≡ n → wrapEnds n 0 a ≡ a
-lower-end n a h e =
-    rw (
-      both-ne (0 + 1) n a 0 (λ p q. omega arith),
-      both-eq (a + 1) n 0 0 e refl,
-    )
+lower-end : (n a : ℕ) → a + 1 ≡ n → wrapEnds n 0 a ≡ a
+lower-end n zero e = rw (both-eq (0 + 1) n 0 0 e refl)
+lower-end n (suc a) e = rw (both-ne (0 + 1) n (suc a) 0 (λ p q. omega arith), both-eq (suc a + 1) n 0 0 e refl)
+
+lower : (c : Bool) (n i j a : ℕ) → (n ≡ 2 → ⊥) → j ≡ a → Meet c n i (a + 1) → wrapEnds n i j ≡ a
+lower c n i j a h p (inl w) = rw (p, w) (lower-up n a h)
+lower c n i j a h p (inr w) = rw (p, w .1) (lower-end n a (w .2))
 
 -- a reversed seam's step, as process_flipped finds it
-pub step-on : (o : ℕ) (c : Bool) (n y : ℕ) → 3 ≤ n → Offset o c n → y < n → stepOn (reverse o) n y ≡ laidOn (reverse o) n y
+pub step-on : (o : ℕ) (c : Bool) (n y : ℕ) → (n ≡ 2 → ⊥) → Offset o c n → y < n → stepOn (reverse o) n y ≡ laidOn (reverse o) n y
 unfolding stepOn
-step-on o c n y h f k =
-    let r = reverse-step o c n y f k in
-    ap (wrapEnds n (inverse (reverse o) n y)) (r .0)
-    ∙ ⊎-elim
-    (λ w. ap (λ (z : ℕ). wrapEnds n z (laidOn (reverse o) n y)) w ∙ lower-up n (laidOn (reverse o) n y) h)
-    (λ w. ap (λ (z : ℕ). wrapEnds n z (laidOn (reverse o) n y)) (w .0) ∙ lower-end n (laidOn (reverse o) n y) h (w .1))
-    (r .1)
+step-on o c n y h f k = let r = reverse-step o c n y f k in lower c n _ _ _ h (r .0) (r .1)
 
 -- ---- into an ascending list
 
@@ -69,11 +63,13 @@ picks false false true d x y z = inl refl
 picks false false false true x y z = inr (inl refl)
 picks false false false false x y z = inr (inr (refl, refl, refl, refl, refl))
 
-insert-form : (p r : Pair) (rs : List Pair) → (insert p (r ∷ rs) ≡ p ∷ r ∷ rs) ⊎ ((insert p (r ∷ rs) ≡ r ∷ insert p rs) ⊎ ((insert p (r ∷ rs) ≡ r ∷ rs) × (p ≡ r)))
+-- where `insert` puts p: in front of r, behind it, or nowhere, since p is r
+insert-form : (p r : Pair) (rs : List Pair) →
+    (insert p (r ∷ rs) ≡ p ∷ r ∷ rs) ⊎ ((insert p (r ∷ rs) ≡ r ∷ insert p rs) ⊎ ((insert p (r ∷ rs) ≡ r ∷ rs) × (p ≡ r)))
 insert-form p r rs =
-    ⊎-elim
+    three
+    (picks (ltb (p .low) (r .low)) (ltb (r .low) (p .low)) (ltb (p .high) (r .high)) (ltb (r .high) (p .high)) (p ∷ r ∷ rs) (r ∷ insert p rs) (r ∷ rs))
     (λ w. inl w)
-    (λ v. ⊎-elim
     (λ w. inr (inl w))
     (λ w. inr (inr (
       w .0,
@@ -81,44 +77,33 @@ insert-form p r rs =
           (omega (arith, ltb-false (p .low) (r .low) (w .1), ltb-false (r .low) (p .low) (w .2)))
           (omega (arith, ltb-false (p .high) (r .high) (w .3), ltb-false (r .high) (p .high) (w .4))),
     )))
-    v)
-    (picks (ltb (p .low) (r .low)) (ltb (r .low) (p .low)) (ltb (p .high) (r .high)) (ltb (r .high) (p .high)) (p ∷ r ∷ rs) (r ∷ insert p rs) (r ∷ rs))
 
 pub mem-in : {q : Pair} {l k : List Pair} → l ≡ k → List·Memᴰ q l → List·Memᴰ q k
-mem-in {q} e m = subst (λ (z : List Pair). List·Memᴰ q z) e m
+mem-in e m = rw e at m
 
-pub insert-cases : (p : Pair) (ps : List Pair) (q : Pair) → List·Memᴰ q (insert p ps) → (q ≡ p) ⊎ List·Memᴰ q ps
-insert-cases p [] q m = ⊎-elim (λ e. inl e) (λ n. absurd (List·Memᴰ·not-nil n)) (List·Memᴰ·cases-cons m)
+insert-cases : (p : Pair) (ps : List Pair) (q : Pair) → List·Memᴰ q (insert p ps) → (q ≡ p) ⊎ List·Memᴰ q ps
+insert-cases p [] q m = List·Memᴰ·cases-cons m
 insert-cases p (r ∷ rs) q m =
-    ⊎-elim
+    three (insert-form p r rs)
     (λ w. List·Memᴰ·cases-cons (mem-in w m))
-    (λ v. ⊎-elim
     (λ w. ⊎-elim (λ e. inr (List·Memᴰ·head e)) (λ n. ⊎-elim (λ e. inl e) (λ o. inr (List·Memᴰ·tail o)) (insert-cases p rs q n)) (List·Memᴰ·cases-cons (mem-in w m)))
     (λ w. inr (mem-in (w .0) m))
-    v)
-    (insert-form p r rs)
 
-pub insert-there : (p : Pair) (ps : List Pair) (q : Pair) → List·Memᴰ q ps → List·Memᴰ q (insert p ps)
+insert-there : (p : Pair) (ps : List Pair) (q : Pair) → List·Memᴰ q ps → List·Memᴰ q (insert p ps)
 insert-there p [] q m = List·Memᴰ·tail m
 insert-there p (r ∷ rs) q m =
-    ⊎-elim
+    three (insert-form p r rs)
     (λ w. mem-in (sym w) (List·Memᴰ·tail m))
-    (λ v. ⊎-elim
     (λ w. mem-in (sym w) (⊎-elim (λ e. List·Memᴰ·head e) (λ n. List·Memᴰ·tail (insert-there p rs q n)) (List·Memᴰ·cases-cons m)))
     (λ w. mem-in (sym (w .0)) m)
-    v)
-    (insert-form p r rs)
 
-pub insert-here : (p : Pair) (ps : List Pair) → List·Memᴰ p (insert p ps)
+insert-here : (p : Pair) (ps : List Pair) → List·Memᴰ p (insert p ps)
 insert-here p [] = List·Memᴰ·head refl
 insert-here p (r ∷ rs) =
-    ⊎-elim
+    three (insert-form p r rs)
     (λ w. mem-in (sym w) (List·Memᴰ·head refl))
-    (λ v. ⊎-elim
     (λ w. mem-in (sym w) (List·Memᴰ·tail (insert-here p rs)))
     (λ w. mem-in (sym (w .0)) (List·Memᴰ·head (w .1)))
-    v)
-    (insert-form p r rs)
 
 -- ---- ascending
 
@@ -140,7 +125,7 @@ cond-case : (t : Bool) (P : List Pair → Type 0) (x y : List Pair) → (t ≡ t
 cond-case true P x y f g = f refl
 cond-case false P x y f g = g refl
 
-pub insert-ascending : (p : Pair) (ps : List Pair) → Ascending ps → Ascending (insert p ps)
+insert-ascending : (p : Pair) (ps : List Pair) → Ascending ps → Ascending (insert p ps)
 insert-ascending p [] a = (λ q m. absurd (List·Memᴰ·not-nil m), tt)
 insert-ascending p (r ∷ rs) a =
     let below = insert-ascending p rs (a .1) in
@@ -155,13 +140,13 @@ insert-ascending p (r ∷ rs) a =
 
     front : Before p r → Ascending (p ∷ r ∷ rs)
     front b = (
-      λ q m. ⊎-elim (λ e. subst (λ (z : Pair). Before p z) (sym e) b) (λ n. before-trans p r q b (a .0 q n)) (List·Memᴰ·cases-cons m),
+      λ q m. ⊎-elim (λ e. rw e b) (λ n. before-trans p r q b (a .0 q n)) (List·Memᴰ·cases-cons m),
       a,
     )
 
     behind : Ascending (insert p rs) → Before r p → Ascending (r ∷ insert p rs)
     behind below b = (
-      λ q m. ⊎-elim (λ e. subst (λ (z : Pair). Before r z) (sym e) b) (λ n. a .0 q n) (insert-cases p rs q m),
+      λ q m. ⊎-elim (λ e. rw e b) (λ n. a .0 q n) (insert-cases p rs q m),
       below,
     )
 
@@ -210,10 +195,7 @@ abbrev pub Listed : Shape → List Pair → Type 0
 Listed s ps = (p : Pair) → List·Memᴰ p ps → (p .low < length (triangles s)) × (p .high < length (triangles s))
 
 insert-listed : (s : Shape) (i j : ℕ) (ps : List Pair) → i < length (triangles s) → j < length (triangles s) → Listed s ps → Listed s (insert (ordered i j) ps)
-insert-listed s i j ps h k l p q = ⊎-elim (λ e. here (ap (λ (z : Pair). z .low) e) (ap (λ (z : Pair). z .high) e)) (λ m. l p m) (insert-cases (ordered i j) ps p q)
-  where
-    here : p .low ≡ ordered i j .low → p .high ≡ ordered i j .high → (p .low < length (triangles s)) × (p .high < length (triangles s))
-    here a b = omega arith
+insert-listed s i j ps h k l p q = ⊎-elim (λ e. rw e (omega arith)) (λ m. l p m) (insert-cases (ordered i j) ps p q)
 
 pub flipped-listed : (s : Shape) → 0 < s .M → 0 < s .N → Listed s (flipped s)
 flipped-listed s hm hn =
@@ -224,13 +206,13 @@ flipped-listed s hm hn =
 insert-length : (p : Pair) (ps : List Pair) → length (insert p ps) ≤ length ps + 1
 insert-length p [] = omega arith
 insert-length p (r ∷ rs) =
-    ⊎-elim
+    three (insert-form p r rs)
     (λ w. omega (arith, ap length w))
-    (λ v. ⊎-elim (λ w. omega (arith, ap length w, insert-length p rs)) (λ w. omega (arith, ap length (w .0))) v)
-    (insert-form p r rs)
+    (λ w. omega (arith, ap length w, insert-length p rs))
+    (λ w. omega (arith, ap length (w .0)))
 
 -- a run puts down one pair for each step at most
-pub process-at-most : (s : Shape) (m : Seam) (steps : ℕ) (low high : ℕ → ℕ) (n : ℕ) (ps : List Pair) → length (process s m steps low high n ps) ≤ length ps + n
+process-at-most : (s : Shape) (m : Seam) (steps : ℕ) (low high : ℕ → ℕ) (n : ℕ) (ps : List Pair) → length (process s m steps low high n ps) ≤ length ps + n
 process-at-most s m steps low high n ps =
     process-keeps s m steps low high (λ (k : ℕ) (qs : List Pair). length qs ≤ length ps + k) n ps (omega arith)
     (λ y qs h a. omega arith) (λ y qs h l e f a. omega (arith, insert-length (ordered (triangleNumber s (low (stepOn m steps y))) (triangleNumber s (high y))) qs))
@@ -238,42 +220,56 @@ process-at-most s m steps low high n ps =
 pub flipped-at-most : (s : Shape) → length (flipped s) ≤ s .M + s .N
 unfolding flipped
 flipped-at-most s =
-    let pu = process s (s .su) (s .N) (lowU s) (highU s) (s .N) [] in
-    let us = cond (reversed (s .su)) pu [] in
-    let after-u : length us ≤ s .N = cond-case (reversed (s .su)) (λ (l : List Pair). length l ≤ s .N) pu [] (λ e. omega (arith, process-at-most s (s .su) (s .N) (lowU s) (highU s) (s .N) [])) (λ e. omega arith) in
-    let pv = process s (s .sv) (s .M) (lowV s) (highV s) (s .M) us in
-    cond-case (reversed (s .sv)) (λ (l : List Pair). length l ≤ s .M + s .N) pv us (λ e. omega (arith, process-at-most s (s .sv) (s .M) (lowV s) (highV s) (s .M) us)) (λ e. omega arith)
-
--- What process_flipped puts down: one pair for each step of the high rim, where each step lies on `on` of it and all is proper.
-module _ (s : Shape) (m : Seam) (Y : ℕ) (lows highs on : ℕ → ℕ)
-    (on-is : (y : ℕ) → y < Y → stepOn m Y y ≡ on y)
-    (on-lt : (y : ℕ) → y < Y → on y < Y)
-    (low-proper : (y : ℕ) → y < Y → (proper (slot s (lows y)) ≡ true) × (triangleNumber s (lows y) ≡ lows y))
-    (high-proper : (y : ℕ) → y < Y → (proper (slot s (highs y)) ≡ true) × (triangleNumber s (highs y) ≡ highs y))
+    cond-keeps (λ (l : List Pair). length l ≤ s .M + s .N) (reversed (s .sv)) _ us
+    (omega (arith, process-at-most s (s .sv) (s .M) (lowV s) (highV s) (s .M) us, after-u)) (omega (arith, after-u))
   where
-    process-step : (n : ℕ) → n < Y → process s m Y lows highs (suc n) [] ≡ insert (ordered (lows (on n)) (highs n)) (process s m Y lows highs n [])
-    unfolding process
-    process-step n h =
-        rw (on-is n h, lt-ltb (on n) Y (on-lt n h), low-proper (on n) (on-lt n h) .0, high-proper n h .0, low-proper (on n) (on-lt n h) .1, high-proper n h .1)
+    us : List Pair
+    us = cond (reversed (s .su)) (process s (s .su) (s .N) (lowU s) (highU s) (s .N) []) []
 
-    pub process-to : (n : ℕ) → n ≤ Y → (p : Pair) → List·Memᴰ p (process s m Y lows highs n []) → (y : ℕ) × (y < n) × (p ≡ ordered (lows (on y)) (highs y))
-    unfolding process
-    process-to zero h p q = absurd (List·Memᴰ·not-nil q)
-    process-to (suc n) h p q =
-        ⊎-elim
-        (λ e. (n, omega arith, e))
-        (λ r. let t = process-to n (omega arith) p r in (t .0, omega (arith, t .1), t .2))
-        (insert-cases (ordered (lows (on n)) (highs n)) (process s m Y lows highs n []) p (mem-in (process-step n h) q))
+    after-u : length us ≤ s .N
+    after-u =
+        cond-keeps (λ (l : List Pair). length l ≤ s .N) (reversed (s .su)) _ []
+        (omega (arith, process-at-most s (s .su) (s .N) (lowU s) (highU s) (s .N) [])) (omega arith)
 
-    pub process-from : (n : ℕ) → n ≤ Y → (y : ℕ) → y < n → List·Memᴰ (ordered (lows (on y)) (highs y)) (process s m Y lows highs n [])
-    unfolding process
-    process-from zero h y k = let z : ⊥ = omega arith in absurd z
-    process-from (suc n) h y k =
-        mem-in (sym (process-step n h))
-        (⊎-elim
-        (λ l. insert-there (ordered (lows (on n)) (highs n)) (process s m Y lows highs n []) (ordered (lows (on y)) (highs y)) (process-from n (omega arith) y l))
-        (λ l. Memᴰ·cast (ap (λ (z : ℕ). ordered (lows (on z)) (highs z)) (last l)) (insert-here (ordered (lows (on n)) (highs n)) (process s m Y lows highs n [])))
-        (lt-or-le y n))
-      where
-        last : n ≤ y → y ≡ n
-        last l = omega arith
+-- Each of the Y steps of the high rim lies on step `on` of the low one, and no slot of either rim is left out.
+pub record AllLaid (s : Shape) (m : Seam) (Y : ℕ) (lows highs on : ℕ → ℕ) : Type 0 where
+  pub on-is : (y : ℕ) → y < Y → stepOn m Y y ≡ on y
+  pub on-lt : (y : ℕ) → y < Y → on y < Y
+  pub low-proper : (y : ℕ) → y < Y → (proper (slot s (lows y)) ≡ true) × (triangleNumber s (lows y) ≡ lows y)
+  pub high-proper : (y : ℕ) → y < Y → (proper (slot s (highs y)) ≡ true) × (triangleNumber s (highs y) ≡ highs y)
+
+-- Then what process_flipped puts down is one pair for each step of the high rim.
+module _ {s : Shape} {m : Seam} {Y : ℕ} {lows highs on : ℕ → ℕ} (laid : AllLaid s m Y lows highs on) where
+  open AllLaid laid using (on-is, on-lt, low-proper, high-proper)
+
+  -- the pair of step y, and the pairs of the first n steps
+  abbrev pairAt : ℕ → Pair
+  pairAt y = ordered (lows (on y)) (highs y)
+
+  abbrev put : ℕ → List Pair
+  put n = process s m Y lows highs n []
+
+  process-step : (n : ℕ) → n < Y → put (suc n) ≡ insert (pairAt n) (put n)
+  unfolding process
+  process-step n h =
+      rw (on-is n h, lt-ltb (on n) Y (on-lt n h), low-proper (on n) (on-lt n h) .0, high-proper n h .0, low-proper (on n) (on-lt n h) .1, high-proper n h .1)
+
+  pub process-to : (n : ℕ) → n ≤ Y → (p : Pair) → List·Memᴰ p (put n) → (y : ℕ) × (y < n) × (p ≡ pairAt y)
+  unfolding process
+  process-to zero h p q = absurd (List·Memᴰ·not-nil q)
+  process-to (suc n) h p q =
+      ⊎-elim
+      (λ e. (n, omega arith, e))
+      (λ r. let t = process-to n (omega arith) p r in (t .0, omega (arith, t .1), t .2))
+      (insert-cases (pairAt n) (put n) p (mem-in (process-step n h) q))
+
+  pub process-from : (n : ℕ) → n ≤ Y → (y : ℕ) → y < n → List·Memᴰ (pairAt y) (put n)
+  unfolding process
+  process-from zero h y k = absurd (omega arith)
+  process-from (suc n) h y k =
+      let b : y ≤ n = omega arith in
+      mem-in (sym (process-step n h))
+      (⊎-elim
+      (λ (e : y ≡ n). rw e (insert-here (pairAt n) (put n)))
+      (λ (l : y < n). insert-there (pairAt n) (put n) (pairAt y) (process-from n (omega arith) y l))
+      (eq-or-lt-of-le b))

@@ -2,13 +2,14 @@
 -- does no more than read the last row of a closed column as its first. One after the other, in either order, they give the strip's point, and no
 -- further rule moves it. A corner in a row before the last leaves out the v rule, which has nothing to do there: a covered joining takes no
 -- point inside a column to its end. Assumes nothing.
-use Prim.Native.Nat.{ℕ, _+_, _-_, _≤_, _<_}
+use Prim.Native.Nat.{ℕ, _+_, _≤_, _<_}
 use mathlib.Core.Path.{_≡_, refl, sym, ap, _∙_}
-use mathlib.Core.Logic.{_⊎_, inl, inr, ⊎-elim}
+use mathlib.Core.Logic.{inl, inr, ⊎-elim}
 use mathlib.Core.Bool.{Bool, true, false, _&&_, false≢true, cond}
 use native.Mathlib.Omega.{arith}
 use lib.Dec.{eqb}
 use borrow.Author.Tests.{ne-eqb}
+use Rattle.float.proofs.Tests.{cond-keeps}
 use Rattle.surface.specs.Surface.{Seam, joined, inverse, Point, at, Rule, once, twice, Shape, uRule, vRule, number, joinedBy, J, cornerBy, corner}
 use Rattle.surface.proofs.Steps.{eqb-cases, wrap, wrap-open, wrap-closed, wrap-below, wrap-wrap, carried, carried-wrap, inv-forward-0}
 use Rattle.surface.proofs.Strip.{Strip, colOf, rowOf, pointOf, row-below, col-below}
@@ -35,29 +36,27 @@ pt a x y = at (xOf a x y) (yOf a x y)
 abbrev last : Axis → Shape → ℕ → Bool
 last a s x = joined (seamOf a s) && eqb x (columns a s)
 
+cond-at : (t : Bool) (u v u′ v′ : ℕ) → cond t (at u v) (at u′ v′) ≡ at (cond t u u′) (cond t v v′)
+cond-at true u v u′ v′ = refl
+cond-at false u v u′ v′ = refl
+
 seam-rule : (s : Shape) (a : Axis) (x y : ℕ) →
     seamRule a s (pt a x y) ≡ pt a (wrap (joined (seamOf a s)) (columns a s) x) (cond (last a s x) (inverse (seamOf a s) (rows a s) y) y)
 unfolding wrap
-seam-rule s axisU x y = go (last axisU s x)
-  where
-    go : (t : Bool) → cond t (at 0 (inverse (s .su) (s .N) y)) (at x y) ≡ at (cond t 0 x) (cond t (inverse (s .su) (s .N) y) y)
-    go true = refl
-    go false = refl
-seam-rule s axisV x y = go (last axisV s x)
-  where
-    go : (t : Bool) → cond t (at (inverse (s .sv) (s .M) y) 0) (at y x) ≡ at (cond t (inverse (s .sv) (s .M) y) y) (cond t 0 x)
-    go true = refl
-    go false = refl
+seam-rule s axisU x y = cond-at (last axisU s x) 0 (inverse (s .su) (s .N) y) x y
+seam-rule s axisV x y = cond-at (last axisV s x) (inverse (s .sv) (s .M) y) 0 y x
 
+-- a plain seam takes each point to the one opposite
 plain-cond : (m : Seam) → Plain m → (t : Bool) (n b : ℕ) → cond t (inverse m n b) b ≡ b
-plain-cond m (inl e) true n b = ap (λ (z : Seam). inverse z n b) e
-plain-cond m (inr e) true n b = ap (λ (z : Seam). inverse z n b) e ∙ inv-forward-0 n b
+plain-cond m (inl e) true n b = rw e
+plain-cond m (inr e) true n b = rw e (inv-forward-0 n b)
 plain-cond m e false n b = refl
 
 closing-rule : (s : Shape) (a : Axis) (x y : ℕ) → Plain (closing a s) → closingRule a s (pt a x y) ≡ pt a x (wrap (joined (closing a s)) (rows a s) y)
-closing-rule s axisU x y e = seam-rule s axisV y x ∙ ap (λ (z : ℕ). at z (wrap (joined (s .sv)) (s .N) y)) (plain-cond (s .sv) e (last axisV s y) (s .M) x)
-closing-rule s axisV x y e = seam-rule s axisU y x ∙ ap (at (wrap (joined (s .su)) (s .M) y)) (plain-cond (s .su) e (last axisU s y) (s .N) x)
+closing-rule s axisU x y e = seam-rule s axisV y x ∙ rw (plain-cond (s .sv) e (last axisV s y) (s .M) x)
+closing-rule s axisV x y e = seam-rule s axisU y x ∙ rw (plain-cond (s .su) e (last axisU s y) (s .N) x)
 
+-- an index before the end of a closed row is read as it is, and what is read is before the end
 wrap-fix : (c : Bool) (n i : ℕ) → (c ≡ true → i < n) → wrap c n i ≡ i
 wrap-fix false n i h = wrap-open n i
 wrap-fix true n i h = wrap-below true n i (h refl)
@@ -135,7 +134,7 @@ module _ (s : Shape) (steps : HasSteps s) (a : Axis) (w : SeenAlong a s) where
   unfolding place
   seam-stays x y =
       seam-rule s a (colOf S x) (rowOf S x y)
-      ∙ pt-same a (ap (wrap j X) (col-form x) ∙ wrap-wrap j X x X>0 ∙ sym (col-form x)) (ap (λ (t : Bool). cond t (inv (rowOf S x y)) (rowOf S x y)) not-last)
+      ∙ pt-same a (ap (wrap j X) (col-form x) ∙ wrap-wrap j X x X>0 ∙ sym (col-form x)) (rw not-last)
     where
       not-last : last a s (colOf S x) ≡ false
       not-last = ap (last a s) (col-form x) ∙ settled j X x X>0
@@ -149,11 +148,7 @@ module _ (s : Shape) (steps : HasSteps s) (a : Axis) (w : SeenAlong a s) where
   -- the closing rule first
   closed-first : (x y : ℕ) → place x (wrap c Y y) ≡ place x y
   unfolding place
-  closed-first x y = pt-same a refl (row-form x (wrap c Y y) ∙ go (last a s x) ∙ sym (row-form x y))
-    where
-      go : (t : Bool) → cond t (carried (seamOf a s) c Y (wrap c Y y)) (wrap c Y (wrap c Y y)) ≡ cond t (carried (seamOf a s) c Y y) (wrap c Y y)
-      go true = carried-wrap (seamOf a s) c Y y Y>0 fits
-      go false = wrap-wrap c Y y Y>0
+  closed-first x y = pt-same a refl (cc (row-form x (wrap c Y y), row-form x y, carried-wrap (seamOf a s) c Y y Y>0 fits, wrap-wrap c Y y Y>0))
 
   closing-seam : KeepsInside once (seamOf a s) c Y → (x y : ℕ) → y ≤ Y → seamRule a s (closingRule a s (pt a x y)) ≡ place x y
   unfolding place carried
@@ -173,11 +168,8 @@ module _ (s : Shape) (steps : HasSteps s) (a : Axis) (w : SeenAlong a s) where
   unfolding place
   seam-alone k x y h =
       seam-rule s a x y
-      ∙ pt-same a (sym (col-form x)) (sym (row-wrap x y ∙ wrap-fix c Y (cond (last a s x) (inv y) y) (λ e. go e (last a s x))))
-    where
-      go : c ≡ true → (t : Bool) → cond t (inv y) y < Y
-      go e true = k e y h
-      go e false = h
+      ∙ pt-same a (sym (col-form x))
+      (sym (row-wrap x y ∙ wrap-fix c Y (cond (last a s x) (inv y) y) (λ e. cond-keeps (λ (z : ℕ). z < Y) (last a s x) (inv y) y (k e y h) h)))
 
   -- before the last column the closing rule is enough
   closing-alone : (x y : ℕ) → x < X → closingRule a s (pt a x y) ≡ place x y
@@ -201,11 +193,7 @@ joined-place s steps axisV w twice k x y h =
 -- a corner is where both rules lead; before row N−1, where the u rule leads
 corner-once : (s : Shape) (row : ℕ) (p q : Point) → vRule s (uRule s p) ≡ q → ((row + 1 ≡ s .N → ⊥) → uRule s p ≡ q) → cornerBy once s row p ≡ q
 unfolding cornerBy
-corner-once s row p q e f =
-    ⊎-elim
-    (λ t. ap (λ (z : Bool). cond z (vRule s (uRule s p)) (uRule s p)) (t .0) ∙ e)
-    (λ t. ap (λ (z : Bool). cond z (vRule s (uRule s p)) (uRule s p)) (t .0) ∙ f (t .1))
-    (eqb-cases (row + 1) (s .N))
+corner-once s row p q e f = ⊎-elim (λ t. rw (t .0) e) (λ t. rw (t .0) (f (t .1))) (eqb-cases (row + 1) (s .N))
 
 -- in request 8 every corner is J's point
 twice-corner : (s : Shape) (row : ℕ) (p : Point) → cornerBy twice s row p ≡ joinedBy twice s p
@@ -223,10 +211,10 @@ corner-place s steps axisU w twice k row u v h i l = twice-corner s row (at u v)
 corner-place s steps axisV w twice k row u v h i l = twice-corner s row (at u v) ∙ joined-place s steps axisV w twice k v u l
 
 -- J of a grid point is the strip's point
-pub J-is : (s : Shape) (steps : HasSteps s) (a : Axis) (w : SeenAlong a s) (x y : ℕ) → x ≤ columns a s → y ≤ rows a s →
+pub J-is : (s : Shape) (steps : HasSteps s) (a : Axis) (w : SeenAlong a s) (x y : ℕ) → y ≤ rows a s →
     J s (xOf a x y) (yOf a x y) ≡ pointOf (strip s steps a w) x y
 unfolding J pointOf strip place
-J-is s steps a w x y h k = ap (number s) (joined-place s steps a w (s .rule) (w .inside) x y k)
+J-is s steps a w x y h = ap (number s) (joined-place s steps a w (s .rule) (w .inside) x y h)
 
 -- and so is a corner of a cell
 pub corner-is : (s : Shape) (steps : HasSteps s) (a : Axis) (w : SeenAlong a s) (u v : ℕ) → u < s .M → v < s .N → (i j : Bool) →

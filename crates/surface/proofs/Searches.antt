@@ -17,18 +17,18 @@ column-is g n u start e = fun-ext (λ v. ap (pointAt g) (omega arith))
 row-is : (g : List Float) (n v : ℕ) → row g n v ≡ rowOf g v (n + 1)
 row-is g n v = fun-ext (λ u. ap (pointAt g) (omega arith))
 
--- rows of equal length, at least 2
-searched-rows : (a b a′ b′ : Row) (steps : ℕ) → 1 ≤ steps → a ≡ a′ → b ≡ b′ → searchRows allClose a b (steps + 1 - 1) ≡ searchRows allClose a′ b′ steps
-searched-rows a b a′ b′ steps h p q = let e : steps + 1 - 1 ≡ steps = omega arith in cc
+-- the same rows, and as many steps as points but one
+searched-rows : (a b a′ b′ : Row) (steps : ℕ) → a ≡ a′ → b ≡ b′ → searchRows allClose a b (steps + 1 - 1) ≡ searchRows allClose a′ b′ steps
+searched-rows a b a′ b′ steps p q = let e : steps + 1 - 1 ≡ steps = omega arith in cc
 
 pub u-search : (g : List Float) (m n : ℕ) → 1 ≤ n → uSearch g m n ≡ searchRows allClose (rowOf g 0 1) (rowOf g (m * (n + 1)) 1) n
 unfolding uSearch
 u-search g m n h =
     long-rows allClose (column g n 0) (column g n m) (n + 1) (n + 1) (omega arith) (omega arith)
-    ∙ searched-rows (column g n 0) (column g n m) (rowOf g 0 1) (rowOf g (m * (n + 1)) 1) n h (column-is g n 0 0 (omega arith)) (column-is g n m (m * (n + 1)) (omega arith))
+    ∙ searched-rows (column g n 0) (column g n m) (rowOf g 0 1) (rowOf g (m * (n + 1)) 1) n (column-is g n 0 0 (omega arith)) (column-is g n m (m * (n + 1)) (omega arith))
 
 pub v-search : (g : List Float) (m n : ℕ) → 1 ≤ m → vSearch g m n ≡ searchRows allClose (rowOf g 0 (n + 1)) (rowOf g n (n + 1)) m
 unfolding vSearch
 v-search g m n h =
     long-rows allClose (row g n 0) (row g n n) (m + 1) (m + 1) (omega arith) (omega arith)
-    ∙ searched-rows (row g n 0) (row g n n) (rowOf g 0 (n + 1)) (rowOf g n (n + 1)) m h (row-is g n 0) (row-is g n n)
+    ∙ searched-rows (row g n 0) (row g n n) (rowOf g 0 (n + 1)) (rowOf g n (n + 1)) m (row-is g n 0) (row-is g n n)

@@ -1,15 +1,15 @@
 -- A surface seen along an axis: its triangles, rims, edges and flipped pairs are those of the strip, with u and v in their places or exchanged.
 -- Assumes nothing.
 use Prim.Native.Nat.{ℕ, _-_, _≤_, _<_}
-use mathlib.Core.Path.{_≡_, sym, ap, _∙_, subst}
-use mathlib.Core.Logic.{_⊎_, inl, inr, ⊎-elim}
+use mathlib.Core.Path.{_≡_, sym, ap, _∙_}
+use mathlib.Core.Logic.{inl, inr, ⊎-elim}
 use mathlib.Core.Bool.{Bool, true, false, not, true≢false, cond}
-use mathlib.Core.List.{List, []}
-use Rattle.surface.specs.Surface.{Seam, unjoined, joined, reversed, Split, falling, rising, Shape, J, halfOf, Follows, Rim, GridEdge, along-u, along-v, falls, rises, Pair, process, flipped, lowU, highU, lowV, highV}
+use mathlib.Core.List.{[]}
+use Rattle.surface.specs.Surface.{Seam, unjoined, joined, reversed, Split, falling, rising, Shape, J, halfOf, Follows, Rim, GridEdge, along-u, along-v, falls, rises, process, flipped, lowU, highU, lowV, highV}
 use Rattle.surface.proofs.Strip.{Strip, Kind, straight, across, diagonal, pointOf}
 use Rattle.surface.proofs.CellSides.{Cell, corners, endsOf, sideFrom, sideTo}
 use Rattle.surface.proofs.Owners.{OnRim}
-use Rattle.surface.proofs.Rims.{EdgeAt, edge-flip, rim-to, rim-from, edge-across, edge-straight, edge-falling, edge-rising}
+use Rattle.surface.proofs.Rims.{Numbered, EdgeAt, edge-flip, rim-to, rim-from, edge-across, edge-straight, edge-falling, edge-rising}
 use Rattle.surface.proofs.Directions.{Runs, along-ends, ends-along}
 use Rattle.surface.proofs.Triangles.{halfNum, index}
 use Rattle.surface.proofs.Halves.{cellDir, start, finish, cellCorners, follows-run, run-follows, lowU-index, highU-index, lowV-index, highV-index}
@@ -19,27 +19,26 @@ use Rattle.surface.proofs.Points.{J-is, corner-is}
 -- ---- runs along a cell's sides
 
 -- two sides whose ends are the same have the same runs; if their ends are the other way round, opposite runs
-run-same : (w : Bool) (e e′ : ℕ × ℕ) → e .0 ≡ e′ .0 → e .1 ≡ e′ .1 → (start w e ≡ start w e′) × (finish w e ≡ finish w e′)
-run-same true e e′ p q = (p, q)
-run-same false e e′ p q = (q, p)
+run-same : (w : Bool) {a b a′ b′ : ℕ} → a ≡ a′ → b ≡ b′ → (start w (a, b) ≡ start w (a′, b′)) × (finish w (a, b) ≡ finish w (a′, b′))
+run-same true p q = (p, q)
+run-same false p q = (q, p)
 
-run-not : (w : Bool) (e e′ : ℕ × ℕ) → e .0 ≡ e′ .1 → e .1 ≡ e′ .0 → (start w e ≡ start (not w) e′) × (finish w e ≡ finish (not w) e′)
-run-not true e e′ p q = (p, q)
-run-not false e e′ p q = (q, p)
+run-not : (w : Bool) {a b a′ b′ : ℕ} → a ≡ b′ → b ≡ a′ → (start w (a, b) ≡ start (not w) (a′, b′)) × (finish w (a, b) ≡ finish (not w) (a′, b′))
+run-not true p q = (p, q)
+run-not false p q = (q, p)
 
 -- so a run along a side of the cell with corners c is one along a side of the strip's cell, with corners c′
-module _ (c c′ : Bool → Bool → ℕ) where
-  run-is : (a : Axis) → ((i j : Bool) → c i j ≡ c′ (xOf a i j) (yOf a i j)) → (d : Split) (k : Kind) (t : Bool) →
-      (start (cellDir (kindOf a k) t) (endsOf c (kindOf a k) d t) ≡ start (sideDir a d k t) (endsOf c′ k d t))
-      × (finish (cellDir (kindOf a k) t) (endsOf c (kindOf a k) d t) ≡ finish (sideDir a d k t) (endsOf c′ k d t))
-  run-is axisU e d straight t = run-same t (c t false, c t true) (c′ t false, c′ t true) (e t false) (e t true)
-  run-is axisU e d across t = run-same (not t) (c false t, c true t) (c′ false t, c′ true t) (e false t) (e true t)
-  run-is axisU e falling diagonal t = run-same t (c false true, c true false) (c′ false true, c′ true false) (e false true) (e true false)
-  run-is axisU e rising diagonal t = run-same t (c false false, c true true) (c′ false false, c′ true true) (e false false) (e true true)
-  run-is axisV e d straight t = run-same (not t) (c false t, c true t) (c′ t false, c′ t true) (e false t) (e true t)
-  run-is axisV e d across t = run-same t (c t false, c t true) (c′ false t, c′ true t) (e t false) (e t true)
-  run-is axisV e falling diagonal t = run-not t (c false true, c true false) (c′ false true, c′ true false) (e false true) (e true false)
-  run-is axisV e rising diagonal t = run-same t (c false false, c true true) (c′ false false, c′ true true) (e false false) (e true true)
+run-is : (c c′ : Bool → Bool → ℕ) (a : Axis) → ((i j : Bool) → c i j ≡ c′ (xOf a i j) (yOf a i j)) → (d : Split) (k : Kind) (t : Bool) →
+    (start (cellDir (kindOf a k) t) (endsOf c (kindOf a k) d t) ≡ start (sideDir a d k t) (endsOf c′ k d t))
+    × (finish (cellDir (kindOf a k) t) (endsOf c (kindOf a k) d t) ≡ finish (sideDir a d k t) (endsOf c′ k d t))
+run-is c c′ axisU e d straight t = run-same t (e t false) (e t true)
+run-is c c′ axisU e d across t = run-same (not t) (e false t) (e true t)
+run-is c c′ axisU e falling diagonal t = run-same t (e false true) (e true false)
+run-is c c′ axisU e rising diagonal t = run-same t (e false false) (e true true)
+run-is c c′ axisV e d straight t = run-same (not t) (e false t) (e true t)
+run-is c c′ axisV e d across t = run-same t (e t false) (e t true)
+run-is c c′ axisV e falling diagonal t = run-not t (e false true) (e true false)
+run-is c c′ axisV e rising diagonal t = run-same t (e false false) (e true true)
 
 -- a plain seam that is not joined is unjoined, and none is reversed
 plain-open : (m : Seam) → Plain m → joined m ≡ false → m ≡ unjoined
@@ -69,7 +68,7 @@ high-index s axisV y = highV-index s y
 
 -- ---- cells
 
-pub cell-seen : (s : Shape) (steps : HasSteps s) (a : Axis) (w : SeenAlong a s) (u v : ℕ) → u < s .M → v < s .N → Cell (strip s steps a w) (xOf a u v) (yOf a u v)
+cell-seen : (s : Shape) (steps : HasSteps s) (a : Axis) (w : SeenAlong a s) (u v : ℕ) → u < s .M → v < s .N → Cell (strip s steps a w) (xOf a u v) (yOf a u v)
 unfolding strip
 cell-seen s steps axisU w u v h k = (h, k)
 cell-seen s steps axisV w u v h k = (k, h)
@@ -98,7 +97,7 @@ module _ (s : Shape) (steps : HasSteps s) (a : Axis) (w : SeenAlong a s) where
         t = r .t;
         cell = cell-seen s steps a w i j hi hj;
         on = rw (turn-kind a (r .k)) (r .on);
-        along = ends-along S (S .dir k (r .t)) p q (sideFrom S k (r .t) x y) (sideTo S k (r .t) x y) (r .from ∙ e .0) (r .to ∙ e .1);
+        along = ends-along (S .dir k (r .t)) (sideFrom S k (r .t) x y) (sideTo S k (r .t) x y) (sym (r .runs .0) ∙ e .0) (sym (r .runs .1) ∙ e .1);
       }
 
   pub from-runs : (h : Bool) (i j p q : ℕ) → i < s .M → j < s .N → Runs S h (xOf a i j) (yOf a i j) p q → Follows (halfOf s (s .split) (halfNum h) i j) p q
@@ -107,48 +106,48 @@ module _ (s : Shape) (steps : HasSteps s) (a : Axis) (w : SeenAlong a s) where
       let x = xOf a i j in
       let y = yOf a i j in
       let e = run-is (cellCorners s i j) (corners S x y) a (corner-is s steps a w i j hi hj) (s .split) (r .k) (r .t) in
-      let g = along-ends S (S .dir (r .k) (r .t)) p q (sideFrom S (r .k) (r .t) x y) (sideTo S (r .k) (r .t) x y) (r .along) in
-      subst (λ (z : Bool). Follows (halfOf s (s .split) (halfNum z) i j) p q) (r .on) (run-follows s i j p q (s .split) (kindOf a (r .k)) (r .t) (g .0 ∙ sym (e .0)) (g .1 ∙ sym (e .1)))
+      let g = along-ends (r .along) in
+      rw (← (r .on)) (run-follows s i j p q (s .split) (kindOf a (r .k)) (r .t) (e .0 ∙ sym (g .0), e .1 ∙ sym (g .1)))
 
-  -- J, by column and row
+  -- J gives the strip's points their numbers
   abbrev P : ℕ → ℕ → ℕ
   P x y = J s (xOf a x y) (yOf a x y)
 
-  P-is : (x y : ℕ) → x ≤ columns a s → y ≤ rows a s → P x y ≡ pointOf S x y
+  P-is : (x y : ℕ) → y ≤ S .Y → P x y ≡ pointOf S x y
+  unfolding strip
   P-is = J-is s steps a w
+
+  abbrev by-J : Numbered S
+  by-J = record { P = P; P-is = P-is }
 
 -- 01's rims are the strip's, and its edges are sides of the strip's cells
 pub rim-seen : (s : Shape) (steps : HasSteps s) (a : Axis) (w : SeenAlong a s) (p q : ℕ) → Rim s p q → OnRim (strip s steps a w) p q
 unfolding strip
-rim-seen s steps axisU w p q (inl r) = rim-to (S s steps axisU w) (P s steps axisU w) (P-is s steps axisU w) p q (inl r)
-rim-seen s steps axisU w p q (inr r) = rim-to (S s steps axisU w) (P s steps axisU w) (P-is s steps axisU w) p q (inr (ap joined (r .0), r .1))
-rim-seen s steps axisV w p q (inl r) = rim-to (S s steps axisV w) (P s steps axisV w) (P-is s steps axisV w) p q (inr (ap joined (r .0), r .1))
-rim-seen s steps axisV w p q (inr r) = rim-to (S s steps axisV w) (P s steps axisV w) (P-is s steps axisV w) p q (inl r)
+rim-seen s steps axisU w p q (inl r) = rim-to (by-J s steps axisU w) p q (inl r)
+rim-seen s steps axisU w p q (inr r) = rim-to (by-J s steps axisU w) p q (inr (ap joined (r .0), r .1))
+rim-seen s steps axisV w p q (inl r) = rim-to (by-J s steps axisV w) p q (inr (ap joined (r .0), r .1))
+rim-seen s steps axisV w p q (inr r) = rim-to (by-J s steps axisV w) p q (inl r)
 
 pub seen-rim : (s : Shape) (steps : HasSteps s) (a : Axis) (w : SeenAlong a s) (p q : ℕ) → OnRim (strip s steps a w) p q → Rim s p q
 unfolding strip
-seen-rim s steps axisU w p q r = ⊎-elim (λ z. inl z) (λ z. inr (plain-open (s .sv) (w .plain) (z .0), z .1)) (rim-from (S s steps axisU w) (P s steps axisU w) (P-is s steps axisU w) p q r)
-seen-rim s steps axisV w p q r = ⊎-elim (λ z. inr z) (λ z. inl (plain-open (s .su) (w .plain) (z .0), z .1)) (rim-from (S s steps axisV w) (P s steps axisV w) (P-is s steps axisV w) p q r)
+seen-rim s steps axisU w p q r = ⊎-elim (λ z. inl z) (λ z. inr (plain-open (s .sv) (w .plain) (z .0), z .1)) (rim-from (by-J s steps axisU w) p q r)
+seen-rim s steps axisV w p q r = ⊎-elim (λ z. inr z) (λ z. inl (plain-open (s .su) (w .plain) (z .0), z .1)) (rim-from (by-J s steps axisV w) p q r)
 
 pub edge-seen : (s : Shape) (steps : HasSteps s) (a : Axis) (w : SeenAlong a s) (i j i′ j′ : ℕ) → GridEdge s i j i′ j′ →
     EdgeAt (strip s steps a w) (J s i j) (J s i′ j′)
 unfolding strip
-edge-seen s steps axisU w i j i′ j′ (along-u {u} {v} h k) = edge-across (S s steps axisU w) (P s steps axisU w) (P-is s steps axisU w) u v h k
-edge-seen s steps axisU w i j i′ j′ (along-v {u} {v} h k) = edge-straight (S s steps axisU w) (P s steps axisU w) (P-is s steps axisU w) u v h k
-edge-seen s steps axisU w i j i′ j′ (falls {u} {v} h k e) = edge-falling (S s steps axisU w) (P s steps axisU w) (P-is s steps axisU w) u v h k e
-edge-seen s steps axisU w i j i′ j′ (rises {u} {v} h k e) = edge-rising (S s steps axisU w) (P s steps axisU w) (P-is s steps axisU w) u v h k e
-edge-seen s steps axisV w i j i′ j′ (along-u {u} {v} h k) = edge-straight (S s steps axisV w) (P s steps axisV w) (P-is s steps axisV w) v u k h
-edge-seen s steps axisV w i j i′ j′ (along-v {u} {v} h k) = edge-across (S s steps axisV w) (P s steps axisV w) (P-is s steps axisV w) v u k h
-edge-seen s steps axisV w i j i′ j′ (falls {u} {v} h k e) = edge-flip (S s steps axisV w) _ _ (edge-falling (S s steps axisV w) (P s steps axisV w) (P-is s steps axisV w) v u k h e)
-edge-seen s steps axisV w i j i′ j′ (rises {u} {v} h k e) = edge-rising (S s steps axisV w) (P s steps axisV w) (P-is s steps axisV w) v u k h e
+edge-seen s steps axisU w i j i′ j′ (along-u {u} {v} h k) = edge-across (by-J s steps axisU w) u v h k
+edge-seen s steps axisU w i j i′ j′ (along-v {u} {v} h k) = edge-straight (by-J s steps axisU w) u v h k
+edge-seen s steps axisU w i j i′ j′ (falls {u} {v} h k e) = edge-falling (by-J s steps axisU w) u v h k e
+edge-seen s steps axisU w i j i′ j′ (rises {u} {v} h k e) = edge-rising (by-J s steps axisU w) u v h k e
+edge-seen s steps axisV w i j i′ j′ (along-u {u} {v} h k) = edge-straight (by-J s steps axisV w) v u k h
+edge-seen s steps axisV w i j i′ j′ (along-v {u} {v} h k) = edge-across (by-J s steps axisV w) v u k h
+edge-seen s steps axisV w i j i′ j′ (falls {u} {v} h k e) = edge-flip (edge-falling (by-J s steps axisV w) v u k h e)
+edge-seen s steps axisV w i j i′ j′ (rises {u} {v} h k e) = edge-rising (by-J s steps axisV w) v u k h e
 
 -- only the strip's seam can be reversed
 pub flipped-seen : (s : Shape) (a : Axis) → Plain (closing a s) →
     flipped s ≡ cond (reversed (seamOf a s)) (process s (seamOf a s) (rows a s) (lows a s) (highs a s) (rows a s) []) []
 unfolding flipped
-flipped-seen s axisU w =
-    let us = cond (reversed (s .su)) (process s (s .su) (s .N) (lowU s) (highU s) (s .N) []) [] in
-    ap (λ (t : Bool). cond t (process s (s .sv) (s .M) (lowV s) (highV s) (s .M) us) us) (plain-reversed (s .sv) w)
-flipped-seen s axisV w =
-    ap (λ (us : List Pair). cond (reversed (s .sv)) (process s (s .sv) (s .M) (lowV s) (highV s) (s .M) us) us)
-    (ap (λ (t : Bool). cond t (process s (s .su) (s .N) (lowU s) (highU s) (s .N) []) []) (plain-reversed (s .su) w))
+flipped-seen s axisU w = rw (plain-reversed (s .sv) w)
+flipped-seen s axisV w = rw (plain-reversed (s .su) w)

@@ -13,7 +13,7 @@ use Rattle.cyclic.proofs.Mappings.{three, inverse-at, reverse-at, reverse-same}
 use Rattle.surface.specs.Surface.{Seam, unjoined, forward, reverse, inverse}
 
 -- two either-ors, case by case
-pub four : {A B C D P : Type 0} → A ⊎ B → C ⊎ D → (A → C → P) → (A → D → P) → (B → C → P) → (B → D → P) → P
+four : {A B C D P : Type 0} → A ⊎ B → C ⊎ D → (A → C → P) → (A → D → P) → (B → C → P) → (B → D → P) → P
 four (inl a) (inl c) f g h k = f a c
 four (inl a) (inr d) f g h k = g a d
 four (inr b) (inl c) f g h k = h b c
@@ -46,9 +46,9 @@ wrap-open n i = refl
 
 pub wrap-closed : (n i : ℕ) → ((wrap true n i ≡ 0) × (i ≡ n)) ⊎ ((wrap true n i ≡ i) × (i ≡ n → ⊥))
 unfolding wrap
-wrap-closed n i = ⊎-elim (λ h. inl (ap (λ (t : Bool). cond t 0 i) (h .0), h .1)) (λ h. inr (ap (λ (t : Bool). cond t 0 i) (h .0), h .1)) (eqb-cases i n)
+wrap-closed n i = ⊎-elim (λ h. inl (rw (h .0), h .1)) (λ h. inr (rw (h .0), h .1)) (eqb-cases i n)
 
-pub wrap-two : (c : Bool) (n i : ℕ) → ((wrap c n i ≡ 0) × (i ≡ n)) ⊎ (wrap c n i ≡ i)
+wrap-two : (c : Bool) (n i : ℕ) → ((wrap c n i ≡ 0) × (i ≡ n)) ⊎ (wrap c n i ≡ i)
 wrap-two false n i = inr (wrap-open n i)
 wrap-two true n i = ⊎-elim (λ h. inl h) (λ h. inr (h .0)) (wrap-closed n i)
 
@@ -66,8 +66,8 @@ wrap-wrap false n i h = wrap-open n (wrap false n i)
 wrap-wrap true n i h =
     ⊎-elim (λ w. wrap-below true n (wrap true n i) (omega arith)) (λ w. ap (wrap true n) (w .0)) (wrap-closed n i)
 
--- one step on is not where it was, and two steps are not back, if a closed row has 3 steps; and steps end apart that start apart
-pub step-ne : (c : Bool) (n i : ℕ) → (c ≡ true → 3 ≤ n) → i < n → wrap c n (i + 1) ≡ i → ⊥
+-- one step on is not where it was, if a closed row has 2 steps, and two steps are not back, if it has 3; and steps end apart that start apart
+pub step-ne : (c : Bool) (n i : ℕ) → (c ≡ true → 2 ≤ n) → i < n → wrap c n (i + 1) ≡ i → ⊥
 step-ne true n i h k e = let t = h refl in ⊎-elim (λ w. omega arith) (λ w. omega arith) (wrap-two true n (i + 1))
 step-ne false n i h k e = omega (arith, wrap-open n (i + 1))
 
@@ -87,12 +87,12 @@ pub inv-forward-0 : (n b : ℕ) → inverse (forward 0) n b ≡ b
 unfolding mapping.inverse
 inv-forward-0 n b = refl
 
-pub inv-reverse-0 : (n b : ℕ) → inverse (reverse 0) n b ≡ n - b
+inv-reverse-0 : (n b : ℕ) → inverse (reverse 0) n b ≡ n - b
 unfolding mapping.inverse
 inv-reverse-0 n b = refl
 
-pub inv-forward : (o n b : ℕ) → 0 < o → o < n → b ≤ n → ((b < o) × (inverse (forward o) n b ≡ b + n - o)) ⊎ ((o ≤ b) × (inverse (forward o) n b ≡ b - o))
-inv-forward o n b p q r = three (inverse-at o n b q r) (λ w. absurd (omega arith)) (λ w. inr (w .1, omega arith)) (λ w. inl (w .1, omega arith))
+pub inv-forward : (o n b : ℕ) → o < n → b ≤ n → ((b < o) × (inverse (forward o) n b ≡ b + n - o)) ⊎ ((o ≤ b) × (inverse (forward o) n b ≡ b - o))
+inv-forward o n b q r = three (inverse-at o n b q r) (λ w. inr (omega arith, omega arith)) (λ w. inr (w .1, omega arith)) (λ w. inl (w .1, omega arith))
 
 pub inv-reverse : (o n b : ℕ) → 0 < o → o < n → b ≤ n → ((b ≤ o) × (inverse (reverse o) n b ≡ o - b)) ⊎ ((o < b) × (inverse (reverse o) n b ≡ o + n - b))
 inv-reverse o n b p q r = rw reverse-same (three (reverse-at o n b q r) (λ w. absurd (omega arith)) (λ w. inl (w .1, omega arith)) (λ w. inr (w .1, omega arith)))
@@ -124,8 +124,7 @@ laidBack (forward o) n y = cond (ltb (y + o) n) (y + o) (y + o - n)
 laidBack (reverse o) n y = laidOn (reverse o) n y
 
 ltb-cond : (a b x y : ℕ) → ((a < b) × (cond (ltb a b) x y ≡ x)) ⊎ ((b ≤ a) × (cond (ltb a b) x y ≡ y))
-ltb-cond a b x y =
-    ⊎-elim (λ h. inl (h, ap (λ (t : Bool). cond t x y) (lt-ltb a b h))) (λ h. inr (h, ap (λ (t : Bool). cond t x y) (le-ltb a b h))) (lt-or-le a b)
+ltb-cond a b x y = ⊎-elim (λ h. inl (h, rw (lt-ltb a b h))) (λ h. inr (h, rw (le-ltb a b h))) (lt-or-le a b)
 
 on-forward : (o n y : ℕ) → ((y < o) × (laidOn (forward o) n y ≡ y + n - o)) ⊎ ((o ≤ y) × (laidOn (forward o) n y ≡ y - o))
 unfolding laidOn
@@ -144,6 +143,13 @@ offset-lt zero c n h f = h
 offset-lt (suc o) true n h f = f
 offset-lt (suc o) false n h f = absurd f
 
+-- only a closed row has an offset other than 0
+only-closed : (o : ℕ) (c : Bool) (n : ℕ) → Offset o c n → 0 < o → c ≡ true
+only-closed zero c n f h = absurd (omega arith)
+only-closed (suc o) true n f h = refl
+only-closed (suc o) false n f h = absurd f
+
+-- a step lies on a step of row a, and one of row b lies on each
 pub on-below : (m : Seam) (c : Bool) (n y : ℕ) → Fits m c n → y < n → laidOn m n y < n
 unfolding laidOn
 on-below unjoined c n y f h = h
@@ -179,95 +185,92 @@ on-inj (reverse o) c n y z f h k e =
 wrap-is : (c : Bool) (n i e : ℕ) → i ≡ e → e < n → wrap c n i ≡ e
 wrap-is c n i e p h = ap (wrap c n) p ∙ wrap-below c n e h
 
-wrap-eq : (n i e : ℕ) → (i ≡ e) ⊎ ((i ≡ 0) × (e ≡ n)) → 0 < n → wrap true n i ≡ wrap true n e
-wrap-eq n i e (inl p) h = ap (wrap true n) p
-wrap-eq n i e (inr p) h = wrap-is true n i 0 (p .0) h ∙ sym (ap (wrap true n) (p .1) ∙ wrap-end n)
+-- i and e are one index, or the two ends of a closed row, which are one point
+abbrev pub Meet : Bool → ℕ → ℕ → ℕ → Type 0
+Meet c n i e = (i ≡ e) ⊎ ((c ≡ true) × (i ≡ 0) × (e ≡ n))
+
+wrap-eq : (c : Bool) (n i e : ℕ) → 0 < n → Meet c n i e → wrap c n i ≡ wrap c n e
+wrap-eq c n i e h (inl p) = ap (wrap c n) p
+wrap-eq c n i e h (inr p) = rw (p .0, p .1, p .2) (wrap-below true n 0 h ∙ sym (wrap-end n))
 
 -- ---- the points of a step, carried from row b to row a
 
 unfoldable pub carried : Seam → Bool → ℕ → ℕ → ℕ
 carried m c n y = wrap c n (inverse m n y)
 
--- A forward seam lays step y on step `laidOn`, the same way round.
-pub adj-forward : (o : ℕ) (c : Bool) (n y : ℕ) → Offset o c n → y < n →
-    (carried (forward o) c n y ≡ laidOn (forward o) n y) × (carried (forward o) c n (y + 1) ≡ wrap c n (laidOn (forward o) n y + 1))
-unfolding carried
-adj-forward zero c n y f h =
-    let e : laidOn (forward 0) n y ≡ y = ⊎-elim (λ w. omega arith) (λ w. omega arith) (on-forward 0 n y) in
-    (wrap-is c n (inverse (forward 0) n y) (laidOn (forward 0) n y) (inv-forward-0 n y ∙ sym e) (omega arith), ap (wrap c n) (inv-forward-0 n (y + 1) ∙ ap (λ (x : ℕ). x + 1) (sym e)))
-adj-forward (suc o) true n y f h =
-    let b = on-below (forward (suc o)) true n y f h in (
-      wrap-is true n (inverse (forward (suc o)) n y) (laidOn (forward (suc o)) n y)
-          (four (inv-forward (suc o) n y (omega arith) f (omega arith)) (on-forward (suc o) n y) (λ w z. omega arith) (λ w z. omega arith) (λ w z. omega arith) (λ w z. omega arith))
-          b,
-      wrap-eq n (inverse (forward (suc o)) n (y + 1)) (laidOn (forward (suc o)) n y + 1)
-          (four (inv-forward (suc o) n (y + 1) (omega arith) f (omega arith)) (on-forward (suc o) n y) (λ w z. inl (omega arith)) (λ w z. inl (omega arith)) (λ w z. inr (omega arith, omega arith)) (λ w z. inl (omega arith)))
-          (omega arith),
+-- the inverse images of the two points of a step, forward
+forward-step : (o : ℕ) (c : Bool) (n y : ℕ) → Offset o c n → y < n →
+    (inverse (forward o) n y ≡ laidOn (forward o) n y) × Meet c n (inverse (forward o) n (y + 1)) (laidOn (forward o) n y + 1)
+forward-step o c n y f h =
+    let q : o < n = offset-lt o c n (omega arith) f in (
+      four (inv-forward o n y q (omega arith)) (on-forward o n y) (λ w z. omega arith) (λ w z. omega arith) (λ w z. omega arith) (λ w z. omega arith),
+      four (inv-forward o n (y + 1) q (omega arith)) (on-forward o n y)
+          (λ w z. inl (omega arith))
+          (λ w z. inl (omega arith))
+          (λ w z. inr (only-closed o c n f (omega arith), omega arith, omega arith))
+          (λ w z. inl (omega arith)),
     )
-adj-forward (suc o) false n y f h = absurd f
 
--- A reversed seam's two points of a step, before the ends of a closed row are made one.
+-- and in reverse
 pub reverse-step : (o : ℕ) (c : Bool) (n y : ℕ) → Offset o c n → y < n →
-    (inverse (reverse o) n (y + 1) ≡ laidOn (reverse o) n y) × ((inverse (reverse o) n y ≡ laidOn (reverse o) n y + 1) ⊎ ((inverse (reverse o) n y ≡ 0) × (laidOn (reverse o) n y + 1 ≡ n)))
+    (inverse (reverse o) n (y + 1) ≡ laidOn (reverse o) n y) × Meet c n (inverse (reverse o) n y) (laidOn (reverse o) n y + 1)
 reverse-step zero c n y f h =
     let e : laidOn (reverse 0) n y ≡ n - 1 - y = ⊎-elim (λ w. omega arith) (λ w. omega arith) (on-reverse 0 n y) in
     (omega (arith, inv-reverse-0 n (y + 1)), inl (omega (arith, inv-reverse-0 n y)))
 reverse-step (suc o) true n y f h = (
   four (inv-reverse (suc o) n (y + 1) (omega arith) f (omega arith)) (on-reverse (suc o) n y) (λ w z. omega arith) (λ w z. omega arith) (λ w z. omega arith) (λ w z. omega arith),
-  four (inv-reverse (suc o) n y (omega arith) f (omega arith)) (on-reverse (suc o) n y) (λ w z. inl (omega arith)) (λ w z. inr (omega arith, omega arith)) (λ w z. inl (omega arith)) (λ w z. inl (omega arith)),
+  four (inv-reverse (suc o) n y (omega arith) f (omega arith)) (on-reverse (suc o) n y)
+      (λ w z. inl (omega arith))
+      (λ w z. inr (refl, omega arith, omega arith))
+      (λ w z. inl (omega arith))
+      (λ w z. inl (omega arith)),
 )
 reverse-step (suc o) false n y f h = absurd f
+
+-- A forward seam lays step y on step `laidOn`, the same way round.
+pub adj-forward : (o : ℕ) (c : Bool) (n y : ℕ) → Offset o c n → y < n →
+    (carried (forward o) c n y ≡ laidOn (forward o) n y) × (carried (forward o) c n (y + 1) ≡ wrap c n (laidOn (forward o) n y + 1))
+unfolding carried
+adj-forward o c n y f h =
+    let r = forward-step o c n y f h in
+    (wrap-is c n _ _ (r .0) (on-below (forward o) c n y f h), wrap-eq c n _ _ (omega arith) (r .1))
 
 -- A reversed seam lays step y on step `laidOn`, the other way round.
 pub adj-reverse : (o : ℕ) (c : Bool) (n y : ℕ) → Offset o c n → y < n →
     (carried (reverse o) c n (y + 1) ≡ laidOn (reverse o) n y) × (carried (reverse o) c n y ≡ wrap c n (laidOn (reverse o) n y + 1))
 unfolding carried
-adj-reverse zero c n y f h =
-    let e : laidOn (reverse 0) n y ≡ n - 1 - y = ⊎-elim (λ w. omega arith) (λ w. omega arith) (on-reverse 0 n y) in
-    (wrap-is c n (inverse (reverse 0) n (y + 1)) (laidOn (reverse 0) n y) (omega (arith, inv-reverse-0 n (y + 1))) (omega arith), ap (wrap c n) (omega (arith, inv-reverse-0 n y)))
-adj-reverse (suc o) true n y f h =
-    let r = reverse-step (suc o) true n y f h in (
-      wrap-is true n (inverse (reverse (suc o)) n (y + 1)) (laidOn (reverse (suc o)) n y) (r .0) (on-below (reverse (suc o)) true n y f h),
-      wrap-eq n (inverse (reverse (suc o)) n y) (laidOn (reverse (suc o)) n y + 1) (r .1) (omega arith),
-    )
-adj-reverse (suc o) false n y f h = absurd f
+adj-reverse o c n y f h =
+    let r = reverse-step o c n y f h in
+    (wrap-is c n _ _ (r .0) (on-below (reverse o) c n y f h), wrap-eq c n _ _ (omega arith) (r .1))
 
 -- on a closed row the two ends are carried to one point
-pub carried-ends : (m : Seam) (n : ℕ) → 0 < n → Fits m true n → carried m true n n ≡ carried m true n 0
+carried-ends : (m : Seam) (n : ℕ) → 0 < n → Fits m true n → carried m true n 0 ≡ carried m true n n
 unfolding carried
-carried-ends unjoined n h f = wrap-end n ∙ sym (wrap-below true n 0 h)
-carried-ends (forward zero) n h f = ap (wrap true n) (inv-forward-0 n n) ∙ wrap-end n ∙ sym (wrap-is true n (inverse (forward 0) n 0) 0 (inv-forward-0 n 0) h)
-carried-ends (forward (suc o)) n h f =
+carried-ends unjoined n h f = wrap-eq true n 0 n h (inr (refl, refl, refl))
+carried-ends (forward o) n h f =
+    let q : o < n = offset-lt o true n h f in
+    wrap-eq true n _ _ h
+    (four (inv-forward o n 0 q (omega arith)) (inv-forward o n n q (omega arith))
+    (λ w z. inl (omega arith)) (λ w z. inl (omega arith)) (λ w z. inl (omega arith)) (λ w z. inr (refl, omega arith, omega arith)))
+carried-ends (reverse zero) n h f = sym (wrap-eq true n _ _ h (inr (refl, omega (arith, inv-reverse-0 n n), omega (arith, inv-reverse-0 n 0))))
+carried-ends (reverse (suc o)) n h f =
     ap (wrap true n)
-    (four (inv-forward (suc o) n n (omega arith) f (omega arith)) (inv-forward (suc o) n 0 (omega arith) f (omega arith)) (λ w z. omega arith) (λ w z. omega arith) (λ w z. omega arith) (λ w z. omega arith))
-carried-ends (reverse zero) n h f =
-    wrap-is true n (inverse (reverse 0) n n) 0 (omega (arith, inv-reverse-0 n n)) h
-    ∙ sym (wrap-eq n (inverse (reverse 0) n 0) n (inl (omega (arith, inv-reverse-0 n 0))) h ∙ wrap-end n)
-carried-ends (reverse (suc o)) n h f = ap (wrap true n) (at-n ∙ sym at-0)
-  where
-    at-n : inverse (reverse (suc o)) n n ≡ suc o
-    at-n = ⊎-elim (λ w. omega arith) (λ w. omega arith) (inv-reverse (suc o) n n (omega arith) f (omega arith))
+    (four (inv-reverse (suc o) n 0 (omega arith) f (omega arith)) (inv-reverse (suc o) n n (omega arith) f (omega arith))
+    (λ w z. omega arith) (λ w z. omega arith) (λ w z. omega arith) (λ w z. omega arith))
 
-    at-0 : inverse (reverse (suc o)) n 0 ≡ suc o
-    at-0 = ⊎-elim (λ w. omega arith) (λ w. omega arith) (inv-reverse (suc o) n 0 (omega arith) f (omega arith))
-
-pub inverse-le : (m : Seam) (c : Bool) (n b : ℕ) → 0 < n → Fits m c n → b ≤ n → inverse m n b ≤ n
+inverse-le : (m : Seam) (c : Bool) (n b : ℕ) → 0 < n → Fits m c n → b ≤ n → inverse m n b ≤ n
 inverse-le unjoined c n b z f h = h
-inverse-le (forward zero) c n b z f h = omega (arith, inv-forward-0 n b)
-inverse-le (forward (suc o)) true n b z f h = ⊎-elim (λ w. omega arith) (λ w. omega arith) (inv-forward (suc o) n b (omega arith) f h)
-inverse-le (forward (suc o)) false n b z f h = absurd f
-inverse-le (reverse zero) c n b z f h = omega (arith, inv-reverse-0 n b)
-inverse-le (reverse (suc o)) true n b z f h = ⊎-elim (λ w. omega arith) (λ w. omega arith) (inv-reverse (suc o) n b (omega arith) f h)
-inverse-le (reverse (suc o)) false n b z f h = absurd f
+inverse-le (forward o) c n b z f h =
+    let q : o < n = offset-lt o c n z f in
+    three (inverse-at o n b q h) (λ w. omega arith) (λ w. omega arith) (λ w. omega arith)
+inverse-le (reverse o) c n b z f h =
+    let q : o < n = offset-lt o c n z f in
+    rw reverse-same (three (reverse-at o n b q h) (λ w. omega arith) (λ w. omega arith) (λ w. omega arith))
 
 pub carried-le : (m : Seam) (c : Bool) (n b : ℕ) → 0 < n → Fits m c n → b ≤ n → carried m c n b ≤ n
 unfolding carried
 carried-le m c n b z f h = wrap-le c n (inverse m n b) (inverse-le m c n b z f h)
 
 pub carried-wrap : (m : Seam) (c : Bool) (n y : ℕ) → 0 < n → Fits m c n → carried m c n (wrap c n y) ≡ carried m c n y
-carried-wrap m false n y z f = ap (carried m false n) (wrap-open n y)
-carried-wrap m true n y z f =
-    ⊎-elim
-    (λ w. ap (carried m true n) (w .0) ∙ sym (carried-ends m n z f) ∙ ap (carried m true n) (sym (w .1)))
-    (λ w. ap (carried m true n) (w .0))
-    (wrap-closed n y)
+carried-wrap m false n y z f = rw wrap-open
+carried-wrap m true n y z f = ⊎-elim (λ w. rw (w .0, w .1) (carried-ends m n z f)) (λ w. rw (w .0)) (wrap-closed n y)

@@ -1,13 +1,14 @@
 -- A joined grid as a strip: columns 0 to X of points 0 to Y each, column X joined to column 0 by a seam or not at all, every column closed or
 -- open. Each side has one name (`one-name`): two names with the same two ends, in either order, would need a step that ends where it starts or two
 -- steps that go there and back, and where a way around is closed and has at least 3 steps, or is open, there are none. Assumes nothing.
-use Prim.Native.Nat.{ℕ, _+_, _-_, _≤_, _<_}
-use mathlib.Core.Path.{_≡_, refl, sym, ap, _∙_}
+use Prim.Native.Nat.{ℕ, _+_, _≤_, _<_}
+use mathlib.Core.Path.{_≡_, refl, sym, _∙_}
 use mathlib.Core.Logic.{_⊎_, inl, inr, ⊎-elim}
-use mathlib.Core.Bool.{Bool, true, false, _&&_, _||_, not, cond}
+use mathlib.Core.Bool.{Bool, true, false, _&&_, not, cond, and-false}
 use native.Mathlib.Omega.{arith}
 use lib.Dec.{eqb}
 use borrow.Author.Tests.{ne-eqb}
+use Rattle.float.proofs.Tests.{cond-keeps}
 use Rattle.surface.specs.Surface.{Seam, unjoined, forward, reverse, joined, reversed, Split, falling, rising, Same}
 use Rattle.surface.proofs.Steps.{wrap, wrap-below, wrap-le, wrap-wrap, step-ne, step-two, step-inj, Fits, laidOn, on-below, carried, adj-forward, adj-reverse, carried-le, carried-wrap}
 
@@ -27,9 +28,9 @@ pub record Strip : Type 0 where
   pub num : ℕ → ℕ → ℕ
   pub X>0 : 0 < X
   pub Y>0 : 0 < Y
-  -- enough steps around, and along a seam that is reversed
-  pub X≥3 : joined seam ≡ true → 3 ≤ X
-  pub Y≥3 : (closed || reversed seam) ≡ true → 3 ≤ Y
+  -- no cell meets itself
+  pub X≥2 : joined seam ≡ true → 2 ≤ X
+  pub Y≥2 : closed ≡ true → 2 ≤ Y
   pub fits : Fits seam closed Y
   pub inj : (x y x′ y′ : ℕ) → x ≤ X → y ≤ Y → x′ ≤ X → y′ ≤ Y → num x y ≡ num x′ y′ → (x ≡ x′) × (y ≡ y′)
   -- which half of its cell has the low (false) or high (true) side of a kind; a diagonal is a side of both
@@ -38,6 +39,15 @@ pub record Strip : Type 0 where
   -- whether that half runs along it from its first end to its second; the half beyond the side runs the other way
   pub dir : Kind → Bool → Bool
   pub dir-not : (k : Kind) (t : Bool) → dir k (not t) ≡ not (dir k t)
+
+-- no two cells lie between the same points
+abbrev pub ThreeAround : Strip → Type 0
+ThreeAround S = (joined (S .seam) ≡ true → 3 ≤ S .X) × (S .closed ≡ true → 3 ≤ S .Y)
+
+pub reversed-joined : (m : Seam) → reversed m ≡ true → joined m ≡ true
+reversed-joined unjoined e = e
+reversed-joined (forward o) e = refl
+reversed-joined (reverse o) e = refl
 
 -- column x is the far one, and joined to column 0
 abbrev pub crossing : Strip → ℕ → Bool
@@ -67,20 +77,16 @@ unfoldable pub next : Strip → ℕ → ℕ
 next S y = wrap (S .closed) (S .Y) (y + 1)
 
 module _ (S : Strip) where
-  open Strip S using (X, Y, closed, seam, split, num, X>0, Y>0, fits, inj)
+  open Strip S using (X, Y, closed, seam, fits)
 
-  -- ---- columns
+  -- ---- before the last column: a point keeps its column, a step is its own
 
-  pub crossing-below : (x : ℕ) → x < X → crossing S x ≡ false
-  crossing-below x h = go (joined seam)
-    where
-      go : (t : Bool) → (t && eqb x X) ≡ false
-      go true = ne-eqb x X (λ e. omega arith)
-      go false = refl
+  crossing-below : (x : ℕ) → x < X → crossing S x ≡ false
+  crossing-below x h = rw (ne-eqb x X (λ e. omega arith)) (and-false (joined seam))
 
   pub row-below : (x y : ℕ) → x < X → rowOf S x y ≡ wrap closed Y y
   unfolding rowOf
-  row-below x y h = ap (λ (t : Bool). cond t (carried seam closed Y y) (wrap closed Y y)) (crossing-below x h)
+  row-below x y h = rw (crossing-below x h)
 
   pub col-below : (x : ℕ) → x < X → colOf S x ≡ x
   unfolding colOf
@@ -88,25 +94,17 @@ module _ (S : Strip) where
 
   pub step-below : (x y : ℕ) → x < X → stepAt S x y ≡ y
   unfolding stepAt
-  step-below x y h = ap (λ (t : Bool). cond t (laidOn seam Y y) y) (crossing-below x h)
+  step-below x y h = rw (crossing-below x h)
+
+  -- ---- what a point or a step is joined to is in the strip
 
   pub stepAt-lt : (x y : ℕ) → y < Y → stepAt S x y < Y
   unfolding stepAt
-  stepAt-lt x y h = go (crossing S x)
-    where
-      go : (t : Bool) → cond t (laidOn seam Y y) y < Y
-      go true = on-below seam closed Y y fits h
-      go false = h
+  stepAt-lt x y h = cond-keeps (λ (z : ℕ). z < Y) (crossing S x) _ _ (on-below seam closed Y y fits h) h
 
-  -- ---- rows
-
-  pub row-le : (x y : ℕ) → y ≤ Y → rowOf S x y ≤ Y
+  row-le : (x y : ℕ) → y ≤ Y → rowOf S x y ≤ Y
   unfolding rowOf
-  row-le x y h = go (crossing S x)
-    where
-      go : (t : Bool) → cond t (carried seam closed Y y) (wrap closed Y y) ≤ Y
-      go true = carried-le seam closed Y y (omega arith) fits h
-      go false = wrap-le closed Y y h
+  row-le x y h = cond-keeps (λ (z : ℕ). z ≤ Y) (crossing S x) _ _ (carried-le seam closed Y y (omega arith) fits h) (wrap-le closed Y y h)
 
   pub col-le : (x : ℕ) → x ≤ X → colOf S x ≤ X
   unfolding colOf
@@ -116,37 +114,20 @@ module _ (S : Strip) where
   unfolding next
   next-le y h = wrap-le closed Y (y + 1) (omega arith)
 
+  -- the ends of a closed column are one point, and so are those that they are joined to
   pub row-next : (x y : ℕ) → rowOf S x (next S y) ≡ rowOf S x (y + 1)
   unfolding rowOf next
-  row-next x y = go (crossing S x)
-    where
-      go : (t : Bool) → cond t (carried seam closed Y (wrap closed Y (y + 1))) (wrap closed Y (wrap closed Y (y + 1))) ≡ cond t (carried seam closed Y (y + 1)) (wrap closed Y (y + 1))
-      go true = carried-wrap seam closed Y (y + 1) (omega arith) fits
-      go false = wrap-wrap closed Y (y + 1) (omega arith)
+  row-next x y = rw (carried-wrap seam closed Y (y + 1) (omega arith) fits, wrap-wrap closed Y (y + 1) (omega arith))
 
-  closed≥3 : closed ≡ true → 3 ≤ Y
-  closed≥3 e = S .Y≥3 (ap (λ (t : Bool). t || reversed seam) e)
-
-  -- a reversed seam joins the last column to the first, and has enough steps
-  pub reversed≥3 : reversed seam ≡ true → (3 ≤ X) × (3 ≤ Y)
-  reversed≥3 e = (S .X≥3 (is-joined seam e), S .Y≥3 (or closed))
-    where
-      is-joined : (m : Seam) → reversed m ≡ true → joined m ≡ true
-      is-joined unjoined h = h
-      is-joined (forward o) h = refl
-      is-joined (reverse o) h = refl
-
-      or : (c : Bool) → (c || reversed seam) ≡ true
-      or true = refl
-      or false = e
+  -- ---- no step ends where it starts, and no two go there and back
 
   pub next-ne : (y : ℕ) → y < Y → next S y ≡ y → ⊥
   unfolding next
-  next-ne y h = step-ne closed Y y closed≥3 h
+  next-ne y h = step-ne closed Y y (S .Y≥2) h
 
-  pub next-two : (y z : ℕ) → y < Y → z < Y → next S y ≡ z → next S z ≡ y → ⊥
+  next-two : ThreeAround S → (y z : ℕ) → y < Y → z < Y → next S y ≡ z → next S z ≡ y → ⊥
   unfolding next
-  next-two y z h k = step-two closed Y y z closed≥3 h k
+  next-two w y z h k = step-two closed Y y z (w .1) h k
 
   pub next-inj : (y z : ℕ) → y < Y → z < Y → next S y ≡ next S z → y ≡ z
   unfolding next
@@ -154,15 +135,17 @@ module _ (S : Strip) where
 
   pub col-ne : (x : ℕ) → x < X → colOf S (x + 1) ≡ x → ⊥
   unfolding colOf
-  col-ne x h = step-ne (joined seam) X x (S .X≥3) h
+  col-ne x h = step-ne (joined seam) X x (S .X≥2) h
 
-  pub col-two : (x z : ℕ) → x < X → z < X → colOf S (x + 1) ≡ z → colOf S (z + 1) ≡ x → ⊥
+  col-two : ThreeAround S → (x z : ℕ) → x < X → z < X → colOf S (x + 1) ≡ z → colOf S (z + 1) ≡ x → ⊥
   unfolding colOf
-  col-two x z h k = step-two (joined seam) X x z (S .X≥3) h k
+  col-two w x z h k = step-two (joined seam) X x z (w .0) h k
 
   pub col-inj : (x z : ℕ) → x < X → z < X → colOf S (x + 1) ≡ colOf S (z + 1) → x ≡ z
   unfolding colOf
   col-inj x z h k = step-inj (joined seam) X x z h k
+
+  -- ---- the two ends of a step
 
   -- the two ends of step y of column x, joined: as step `stepAt` of its column, one way round or the other
   abbrev pub Adjacent : ℕ → ℕ → Type 0
@@ -189,7 +172,8 @@ module _ (S : Strip) where
       go (reverse o) true f = let a = adj-reverse o closed Y y f h in inr (refl, a .0, a .1)
       go (reverse o) false f = inl (refl, wrap-below closed Y y h, refl)
 
-  pub row-ne : (x y : ℕ) → y < Y → rowOf S x y ≡ rowOf S x (y + 1) → ⊥
+  -- so they are apart
+  row-ne : (x y : ℕ) → y < Y → rowOf S x y ≡ rowOf S x (y + 1) → ⊥
   row-ne x y h e =
       ⊎-elim
       (λ w. next-ne (stepAt S x y) (stepAt-lt x y h) (sym (w .2) ∙ sym e ∙ w .1))
@@ -232,7 +216,7 @@ Valid S across x y = (x < S .X) × (y ≤ S .Y)
 Valid S diagonal x y = (x < S .X) × (y < S .Y)
 
 module _ (S : Strip) where
-  open Strip S using (X, Y, closed, seam, split, num, X>0, Y>0, fits, inj)
+  open Strip S using (X, Y, split, inj)
 
   pub x-le : (k : Kind) (x y : ℕ) → Valid S k x y → x ≤ X
   x-le straight x y v = v .0
@@ -269,39 +253,39 @@ module _ (S : Strip) where
   in-order across straight d x y x′ y′ v v′ p q r s = absurd (col-ne S x (v .0) (r ∙ sym p))
   in-order across across d x y x′ y′ v v′ p q r s = (refl, p, q)
   in-order across diagonal falling x y x′ y′ v v′ p q r s =
-      absurd (row-ne S (x′ + 1) y′ (v′ .1) (sym s ∙ ap (λ (t : ℕ). rowOf S (t + 1) y) p ∙ ap (rowOf S (x′ + 1)) q ∙ row-next S (x′ + 1) y′))
+      absurd (row-ne S (x′ + 1) y′ (v′ .1) (cc (row-next S (x′ + 1) y′)))
   in-order across diagonal rising x y x′ y′ v v′ p q r s =
-      absurd (row-ne S (x′ + 1) y′ (v′ .1) (sym (ap (λ (t : ℕ). rowOf S (t + 1) y) p ∙ ap (rowOf S (x′ + 1)) q) ∙ s))
+      absurd (row-ne S (x′ + 1) y′ (v′ .1) (cc))
   in-order diagonal straight d x y x′ y′ v v′ p q r s = absurd (col-ne S x (v .0) (r ∙ sym p))
   in-order diagonal across falling x y x′ y′ v v′ p q r s =
-      absurd (row-ne S (x + 1) y (v .1) (s ∙ ap (λ (t : ℕ). rowOf S (t + 1) y′) (sym p) ∙ ap (rowOf S (x + 1)) (sym q) ∙ row-next S (x + 1) y))
+      absurd (row-ne S (x + 1) y (v .1) (cc (row-next S (x + 1) y)))
   in-order diagonal across rising x y x′ y′ v v′ p q r s =
-      absurd (row-ne S (x + 1) y (v .1) (sym (s ∙ ap (λ (t : ℕ). rowOf S (t + 1) y′) (sym p) ∙ ap (rowOf S (x + 1)) (sym q))))
+      absurd (row-ne S (x + 1) y (v .1) (cc))
   in-order diagonal diagonal falling x y x′ y′ v v′ p q r s = (refl, p, next-inj S y y′ (v .1) (v′ .1) q)
   in-order diagonal diagonal rising x y x′ y′ v v′ p q r s = (refl, p, q)
 
   -- the ends of two names never agree the other way round
-  in-turn : (k k′ : Kind) (d : Split) (x y x′ y′ : ℕ) → Valid S k x y → Valid S k′ x′ y′ →
+  in-turn : ThreeAround S → (k k′ : Kind) (d : Split) (x y x′ y′ : ℕ) → Valid S k x y → Valid S k′ x′ y′ →
       x ≡ toX S k′ x′ → fromY S k d y ≡ toY S k′ d x′ y′ → toX S k x ≡ x′ → toY S k d x y ≡ fromY S k′ d y′ → ⊥
-  in-turn straight straight d x y x′ y′ v v′ p q r s = next-two S y y′ (v .1) (v′ .1) s (sym q)
-  in-turn straight across d x y x′ y′ v v′ p q r s = col-ne S x′ (v′ .0) (sym p ∙ r)
-  in-turn straight diagonal d x y x′ y′ v v′ p q r s = col-ne S x′ (v′ .0) (sym p ∙ r)
-  in-turn across straight d x y x′ y′ v v′ p q r s = col-ne S x (v .0) (r ∙ sym p)
-  in-turn across across d x y x′ y′ v v′ p q r s = col-two S x x′ (v .0) (v′ .0) r (sym p)
-  in-turn across diagonal d x y x′ y′ v v′ p q r s = col-two S x x′ (v .0) (v′ .0) r (sym p)
-  in-turn diagonal straight d x y x′ y′ v v′ p q r s = col-ne S x (v .0) (r ∙ sym p)
-  in-turn diagonal across d x y x′ y′ v v′ p q r s = col-two S x x′ (v .0) (v′ .0) r (sym p)
-  in-turn diagonal diagonal d x y x′ y′ v v′ p q r s = col-two S x x′ (v .0) (v′ .0) r (sym p)
+  in-turn w straight straight d x y x′ y′ v v′ p q r s = next-two S w y y′ (v .1) (v′ .1) s (sym q)
+  in-turn w straight across d x y x′ y′ v v′ p q r s = col-ne S x′ (v′ .0) (sym p ∙ r)
+  in-turn w straight diagonal d x y x′ y′ v v′ p q r s = col-ne S x′ (v′ .0) (sym p ∙ r)
+  in-turn w across straight d x y x′ y′ v v′ p q r s = col-ne S x (v .0) (r ∙ sym p)
+  in-turn w across across d x y x′ y′ v v′ p q r s = col-two S w x x′ (v .0) (v′ .0) r (sym p)
+  in-turn w across diagonal d x y x′ y′ v v′ p q r s = col-two S w x x′ (v .0) (v′ .0) r (sym p)
+  in-turn w diagonal straight d x y x′ y′ v v′ p q r s = col-ne S x (v .0) (r ∙ sym p)
+  in-turn w diagonal across d x y x′ y′ v v′ p q r s = col-two S w x x′ (v .0) (v′ .0) r (sym p)
+  in-turn w diagonal diagonal d x y x′ y′ v v′ p q r s = col-two S w x x′ (v .0) (v′ .0) r (sym p)
 
   -- so a side has one name
-  pub one-name : (k k′ : Kind) (x y x′ y′ : ℕ) → Valid S k x y → Valid S k′ x′ y′ →
+  pub one-name : ThreeAround S → (k k′ : Kind) (x y x′ y′ : ℕ) → Valid S k x y → Valid S k′ x′ y′ →
       Same (nameFrom S k x y) (nameTo S k x y) (nameFrom S k′ x′ y′) (nameTo S k′ x′ y′) → Agree k k′ x y x′ y′
   unfolding nameFrom nameTo
-  one-name k k′ x y x′ y′ v v′ (inl e) =
-      let p = inj x (fromY S k split y) x′ (fromY S k′ split y′) (x-le k x y v) (fromY-le k split x y v) (x-le k′ x′ y′ v′) (fromY-le k′ split x′ y′ v′) (e .0) in
-      let q = inj (toX S k x) (toY S k split x y) (toX S k′ x′) (toY S k′ split x′ y′) (toX-le k x y v) (toY-le k split x y v) (toX-le k′ x′ y′ v′) (toY-le k′ split x′ y′ v′) (e .1) in
+  one-name w k k′ x y x′ y′ v v′ (inl e) =
+      let p = inj _ _ _ _ (x-le k x y v) (fromY-le k split x y v) (x-le k′ x′ y′ v′) (fromY-le k′ split x′ y′ v′) (e .0) in
+      let q = inj _ _ _ _ (toX-le k x y v) (toY-le k split x y v) (toX-le k′ x′ y′ v′) (toY-le k′ split x′ y′ v′) (e .1) in
       in-order k k′ split x y x′ y′ v v′ (p .0) (p .1) (q .0) (q .1)
-  one-name k k′ x y x′ y′ v v′ (inr e) =
-      let p = inj x (fromY S k split y) (toX S k′ x′) (toY S k′ split x′ y′) (x-le k x y v) (fromY-le k split x y v) (toX-le k′ x′ y′ v′) (toY-le k′ split x′ y′ v′) (e .0) in
-      let q = inj (toX S k x) (toY S k split x y) x′ (fromY S k′ split y′) (toX-le k x y v) (toY-le k split x y v) (x-le k′ x′ y′ v′) (fromY-le k′ split x′ y′ v′) (e .1) in
-      absurd (in-turn k k′ split x y x′ y′ v v′ (p .0) (p .1) (q .0) (q .1))
+  one-name w k k′ x y x′ y′ v v′ (inr e) =
+      let p = inj _ _ _ _ (x-le k x y v) (fromY-le k split x y v) (toX-le k′ x′ y′ v′) (toY-le k′ split x′ y′ v′) (e .0) in
+      let q = inj _ _ _ _ (toX-le k x y v) (toY-le k split x y v) (x-le k′ x′ y′ v′) (fromY-le k′ split x′ y′ v′) (e .1) in
+      absurd (in-turn w k k′ split x y x′ y′ v v′ (p .0) (p .1) (q .0) (q .1))

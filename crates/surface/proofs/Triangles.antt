@@ -1,17 +1,19 @@
 -- The list of triangles: a slot emits one at most; slot 2·(u·N + v) + h is half h of cell (u, v) and no other; and where every slot emits its
 -- triangle, slot i is triangle i. Assumes nothing.
-use Prim.Native.Nat.{ℕ, zero, suc, _+_, _-_, _*_, _/_, _%_, _≤_, _<_}
-use mathlib.Core.Path.{_≡_, refl, sym, ap, _∙_}
+use Prim.Native.Nat.{ℕ, zero, suc, _+_, _*_, _/_, _%_, _≤_, _<_}
+use mathlib.Core.Path.{_≡_, refl, sym, _∙_}
 use mathlib.Core.Logic.{⊎-elim}
 use mathlib.Core.Bool.{Bool, true, false, cond}
-use mathlib.Core.List.{List, [], _∷_, _++_}
+use mathlib.Core.List.{[], _∷_, _++_}
 use native.Mathlib.Omega.{arith}
-use native.Mathlib.Nat.{mod-lt, div-add-mod', div-lt-iff-lt-mul}
+use native.Mathlib.Nat.{mod-lt, div-add-mod', div-lt-iff-lt-mul, eq-or-lt-of-le}
 use lib.Dec.{eqb}
 use lib.Arith.{digits-div, digits-mod, digits-lt}
-use lib.ListN.{length, getD, length-append, List·getD-append}
+use lib.Seq.{getD-at}
+use lib.ListN.{length, length-append, List·getD-append}
 use borrow.Author.Tests.{eq-eqb, ne-eqb}
-use Rattle.surface.specs.Surface.{Shape, Triangle, tri, halfOf, slot, slots, proper, kept, triangles, triangleNumber, nth}
+use Rattle.float.proofs.Tests.{cond-keeps}
+use Rattle.surface.specs.Surface.{Shape, tri, halfOf, slot, slots, proper, kept, triangles, triangleNumber, nth}
 use Rattle.surface.proofs.Steps.{eqb-cases, lt-or-le}
 
 -- ---- of any shape
@@ -19,15 +21,14 @@ use Rattle.surface.proofs.Steps.{eqb-cases, lt-or-le}
 -- what one slot adds
 kept-more : (s : Shape) (n : ℕ) → length (kept s (suc n)) ≡ length (kept s n) + cond (proper (slot s n)) 1 0
 unfolding kept
-kept-more s n = length-append (kept s n) (cond (proper (slot s n)) (slot s n ∷ []) []) ∙ ap (λ (z : ℕ). length (kept s n) + z) (go (proper (slot s n)))
+kept-more s n = length-append (kept s n) _ ∙ rw (go (proper (slot s n)))
   where
     go : (t : Bool) → length (cond t (slot s n ∷ []) []) ≡ cond t 1 0
     go true = refl
     go false = refl
 
 one-at-most : (t : Bool) → cond t 1 0 ≤ 1
-one-at-most true = omega arith
-one-at-most false = omega arith
+one-at-most t = cond-keeps (λ (z : ℕ). z ≤ 1) t 1 0 (omega arith) (omega arith)
 
 pub kept-at-most : (s : Shape) (n : ℕ) → length (kept s n) ≤ n
 unfolding kept
@@ -39,18 +40,18 @@ unfolding triangles slots
 triangles-at-most s = kept-at-most s (2 * (s .M * s .N))
 
 kept-grows : (s : Shape) (i n : ℕ) → i ≤ n → length (kept s i) ≤ length (kept s n)
-kept-grows s i zero h = let e : i ≡ 0 = omega arith in omega (arith, ap (λ (z : ℕ). length (kept s z)) e)
+kept-grows s i zero h = let e : i ≡ 0 = omega arith in rw e (omega arith)
 kept-grows s i (suc n) h =
     ⊎-elim
-    (λ l. let b : i ≤ n = omega arith in omega (arith, kept-more s n, kept-grows s i n b))
-    (λ l. let e : i ≡ suc n = omega arith in omega (arith, ap (λ (z : ℕ). length (kept s z)) e))
-    (lt-or-le i (suc n))
+    (λ (e : i ≡ suc n). rw e (omega arith))
+    (λ (l : i < suc n). omega (arith, kept-more s n, kept-grows s i n (omega arith)))
+    (eq-or-lt-of-le h)
 
 -- a slot that emits its triangle has a number of the list
 pub number-below : (s : Shape) (i : ℕ) → i < slots s → proper (slot s i) ≡ true → triangleNumber s i < length (triangles s)
 unfolding triangleNumber triangles
 number-below s i h e =
-    let more : length (kept s (suc i)) ≡ length (kept s i) + 1 = kept-more s i ∙ ap (λ (t : Bool). length (kept s i) + cond t 1 0) e in
+    let more : length (kept s (suc i)) ≡ length (kept s i) + 1 = kept-more s i ∙ rw e in
     let up : suc i ≤ slots s = omega arith in
     omega (arith, kept-grows s (suc i) (slots s) up)
 
@@ -58,35 +59,25 @@ number-below s i h e =
 
 kept-step : (s : Shape) (n : ℕ) → proper (slot s n) ≡ true → kept s (suc n) ≡ kept s n ++ (slot s n ∷ [])
 unfolding kept
-kept-step s n e = ap (λ (t : Bool). kept s n ++ cond t (slot s n ∷ []) []) e
+kept-step s n e = rw e
 
 pub kept-length : (s : Shape) (n : ℕ) → ((i : ℕ) → i < n → proper (slot s i) ≡ true) → length (kept s n) ≡ n
 unfolding kept
 kept-length s zero h = refl
 kept-length s (suc n) h =
-    ap length (kept-step s n (h n (omega arith)))
-    ∙ length-append (kept s n) (slot s n ∷ [])
-    ∙ omega (arith, kept-length s n (λ i k. h i (omega arith)))
-
-getD-last : {A : Type 0} (l : List A) (a d : A) → getD (l ++ (a ∷ [])) (length l) d ≡ a
-getD-last [] a d = refl
-getD-last (x ∷ l) a d = getD-last l a d
+    let more : length (kept s (suc n)) ≡ length (kept s n) + 1 = kept-more s n ∙ rw (h n (omega arith)) in
+    omega (arith, kept-length s n (λ i k. h i (omega arith)))
 
 pub kept-at : (s : Shape) (n i : ℕ) → ((i : ℕ) → i < n → proper (slot s i) ≡ true) → i < n → nth (kept s n) i ≡ slot s i
 unfolding kept
-kept-at s zero i h k = let z : ⊥ = omega arith in absurd z
+kept-at s zero i h k = absurd (omega arith)
 kept-at s (suc n) i h k =
-    ap (λ (l : List Triangle). nth l i) (kept-step s n (h n (omega arith)))
-    ∙ ⊎-elim
-    (λ l. List·getD-append (kept s n) (slot s n ∷ []) (tri 0 0 0) i (omega (arith, len)) ∙ kept-at s n i (λ j q. h j (omega arith)) l)
-    (λ l. ap (λ (z : ℕ). nth (kept s n ++ (slot s n ∷ [])) z) (is-last l) ∙ getD-last (kept s n) (slot s n) (tri 0 0 0) ∙ ap (slot s) (omega arith))
-    (lt-or-le i n)
-  where
-    len : length (kept s n) ≡ n
-    len = kept-length s n (λ j q. h j (omega arith))
-
-    is-last : n ≤ i → i ≡ length (kept s n)
-    is-last l = omega (arith, len)
+    let len : length (kept s n) ≡ n = kept-length s n (λ j q. h j (omega arith)) in
+    rw (kept-step s n (h n (omega arith)))
+    (⊎-elim
+    (λ (l : i < n). List·getD-append (kept s n) (slot s n ∷ []) (tri 0 0 0) i (omega arith) ∙ kept-at s n i (λ j q. h j (omega arith)) l)
+    (λ (l : n ≤ i). let e : i ≡ n = omega arith in rw e (getD-at (kept s n) (slot s n) [] (tri 0 0 0) n len))
+    (lt-or-le i n))
 
 -- ---- slots, halves and cells
 
@@ -110,14 +101,11 @@ vAt s i = i / 2 % s .N
 
 halfNum-at : (i : ℕ) → halfNum (halfAt i) ≡ i % 2
 unfolding halfAt
-halfNum-at i = ⊎-elim (λ w. ap halfNum (w .0) ∙ sym (w .1)) (λ w. ap halfNum (w .0) ∙ small (w .1)) (eqb-cases (i % 2) 1)
-  where
-    small : (i % 2 ≡ 1 → ⊥) → 0 ≡ i % 2
-    small n = omega arith
+halfNum-at i = ⊎-elim (λ w. rw (w .0) (sym (w .1))) (λ w. let n = w .1 in rw (w .0) (omega arith)) (eqb-cases (i % 2) 1)
 
 pub slot-at : (s : Shape) (i : ℕ) → slot s i ≡ halfOf s (s .split) (halfNum (halfAt i)) (uAt s i) (vAt s i)
 unfolding slot uAt vAt
-slot-at s i = ap (λ (z : ℕ). halfOf s (s .split) z (i / 2 / s .N) (i / 2 % s .N)) (sym (halfNum-at i))
+slot-at s i = rw (halfNum-at i)
 
 pub uAt-lt : (s : Shape) (i : ℕ) → 0 < s .N → i < slots s → uAt s i < s .M
 unfolding uAt slots
@@ -146,11 +134,11 @@ index-half s false u v = omega arith
 
 pub uAt-index : (s : Shape) (h : Bool) (u v : ℕ) → v < s .N → uAt s (index s h u v) ≡ u
 unfolding uAt
-uAt-index s h u v q = ap (λ (z : ℕ). z / s .N) (index-half s h u v) ∙ digits-div u q
+uAt-index s h u v q = rw (index-half s h u v) (digits-div u q)
 
 pub vAt-index : (s : Shape) (h : Bool) (u v : ℕ) → v < s .N → vAt s (index s h u v) ≡ v
 unfolding vAt
-vAt-index s h u v q = ap (λ (z : ℕ). z % s .N) (index-half s h u v) ∙ digits-mod u q
+vAt-index s h u v q = rw (index-half s h u v) (digits-mod u q)
 
 pub halfAt-index : (s : Shape) (h : Bool) (u v : ℕ) → halfAt (index s h u v) ≡ h
 unfolding halfAt index

@@ -71,4 +71,4 @@ CoveredGrid g m n = CoveredJoining (uSearch g m n .seam) (vSearch g m n .seam)
 
 -- Demand 3 of a grid's triangles and flipped pairs
 abbrev pub SurfaceMeets : List Float → ℕ → ℕ → Type 0
-SurfaceMeets g m n = Accepted g m n → surface.EnoughSteps (surfaceOf g m n) → CoveredGrid g m n → surface.Meets (surfaceOf g m n)
+SurfaceMeets g m n = Accepted g m n → CoveredGrid g m n → surface.Meets (surfaceOf g m n)

@@ -1,4 +1,4 @@
--- 01's starred results on triangles and flipped pairs, by computation, and one that tells the corner rule from J. Assumes nothing.
+-- By computation: 01's starred results on triangles and flipped pairs, a grid without a triangle, one that tells the corner rule from J, and one of 02. Assumes nothing.
 use Prim.Native.Nat.{ℕ}
 use mathlib.Core.Path.{_≡_, refl}
 use mathlib.Core.Bool.{Bool, true}
@@ -50,6 +50,21 @@ triangle-12 = refl
 triangle-13 : nth (triangles cracked) 13 ≡ tri 3 2 9
 unfolding computed
 triangle-13 = refl
+
+-- Why demand 3 asks for steps. With 1 around, J takes both ends of an edge to one point;
+one-around : J (shape 1 3 (forward 0) unjoined once falling) 1 0 ≡ J (shape 1 3 (forward 0) unjoined once falling) 0 0
+unfolding computed
+one-around = refl
+
+-- with 2, the side of 0 and 2, which is on the rim, belongs to two triangles, the first and the third;
+two-around : triangles (shape 2 1 (forward 0) unjoined once falling) ≡ tri 0 2 1 ∷ tri 2 3 1 ∷ tri 2 0 3 ∷ tri 0 1 3 ∷ []
+unfolding computed
+two-around = refl
+
+-- and along a reversed seam of 2, `process_flipped` names triangle 2 twice, and triangle 0, which lies on triangle 11, not at all.
+two-along : flipped (shape 3 2 (reverse 0) unjoined once falling) ≡ pair 2 9 ∷ pair 2 11 ∷ []
+unfolding computed
+two-along = refl
 
 -- a Klein bottle of request 8, whose cells are split as in request 12
 klein : flipped (shape 3 3 (forward 0) (reverse 0) twice rising) ≡ pair 0 17 ∷ pair 5 12 ∷ pair 6 11 ∷ []

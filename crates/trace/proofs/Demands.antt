@@ -12,7 +12,7 @@ use Rattle.refusal.specs.declared.Check.the-variants.{Passed, Failed}
 use Rattle.vector.specs.Vectors.{vector}
 use Rattle.grid.specs.Grid.{pointNumber}
 use Rattle.grid.proofs.Laws.{accepted-known}
-use Rattle.surface.specs.Surface.{Shape, GridEdge, along-u, along-v, falls, Meets}
+use Rattle.surface.specs.Surface.{Shape, GridEdge, along-u, along-v, falls, StepsAround, Meets}
 use Rattle.surface.specs.Found.{surfaceOf}
 use Rattle.surface.proofs.Demand as surface
 use Rattle.surface.proofs.Joinings.{surface-meets}
@@ -99,25 +99,25 @@ module _ (g : List Float) (m n : ℕ) (hm : m ≤ 255) (hn : n ≤ 255) where
       List·getD-append (inTurn sideOf (d .drawn)) _ 0 (2 * i + j) (rw (length-turn 2 sideOf (λ c. refl) (d .drawn)) (omega arith))
       ∙ turn-at 2 sideOf (λ c. refl) (d .drawn) i j 0 c₀ h k
 
-  finished-on-sides : Meets s → (l : Lists) (y : Step Drawing) → Holding (GoodDrawing FromEdge) y → PointsOnSides s (finished y l)
-  finished-on-sides meets l (off k d) good i h = absurd (omega arith)
-  finished-on-sides meets l (on d) good i h =
+  finished-on-sides : Meets s → StepsAround 2 s → (l : Lists) (y : Step Drawing) → Holding (GoodDrawing FromEdge) y → PointsOnSides s (finished y l)
+  finished-on-sides meets around l (off k d) good i h = absurd (omega arith)
+  finished-on-sides meets around l (on d) good i h =
       let c = getD (d .drawn) i noCrossing in
       let p : getD (finished (on d) l .after .sides) (2 * i) 0 ≡ c .p = simp add-zero at (side-at l d i 0 noCrossing h (omega arith)) in
       let q : getD (finished (on d) l .after .sides) (2 * i + 1) 0 ≡ c .q = side-at l d i 1 noCrossing h (omega arith) in
-      rw (p, q) (surface.traced s meets (c .p) (c .q) (all-at FromEdge (d .drawn) i noCrossing (good .drawn) h))
+      rw (p, q) (surface.traced s meets around (c .p) (c .q) (all-at FromEdge (d .drawn) i noCrossing (good .drawn) h))
 
-  pub points-on-sides : Meets s → (pairs : List Float) (marks : List ℕ) (l : Lists) → PointsOnSides s (traceFlat g m n pairs marks l)
+  pub points-on-sides : Meets s → StepsAround 2 s → (pairs : List Float) (marks : List ℕ) (l : Lists) → PointsOnSides s (traceFlat g m n pairs marks l)
   unfolding traceFlat
-  points-on-sides meets pairs marks l = go (traceCheck g m n pairs marks)
+  points-on-sides meets around pairs marks l = go (traceCheck g m n pairs marks)
     where
       go : (k : Check) → PointsOnSides s (afterCheck k l (finished (drawingOf g m n pairs marks (roomOf l)) l))
       go (Failed k) = λ i h. absurd (omega arith)
-      go Passed = finished-on-sides meets l (drawingOf g m n pairs marks (roomOf l)) (drawn-from-edges pairs marks (roomOf l))
+      go Passed = finished-on-sides meets around l (drawingOf g m n pairs marks (roomOf l)) (drawn-from-edges pairs marks (roomOf l))
 
 -- DEMAND 3
 pub demand3 : (g : List Float) (m n : ℕ) → Demand3 g m n
-demand3 g m n accepted enough covered =
+demand3 g m n accepted covered =
     let steps = accepted-known g m n accepted .steps in
-    let meets = surface-meets g m n accepted enough covered in
+    let meets = surface-meets g m n accepted covered in
     record { surface = meets; points = points-on-sides g m n (steps .m-most) (steps .n-most) meets }

@@ -6,7 +6,7 @@ use lib.ListN.{getD}
 use lib.Ieee.{Float}
 use Rattle.refusal.specs.Refusals.{Answer, ok, refused}
 use Rattle.grid.specs.Grid.{Accepted}
-use Rattle.surface.specs.Surface.{Shape, triangles, Owns, EnoughSteps, Meets, Jₙ}
+use Rattle.surface.specs.Surface.{Shape, triangles, Owns, StepsAround, Meets, Jₙ}
 use Rattle.surface.specs.Found.{surfaceOf, CoveredGrid}
 use Rattle.trace.specs.Trace.{Counts, Traced, Lists, traceFlat}
 
@@ -24,11 +24,12 @@ abbrev pub PointsOnSides : Shape → Traced → Type 0
 PointsOnSides s t =
     (i : ℕ) → i < pointsIn (t .answer) → EndsOfSide s (Jₙ s (getD (t .after .sides) (2 * i) 0)) (Jₙ s (getD (t .after .sides) (2 * i + 1) 0))
 
--- for a grid: its sides and flipped pairs, and the points of every trace across it, whatever the samples and whatever the lists lent
+-- for a grid: its sides and flipped pairs, and the points of every trace across it, whatever the samples and whatever the lists lent; where a seam joins,
+-- 2 steps around are needed, for with 1 J can take p and q to one point
 pub record DemandMet (g : List Float) (m n : ℕ) : Type 0 where
   pub surface : Meets (surfaceOf g m n)
-  pub points : (pairs : List Float) (marks : List ℕ) (l : Lists) → PointsOnSides (surfaceOf g m n) (traceFlat g m n pairs marks l)
+  pub points : StepsAround 2 (surfaceOf g m n) → (pairs : List Float) (marks : List ℕ) (l : Lists) → PointsOnSides (surfaceOf g m n) (traceFlat g m n pairs marks l)
 
--- for every accepted grid whose found seams are a covered joining, with enough steps for it
+-- for every accepted grid whose found seams are a covered joining
 abbrev pub Demand3 : List Float → ℕ → ℕ → Type 0
-Demand3 g m n = Accepted g m n → EnoughSteps (surfaceOf g m n) → CoveredGrid g m n → DemandMet g m n
+Demand3 g m n = Accepted g m n → CoveredGrid g m n → DemandMet g m n
