@@ -2,12 +2,10 @@
 use mathlib.Core.Path.{_≡_, refl, ap}
 use mathlib.Core.Bool.{true, false}
 use mathlib.Core.List.{List, [], _∷_}
-use Prim.Native.Nat.{ℕ, _^_, _≤_, _<_}
-use native.Mathlib.Nat.{le-trans}
+use Prim.Native.Nat.{ℕ, _^_, _≤_}
 use native.Mathlib.Omega.{arith}
-use lib.Dec.{lit≤}
-use lib.ListN.{length, getD}
-use lib.Ieee.{Float, nan, binary64, ofBits, lt, le, eq, neg, add, isNan}
+use lib.ListN.{length}
+use lib.Ieee.{Float, binary64, ofBits, lt, le, eq, neg, add, isNan}
 use Rattle.float.specs.Consts.{eps, zero64, one64}
 use Rattle.float.specs.Order.{totalOrder}
 use Rattle.float.proofs.Tests.{and-both, cond-keeps}
@@ -27,13 +25,12 @@ use Rattle.edges.specs.declared.event.NormalizedLambda.the-variants.{Lam
 use Rattle.edges.specs.declared.event.Candidate.the-variants.{NoEvent}
 use Rattle.edges.specs.Param.{lerp, across, within, paramInBounds, normalizeLambda}
 use Rattle.edges.specs.Cell.{diagonalCellAt}
-use Rattle.edges.specs.Events.{event, edgeAtPoint, endCandidate, lambdaAt, lineAt, lineCrossing, change, diagonalEvent, diagonalCrossing, sumOf, changeOfSum, candidates, precedes, sortInto, closeBy, uniqueAfter, unique, sortedEdgeEvents, Inside, IfEvent, Each, OnGrid}
-use Rattle.edges.specs.Scratch.{edgeOf, eventOf, eventsIn, AscendFrom, Ascend}
+use Rattle.edges.specs.Events.{event, edgeAtPoint, endCandidate, lambdaAt, lineAt, lineCrossing, change, diagonalEvent, diagonalCrossing, sumOf, changeOfSum, candidates, precedes, sortInto, closeBy, uniqueAfter, unique, sortedEdgeEvents, IfEvent, Each, OnGrid}
+use Rattle.edges.specs.Scratch.{AscendFrom, Ascend}
 use Rattle.edges.proofs.Cases.{cond-case}
-use Rattle.edges.proofs.Places.{event-in, events-length}
 use Rattle.edges.proofs.Order.{not-precedes-transitive, sort-ascends}
 use Rattle.edges.proofs.Grid.{on-line, end-on-grid, line-on-grid, diagonal-on-grid}
-use Rattle.edges.proofs.Each.{each-event, each-candidate, each-sort, each-unique, each-at, each-implies, length-sort, length-unique, length-candidates}
+use Rattle.edges.proofs.Each.{each-event, each-candidate, each-sort, each-unique, each-implies, length-sort, length-unique, length-candidates}
 
 -- ---- each side is on the grid
 module _ (m n : ℕ) (a b : ParamPoint) where
@@ -156,12 +153,3 @@ module _ (m n : ℕ) (a b : ParamPoint) where
   unfolding sortedEdgeEvents
   events-few hm hn =
       omega (arith, length-candidates m n a b, length-sort (candidates m n a b) [], length-unique (sortInto (candidates m n a b) []))
-
--- ---- what two lists hold once `sorted_edge_events` is done: the event at i is on the grid
-module _ (m n : ℕ) (a b : ParamPoint) (hm : m ≤ 255) (hn : n ≤ 255) (ls : List Float) (cs : List ℕ) (count i : ℕ) (e : length ls ≡ length cs) (h : count ≤ length ls) (k : i < count)
-    (q : eventsIn ls cs count ≡ sortedEdgeEvents m n a b) where
-  pub event-on-grid : Inside m n (edgeOf (getD cs i 0))
-  event-on-grid =
-      let d : EdgeEvent = eventOf nan 0 in
-      let all : Each (OnGrid m n) (eventsIn ls cs count) = rw q (events-inside m n a b (le-trans hm (lit≤ tt)) (le-trans hn (lit≤ tt))) in
-      rw (← event-in ls cs count i d e h k) at (each-at (OnGrid m n) (eventsIn ls cs count) i d all (omega (arith, events-length ls cs count e h)))

@@ -24,9 +24,8 @@ ghost use Rattle.float.specs.Consts.{zero64, one64};
 ghost use Rattle.edges.specs.Events.{Inside, Each, OnGrid};
 ghost use Rattle.edges.specs.Scratch.{eventsIn};
 ghost use Rattle.crossing.specs.Crossing.{edgePoint, GridFits};
-ghost use Rattle.page.specs.Step.{on};
 ghost use Rattle.page.specs.Page.{pageOf, pushPage, flushPage, Pushed, PenFits};
-ghost use Rattle.walk.specs.Walk.{beforeInside, afterInside, pushed, crossed, crossings, appendEdgeCrossings};
+ghost use Rattle.walk.specs.Walk.{beforeInside, afterInside, pushed, flushUnless, crossed, crossings, appendEdgeCrossings};
 
 // Whether the step is inside the grid before the event at `lambda`, the event before it at `previous`.
 fn before_inside(
@@ -59,8 +58,7 @@ fn after_inside(m: usize, n: usize, a: ParamPoint, b: ParamPoint, lambda: f64, n
 fn flush_unless(inside: bool, starts: &mut [usize], pen: Pen) -> Penned
     requires { ⌜ pen .start ≤ pen .count ⌝ }
     ensures { λ r. ⌜ ((points : List Float) (sides : List ℕ) (fractions : List Float) →
-        Pushed (cond inside (on (pageOf points (now (starts .entry)) sides fractions pen)) (flushPage (pageOf points (now (starts .entry)) sides fractions pen))) r
-        points (now (starts .exit)) sides fractions) ⌝ }
+        Pushed (flushUnless flushPage inside (pageOf points (now (starts .entry)) sides fractions pen)) r points (now (starts .exit)) sides fractions) ⌝ }
 {
     if inside {
         return Penned::Down(pen);
