@@ -169,7 +169,7 @@ fn places(points: &[Seen]) -> String {
 mod tests {
     use super::*;
     use merlontrispa::{Surface, Texture};
-    use options::{NAMES, ParametricSurface};
+    use options::{ParametricSurface, names};
 
     const TEXTURES: [Texture; 3] = [
         Texture::Grid,
@@ -224,7 +224,7 @@ mod tests {
 
     #[test]
     fn every_line_of_the_library_is_a_polyline_of_the_plain_card() {
-        for name in NAMES {
+        for name in names() {
             for texture in TEXTURES {
                 let (drawing, text) = drawn(name, texture, PLAIN);
                 assert!(drawing.lines.iter().len() > 0);
@@ -244,7 +244,7 @@ mod tests {
 
     #[test]
     fn all_stays_inside_the_card() {
-        for name in NAMES {
+        for name in names() {
             for texture in TEXTURES {
                 let (_, text) = drawn(name, texture, ALL);
                 let points = text.split("points=\"").skip(1);

@@ -1,7 +1,7 @@
 //! The surfaces, as the library finds them.
 
 use merlontrispa::{Mapping, Refusal, Surface};
-use options::{Formula, NAMES, ParametricSurface};
+use options::{Formula, ParametricSurface, names};
 
 /// The seams of a named surface, and the count of its flipped pairs.
 fn seams(name: &str, [m, n]: [usize; 2]) -> (Option<Mapping>, Option<Mapping>, usize) {
@@ -36,7 +36,7 @@ fn each_surface_has_its_seams() {
             ("klein-bottle", (reverse(0, n), forward(0, m), n)),
             ("klein-eight", (reverse(0, n), forward(0, m), n)),
         ];
-        assert_eq!(cases.map(|(name, _)| name), NAMES);
+        assert_eq!(cases.map(|(name, _)| name), names());
         for (name, expected) in cases {
             assert_eq!(seams(name, [m, n]), expected, "{name}, {m} × {n}");
         }
