@@ -1,12 +1,15 @@
 //! Runs one comparison after another: on all its inputs, on a written case, or on what a fuzzer chose.
 
+mod progress;
+mod shrink;
+
 use crate::case::Case;
 use crate::difference::{Difference, Saved};
-use crate::progress::Progress;
 use crate::random::Random;
-use crate::shrink::shrink;
 use crate::text::Text;
 use crate::value::Value;
+use progress::Progress;
+use shrink::shrink;
 use std::mem;
 use std::time::Duration;
 

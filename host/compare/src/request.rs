@@ -1,6 +1,6 @@
 //! What the command line asks for.
 
-use crate::run::{LAYERS, Layer};
+use crate::layers::{LAYERS, Layer};
 use std::time::Duration;
 
 /// The seed where none is asked for.

@@ -3,18 +3,17 @@
 
 use crate::case::case;
 use crate::driver::{Compared, Driver};
-use crate::grids::{Grid, any_grid};
+use crate::inputs::grids::{Grid, any_grid};
+use crate::inputs::lists::grid_refusal;
 use crate::inputs::{EPS, any, whole};
-use crate::lines::coordinates;
-use crate::lists::grid_refusal;
+use crate::layers::lines::coordinates;
 use crate::random::Random;
 use crate::record::{Call, Record, Recorded, bits};
-use crate::seams::vectors;
 use crate::value::Value;
 use merlontrispa::{Plan, Refusal, Texture};
 use original::{
     ParametricSurfaceTexture, Surface, Vector, radial_sample_count, spiral_sample_count,
-    texture_spacing,
+    texture_spacing, vectors,
 };
 use std::cell::LazyCell;
 use std::f64::consts::TAU;

@@ -1,6 +1,6 @@
 //! Lists that are lent for output: before a call no place is zero.
 
-use crate::grids::Grid;
+use crate::inputs::grids::Grid;
 use crate::inputs::{COORDINATE_EDGES, COORDINATE_FAULTS, coordinates_fit};
 use crate::random::Random;
 use merlontrispa::Refusal;

@@ -2,8 +2,8 @@
 
 use crate::case::{Smaller, case, plainer_everywhere, stretches, without};
 use crate::inputs::near;
+use crate::mappings::{mapping, to_original};
 use crate::random::Random;
-use crate::seams::{mapping, to_original};
 use merlontrispa::Mapping;
 
 /// A grid of `u_steps` by `v_steps` cells, three numbers for each point.
