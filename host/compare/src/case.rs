@@ -9,7 +9,9 @@ use std::ops::Range;
 /// Cases that are smaller than another.
 pub type Smaller<T> = Box<dyn Iterator<Item = T>>;
 
+/// The input of a comparison.
 pub trait Case: Clone + 'static {
+    /// Writes it, each float by its bits.
     fn write(&self, text: &mut Text);
 
     /// What `write` wrote, or a sentence that says where the words are not such.

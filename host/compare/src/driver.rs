@@ -13,9 +13,10 @@ use shrink::shrink;
 use std::mem;
 use std::time::Duration;
 
-/// Nothing, or why the run ends here.
+/// Nothing where the run goes on.
 pub type Compared = Result<(), Ended>;
 
+/// Why a run ends.
 #[derive(Debug, PartialEq)]
 pub enum Ended {
     /// The library and the original differ.
@@ -64,6 +65,7 @@ impl Amount {
     }
 }
 
+/// Takes each comparison in turn, and does with it what the task says.
 pub struct Driver {
     pub task: Task,
     seed: u64,

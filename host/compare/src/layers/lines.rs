@@ -2,8 +2,8 @@
 
 use crate::case::{Smaller, case};
 use crate::driver::{Compared, Driver};
-use crate::inputs::grids::{Grid, any_grid, any_steps};
-use crate::inputs::lists::{fewer_cells, fill, floats, grid_refusal, length, numbers, spoil};
+use crate::inputs::grids::{Grid, any_grid, any_steps, spoil};
+use crate::inputs::lists::{fewer_cells, fill, floats, length, numbers};
 use crate::inputs::whole;
 use crate::random::Random;
 use crate::record::{Call, Record, Recorded};
@@ -78,11 +78,8 @@ fn library(input: &Input) -> Output {
 
 fn original(input: &Input) -> Output {
     let (mut points, mut starts) = (floats(input.points), numbers(input.starts));
-    let room = |m, n| {
-        let [points, starts] = least(m, n);
-        input.points >= points && input.starts >= starts
-    };
-    if let Some(refusal) = grid_refusal(&input.grid, room) {
+    let lengths = [input.points, input.starts];
+    if let Some(refusal) = input.grid.refusal_with_lists(lengths, least) {
         return (Err(refusal), (points, starts));
     }
     let paths = paths(&input.grid);

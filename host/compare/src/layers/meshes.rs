@@ -2,8 +2,8 @@
 
 use crate::case::{Smaller, case};
 use crate::driver::{Compared, Driver};
-use crate::inputs::grids::{Grid, Joining, any_grid, any_steps};
-use crate::inputs::lists::{fewer_cells, fill, grid_refusal, length, numbers, spoil};
+use crate::inputs::grids::{Grid, Joining, any_grid, any_steps, spoil};
+use crate::inputs::lists::{fewer_cells, fill, length, numbers};
 use crate::layers::seams::{kind, seam_words};
 use crate::mappings::{mapping, searched};
 use crate::random::Random;
@@ -128,10 +128,8 @@ fn seams(points: &[Vector], u_steps: usize, v_steps: usize) -> Seams {
 
 /// The refusal that applies.
 fn refusal(input: &Input) -> Option<Refusal> {
-    grid_refusal(&input.grid, |m, n| {
-        let [triangles, flipped] = least(m, n);
-        input.triangles >= triangles && input.flipped >= flipped
-    })
+    let lengths = [input.triangles, input.flipped];
+    input.grid.refusal_with_lists(lengths, least)
 }
 
 /// A grid with lists that are just long enough.

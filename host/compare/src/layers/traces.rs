@@ -124,6 +124,7 @@ impl Value for Output {
     }
 }
 
+/// What the library's trace of flat samples leaves.
 pub fn library(input: &Input) -> Output {
     let (pairs, marks) = (&input.pairs, &input.marks);
     called(input, |grid, lists| {
@@ -164,6 +165,7 @@ pub fn called(
     output
 }
 
+/// What the original's trace leaves, in lists that are lent, and 01's refusals.
 pub fn original(input: &Input) -> Output {
     let mut output = Output::before(input.room);
     let walk = match &input.walk {

@@ -2,8 +2,8 @@
 
 use super::walks::Need;
 use crate::case::{Case, Smaller, case, stretches, without};
-use crate::inputs::grids::{Grid, any_grid};
-use crate::inputs::lists::{as_far, grid_refusal, spoil};
+use crate::inputs::grids::{Grid, any_grid, spoil};
+use crate::inputs::lists::as_far;
 use crate::inputs::{EPS, near};
 use crate::random::Random;
 use crate::text::{Text, Words};
@@ -24,7 +24,7 @@ pub struct Scene {
 impl Scene {
     pub fn new(grid: Grid) -> Self {
         let points = vectors(&grid.numbers);
-        let taken = grid_refusal(&grid, |_, _| true).is_none();
+        let taken = grid.refusal().is_none();
         let surface = taken.then(|| Surface::from_grid(points.clone(), grid.u_steps, grid.v_steps));
         Self {
             grid,
@@ -185,9 +185,8 @@ fn samples(pairs: &[f64], marks: &[u8]) -> Vec<Sample> {
 
 /// The first of 1, 2, 4, 9 and 10 that applies.
 fn refusal(scene: &Scene, pairs: &[f64], marks: &[u8]) -> Option<Refusal> {
-    let of_grid = grid_refusal(&scene.grid, |_, _| true);
     let lengths = pairs.len() != 2 * marks.len() || marks.len() > 65_537;
-    match of_grid {
+    match scene.grid.refusal() {
         Some(Refusal::Steps) => return Some(Refusal::Steps),
         _ if lengths => return Some(Refusal::Length),
         Some(refusal) => return Some(refusal),
