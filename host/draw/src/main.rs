@@ -21,7 +21,7 @@ const STDOUT: &str = "-";
 const SAMPLES: usize = 1_000_000;
 
 fn main() -> ExitCode {
-    match Request::given() {
+    match Request::from_args() {
         Err(sentence) => failed(&sentence, 2),
         Ok(Request::Help) => ended(write(STDOUT, HELP)),
         Ok(Request::Card(options)) => ended(draw(&options)),

@@ -63,6 +63,7 @@ impl Pen {
     }
 }
 
+/// The file's text, as far as it is written.
 struct Sheet(String);
 
 impl Sheet {

@@ -93,7 +93,7 @@ fn the_first_coordinate_that_the_library_refuses_is_found() {
         let surface = ParametricSurface {
             u: [0.0, 1.0],
             v: [0.0, 2.0],
-            ..ParametricSurface::own(Formula::parse(formula).expect("a formula"))
+            ..ParametricSurface::from_formula(Formula::parse(formula).expect("a formula"))
         };
         let refused = Surface::new(&surface.grid(steps), m, n).err();
         assert_eq!(refused, expected.map(|_| Refusal::Coordinate), "{formula}");

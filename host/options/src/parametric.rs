@@ -46,7 +46,7 @@ pub fn names() -> [&'static str; 9] {
 
 impl ParametricSurface {
     /// A surface of the user's own: u and v run through a whole turn.
-    pub fn own(formula: Formula) -> Self {
+    pub fn from_formula(formula: Formula) -> Self {
         Self {
             name: "formula",
             formula,

@@ -85,8 +85,8 @@ impl Request {
     /// The request of this program's command line.
     ///
     /// # Errors
-    /// As `parse`.
-    pub fn given() -> Result<Self, String> {
+    /// As [`Request::parse`], and one where the words are not in UTF-8.
+    pub fn from_args() -> Result<Self, String> {
         let words = std::env::args_os().skip(1);
         let words: Result<Vec<_>, _> = words.map(|word| word.into_string()).collect();
         Self::parse(words.map_err(|_| "the options are not all in UTF-8")?)
@@ -191,7 +191,7 @@ impl Given {
                 ));
             }
             (None, Some(text)) => Formula::parse(text)
-                .map(ParametricSurface::own)
+                .map(ParametricSurface::from_formula)
                 .map_err(|fault| format!("in the formula, {}", fault.show(text)))?,
             (name, None) => named(name.as_deref().unwrap_or("torus"))?,
         };
