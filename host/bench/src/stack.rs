@@ -40,8 +40,11 @@ pub const CHILD: &str = "--stack-child";
 /// A call, and whether it was not refused.
 type Call = Box<dyn FnMut() -> bool + Send>;
 
+/// The name of a call, and what makes it ready.
+type Named = (&'static str, fn() -> Call);
+
 /// The calls that are measured, each on its largest inputs.
-const CALLS: [(&str, fn() -> Call); 11] = [
+const CALLS: [Named; 11] = [
     ("new_vector", search),
     ("map_index", || {
         Box::new(|| MAPPING.map_index(65_535).is_ok())
@@ -62,7 +65,7 @@ const CALLS: [(&str, fn() -> Call); 11] = [
 ];
 
 /// The call that the others are measured against.
-const NOTHING: (&str, fn() -> Call) = ("nothing", || Box::new(|| true));
+const NOTHING: Named = ("nothing", || Box::new(|| true));
 
 /// Prints the stack of each call.
 pub fn run() -> ExitCode {

@@ -103,13 +103,14 @@ impl Output {
 
 impl Show for Output {
     fn show(&self) -> String {
-        let lists = [self.points.show(), self.starts.show()];
-        let sides = [self.sides.show(), self.fractions.show()];
-        let (lists, sides, remade) = (lists.join("; "), sides.join("; "), self.remade.show());
-        format!(
-            "{}; {lists}; {sides}; made again {remade}",
-            self.told.show()
-        )
+        let parts = [
+            self.told.show(),
+            self.points.show(),
+            self.starts.show(),
+            self.sides.show(),
+            self.fractions.show(),
+        ];
+        format!("{}; made again {}", parts.join("; "), self.remade.show())
     }
 }
 
