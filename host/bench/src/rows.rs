@@ -5,6 +5,7 @@ use crate::inputs::Lists;
 use merlontrispa::{Mapping, grid_paths, trace_flat, triangulate_grid};
 use original::{CyclicMapping, ParametricSurfaceTexture, Sample, Surface, vectors};
 
+/// The search for the seam between two rows.
 pub fn seam(table: &Table, name: &str, a: &[[f64; 3]], b: &[[f64; 3]]) {
     let [a, b] = [a, b].map(<[_]>::as_flattened);
     let [p, q] = [a, b].map(vectors);

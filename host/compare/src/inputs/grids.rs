@@ -1,4 +1,4 @@
-//! Grids whose opposite lines meet by a mapping, nearly meet, or do not.
+//! Grids whose opposite lines meet by a mapping, nearly meet, or do not, and such as are refused.
 
 use crate::case::{Smaller, case, plainer_everywhere, stretches, without};
 use crate::inputs::{COORDINATE_EDGES, COORDINATE_FAULTS, coordinates_fit, near};
@@ -33,8 +33,8 @@ impl Grid {
         self.refusal_with_lists([0; 2], |_, _| [0; 2])
     }
 
-    /// The first of the refusals 1, 2, 3 and 4 that applies where two lists of these lengths are lent, each of
-    /// which has to have a least one.
+    /// The first of the refusals 1, 2, 3 and 4 that applies where two lists of these lengths are lent; `least`
+    /// has the least lengths for so many steps.
     pub fn refusal_with_lists(
         &self,
         lengths: [usize; 2],
@@ -81,30 +81,6 @@ impl Grid {
         let (us, vs, part) = other;
         let along_u = fewer(&vs).map(move |vs| part(&us, &vs));
         Box::new(along_v.chain(along_u))
-    }
-}
-
-/// Puts any set of the faults of a grid that are refused into it, or none.
-pub fn spoil(random: &mut Random, grid: &mut Grid) {
-    if random.below(3) == 0 {
-        let place = random.below(grid.numbers.len() as u64) as usize;
-        grid.numbers[place] = match random.below(2) {
-            0 => random.of(&COORDINATE_FAULTS),
-            _ => random.of(&COORDINATE_EDGES),
-        };
-    }
-    if random.below(3) == 0 {
-        let length = grid.numbers.len();
-        let other = length.saturating_add_signed(random.of(&[-3, -1, 1, 3, 300]));
-        grid.numbers.resize(other, 0.0);
-    }
-    if random.below(3) == 0 {
-        let steps = random.of(&[0, 256, 257, 65_536, usize::MAX / 2, usize::MAX]);
-        if random.below(2) == 0 {
-            grid.u_steps = steps;
-        } else {
-            grid.v_steps = steps;
-        }
     }
 }
 
@@ -259,6 +235,30 @@ fn seam_point(random: &mut Random, u_steps: usize, v_steps: usize) -> usize {
         1 => u_steps * (v_steps + 1) + v,
         2 => u * (v_steps + 1),
         _ => u * (v_steps + 1) + v_steps,
+    }
+}
+
+/// Puts any set of the faults of a grid that are refused into it, or none.
+pub fn spoil(random: &mut Random, grid: &mut Grid) {
+    if random.below(3) == 0 {
+        let place = random.below(grid.numbers.len() as u64) as usize;
+        grid.numbers[place] = match random.below(2) {
+            0 => random.of(&COORDINATE_FAULTS),
+            _ => random.of(&COORDINATE_EDGES),
+        };
+    }
+    if random.below(3) == 0 {
+        let length = grid.numbers.len();
+        let other = length.saturating_add_signed(random.of(&[-3, -1, 1, 3, 300]));
+        grid.numbers.resize(other, 0.0);
+    }
+    if random.below(3) == 0 {
+        let steps = random.of(&[0, 256, 257, 65_536, usize::MAX / 2, usize::MAX]);
+        if random.below(2) == 0 {
+            grid.u_steps = steps;
+        } else {
+            grid.v_steps = steps;
+        }
     }
 }
 
