@@ -230,11 +230,10 @@ mod tests {
                 let (drawing, text) = drawn(name, texture, PLAIN);
                 assert!(drawing.lines.iter().len() > 0);
                 let count = |class, element| elements(&text, class, element).len();
-                assert_eq!(
-                    count("texture", "polyline"),
-                    drawing.lines.iter().len(),
-                    "{name}"
-                );
+                let lines = elements(&text, "texture", "polyline");
+                assert_eq!(lines.len(), drawing.lines.iter().len(), "{name}");
+                // A line at a pole is a dot: one place, twice.
+                assert!(lines.iter().all(|line| line.contains(' ')), "{name}");
                 assert_eq!(count("rim", "polyline"), drawing.rim.iter().len(), "{name}");
                 assert_eq!(count("flipped", "polygon"), drawing.flipped.len(), "{name}");
                 let seams = count("forward-seam", "polyline") + count("reversed-seam", "polyline");
