@@ -195,9 +195,10 @@ mt_paths_answer mt_grid_paths(const double *grid, size_t grid_len, size_t m, siz
                               size_t *starts, size_t starts_len);
 
 /*
- * Where a line starts and ends, from the lists and the counts that mt_grid_paths or mt_trace_flat
- * gave. The line is there if its index is below line_count, both counts fit their lists, and its
- * start is at most its end, its end at most point_count. A line that is there may be empty.
+ * Where a line starts and ends, from the lists and the counts that mt_grid_paths, mt_trace_flat or
+ * mt_trace_samples gave. The line is there if its index is below line_count, both counts fit their
+ * lists, and its start is at most its end, its end at most point_count. A line that is there may be
+ * empty.
  * Refusals: 8 (the line is not there).
  */
 mt_span_answer mt_line_span(const double *points, size_t points_len,

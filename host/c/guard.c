@@ -183,6 +183,41 @@ static bool draws_and_reads_lines(void) {
         && part.offset + part.length <= points_len;
 }
 
+/* The lists that a trace is drawn into: points, starts, sides and fractions. */
+typedef struct page {
+    double *points, *fractions;
+    size_t *starts, *sides;
+} page;
+
+/* Lists 3 to 6, to be written, of these lengths. */
+static page writes_page(const size_t lens[4]) {
+    return (page){.points = writes(3, lens[0] * sizeof(double)),
+                  .starts = writes(4, lens[1] * sizeof(size_t)),
+                  .sides = writes(5, lens[2] * sizeof(size_t)),
+                  .fractions = writes(6, lens[3] * sizeof(double))};
+}
+
+static bool page_left(mt_paths_answer drawn) {
+    return left(3, drawn.refusal, 3 * drawn.points * sizeof(double))
+        && left(4, drawn.refusal, drawn.lines * sizeof(size_t))
+        && left(5, drawn.refusal, 2 * drawn.points * sizeof(size_t))
+        && left(6, drawn.refusal, drawn.points * sizeof(double));
+}
+
+/* The first pairs and marks as records. */
+static bool traces_records(size_t count, const size_t lens[4]) {
+    mt_sample records[16] = {{0}};
+    for (size_t i = 0; i < count; i++) {
+        records[i].mark = marks[i];
+        records[i].point = (mt_param_point){pairs[2 * i], pairs[2 * i + 1]};
+    }
+    const mt_sample *lent_records = reads(1, records, count * sizeof *records);
+    page page = writes_page(lens);
+    return page_left(mt_trace_samples(lent_grid(), grid_len, m, n, lent_records, count,
+                                      page.points, lens[0], page.starts, lens[1],
+                                      page.sides, lens[2], page.fractions, lens[3]));
+}
+
 static bool traces(void) {
     next_grid();
     size_t count = below(16), pairs_len = near(2 * count);
@@ -193,21 +228,16 @@ static bool traces(void) {
     }
     size_t room = below(40), points_len = near(3 * room), starts_len = below(6);
     size_t sides_len = near(2 * room), fractions_len = near(room);
-    double *points = writes(3, points_len * sizeof *points);
-    size_t *starts = writes(4, starts_len * sizeof *starts);
-    size_t *sides = writes(5, sides_len * sizeof *sides);
-    double *fractions = writes(6, fractions_len * sizeof *fractions);
+    const size_t lens[4] = {points_len, starts_len, sides_len, fractions_len};
     const double *lent_pairs = reads(1, pairs, pairs_len * sizeof *pairs);
     const uint8_t *lent_marks = reads(2, marks, count);
+    page page = writes_page(lens);
     mt_paths_answer drawn = mt_trace_flat(lent_grid(), grid_len, m, n,
                                           lent_pairs, pairs_len, lent_marks, count,
-                                          points, points_len, starts, starts_len,
-                                          sides, sides_len, fractions, fractions_len);
+                                          page.points, lens[0], page.starts, lens[1],
+                                          page.sides, lens[2], page.fractions, lens[3]);
     ended[drawn.refusal]++;
-    return left(3, drawn.refusal, 3 * drawn.points * sizeof *points)
-        && left(4, drawn.refusal, drawn.lines * sizeof *starts)
-        && left(5, drawn.refusal, 2 * drawn.points * sizeof *sides)
-        && left(6, drawn.refusal, drawn.points * sizeof *fractions);
+    return page_left(drawn) && traces_records(count, lens);
 }
 
 /* Whether all trials of a call go well, and some end with each of these refusals. */

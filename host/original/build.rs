@@ -33,7 +33,7 @@ fn modules(sources: &Path) -> String {
     ["path", "util", "vector"]
         .map(|name| {
             let file = sources.join(name).with_extension("rs");
-            format!("#[allow(dead_code, missing_docs, unexpected_cfgs)]\n#[path = {file:?}]\nmod {name};\n")
+            format!("#[allow(clippy::all, dead_code, missing_docs, unexpected_cfgs)]\n#[path = {file:?}]\nmod {name};\n")
         })
         .concat()
 }

@@ -9,8 +9,13 @@ const RUN: Duration = Duration::from_millis(4);
 /// How many runs each side has.
 const RUNS: usize = 51;
 
-/// A side of a row: what makes the input of a call, and the call.
-pub struct Side<R, C>(pub R, pub C);
+/// A call that uses its input up, after what makes that input.
+pub struct Input<M, C>(pub M, pub C);
+
+/// A call on what is there.
+pub fn call<T>(mut call: impl FnMut() -> T) -> impl Timed {
+    Input(|| (), move |()| call())
+}
 
 /// What is timed.
 pub trait Timed {
@@ -34,7 +39,7 @@ pub trait Timed {
     }
 }
 
-impl<A, T, R: FnMut() -> A, C: FnMut(A) -> T> Timed for Side<R, C> {
+impl<A, T, M: FnMut() -> A, C: FnMut(A) -> T> Timed for Input<M, C> {
     fn once(&mut self) -> Duration {
         let input = black_box(self.0());
         let start = Instant::now();

@@ -15,6 +15,9 @@ mod cases;
 mod clock;
 #[cfg(larnt)]
 mod growth;
+mod inputs;
+#[cfg(larnt)]
+mod rows;
 mod stack;
 #[cfg(larnt)]
 mod whole;

@@ -1,19 +1,18 @@
 //! Whole swirls and spirals: plan, angles, points and trace beside what the original draws of the texture.
 
-use crate::cases::vectors;
-use crate::clock::{Side, Table};
-use merlontrispa::{Refusal, Texture, TraceLists, trace_flat};
-use original::{ParametricSurfaceTexture, Surface};
+use crate::clock::{Table, call};
+use crate::inputs::{Lists, grid};
+use merlontrispa::{Refusal, Texture, trace_flat};
+use original::{ParametricSurfaceTexture, Surface, vectors};
 
 /// Cells along u and along v.
 const STEPS: usize = 64;
 
 pub fn run(table: &Table) {
-    let point = |i: usize| {
-        let [u, v] = [i / (STEPS + 1), i % (STEPS + 1)].map(|k| k as f64);
+    let grid = grid(STEPS, |u, v| {
+        let [u, v] = [u, v].map(|step| step as f64);
         [u, v, (u * v * 1e-2).sin()]
-    };
-    let grid: Vec<_> = (0..(STEPS + 1) * (STEPS + 1)).flat_map(point).collect();
+    });
     let (spacing, twist, arms) = (2.0, 1.0, 3);
     let rows = [
         (
@@ -39,20 +38,17 @@ pub fn run(table: &Table) {
         );
         table.row(
             name,
-            Side(|| (), |()| drawing.draw(texture, &grid)),
-            Side(|| (), |()| surface.paths(theirs)),
+            call(|| drawing.draw(texture, &grid)),
+            call(|| surface.paths(theirs)),
         );
     }
 }
 
-/// The lists of one ray, and the points and line starts of those drawn before.
+/// The samples of one ray, what they draw, and the points and line starts of all rays before.
 struct Drawing {
     pairs: Vec<f64>,
     marks: Vec<u8>,
-    points: Vec<f64>,
-    starts: Vec<usize>,
-    sides: Vec<usize>,
-    fractions: Vec<f64>,
+    lists: Lists,
     all: (Vec<f64>, Vec<usize>),
 }
 
@@ -62,10 +58,7 @@ impl Drawing {
         Self {
             pairs: Vec::new(),
             marks: Vec::new(),
-            points: vec![0.0; 3 * most],
-            starts: vec![0; most],
-            sides: vec![0; 2 * most],
-            fractions: vec![0.0; most],
+            lists: Lists::new(most),
             all: (Vec::new(), Vec::new()),
         }
     }
@@ -91,21 +84,13 @@ impl Drawing {
 
     /// Appends the lines of the samples.
     fn trace(&mut self, grid: &[f64]) -> Result<(), Refusal> {
-        let lists = TraceLists {
-            points: &mut self.points,
-            starts: &mut self.starts,
-            sides: &mut self.sides,
-            fractions: &mut self.fractions,
-        };
-        let drawn = trace_flat(grid, STEPS, STEPS, &self.pairs, &self.marks, lists)?;
+        let (pairs, marks) = (&self.pairs, &self.marks);
+        let drawn = trace_flat(grid, STEPS, STEPS, pairs, marks, self.lists.lend())?;
         let (points, starts) = &mut self.all;
         let before = points.len() / 3;
-        starts.extend(
-            self.starts[..drawn.lines]
-                .iter()
-                .map(|start| before + start),
-        );
-        points.extend(&self.points[..3 * drawn.points]);
+        let new = &self.lists.starts[..drawn.lines];
+        starts.extend(new.iter().map(|start| before + start));
+        points.extend(&self.lists.points[..3 * drawn.points]);
         Ok(())
     }
 }

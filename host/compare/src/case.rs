@@ -1,5 +1,6 @@
 //! A case of a comparison: it is written by its bits, read back, and made smaller.
 
+use crate::mappings::mapping;
 use crate::text::{Text, Words};
 use merlontrispa::{Drawn, Mapping, Texture, Vector};
 use std::collections::HashSet;
@@ -8,7 +9,9 @@ use std::ops::Range;
 /// Cases that are smaller than another.
 pub type Smaller<T> = Box<dyn Iterator<Item = T>>;
 
+/// The input of a comparison.
 pub trait Case: Clone + 'static {
+    /// Writes it, each float by its bits.
     fn write(&self, text: &mut Text);
 
     /// What `write` wrote, or a sentence that says where the words are not such.
@@ -267,24 +270,16 @@ impl Case for Mapping {
             _ => None,
         })?;
         let [offset, steps] = Case::read(words)?;
-        Ok(if reverse {
-            Self::Reverse { offset, steps }
-        } else {
-            Self::Forward { offset, steps }
-        })
+        Ok(mapping(reverse, offset, steps))
     }
 
     fn smaller(&self) -> Smaller<Self> {
-        match *self {
-            Self::Forward { offset, steps } => {
-                let numbers = [offset, steps].smaller();
-                Box::new(numbers.map(|[offset, steps]| Self::Forward { offset, steps }))
-            }
-            Self::Reverse { offset, steps } => {
-                let numbers = [offset, steps].smaller();
-                Box::new(numbers.map(|[offset, steps]| Self::Reverse { offset, steps }))
-            }
-        }
+        let (reverse, numbers) = match *self {
+            Self::Forward { offset, steps } => (false, [offset, steps]),
+            Self::Reverse { offset, steps } => (true, [offset, steps]),
+        };
+        let smaller = numbers.smaller();
+        Box::new(smaller.map(move |[offset, steps]| mapping(reverse, offset, steps)))
     }
 }
 

@@ -4,6 +4,7 @@ use crate::case::Case;
 use crate::text::Words;
 use std::fmt;
 
+/// A case on which the two differ.
 #[derive(Debug, PartialEq)]
 pub struct Difference {
     /// The comparison's name.

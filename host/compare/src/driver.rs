@@ -1,18 +1,22 @@
 //! Runs one comparison after another: on all its inputs, on a written case, or on what a fuzzer chose.
 
+mod progress;
+mod shrink;
+
 use crate::case::Case;
 use crate::difference::{Difference, Saved};
-use crate::progress::Progress;
 use crate::random::Random;
-use crate::shrink::shrink;
 use crate::text::Text;
 use crate::value::Value;
+use progress::Progress;
+use shrink::shrink;
 use std::mem;
 use std::time::Duration;
 
-/// Nothing, or why the run ends here.
+/// Nothing where the run goes on.
 pub type Compared = Result<(), Ended>;
 
+/// Why a run ends.
 #[derive(Debug, PartialEq)]
 pub enum Ended {
     /// The library and the original differ.
@@ -61,6 +65,7 @@ impl Amount {
     }
 }
 
+/// Takes each comparison in turn, and does with it what the task says.
 pub struct Driver {
     pub task: Task,
     seed: u64,

@@ -1,4 +1,7 @@
-//! Floats that are likely to lie at an edge of something.
+//! What the comparisons run on: here floats that are likely to lie at an edge of something.
+
+pub mod grids;
+pub mod lists;
 
 use crate::random::Random;
 

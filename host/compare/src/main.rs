@@ -7,7 +7,7 @@
 //!
 //! Without a number each comparison takes a number of random inputs of its own. `--cases` says how many
 //! each takes; one on large grids takes its share of them. `--total` says how many all take together: the
-//! layers share them as `run::LAYERS` says, and the comparisons of a layer in the proportion of their own
+//! layers share them as `LAYERS` says, and the comparisons of a layer in the proportion of their own
 //! numbers. Lists of inputs that are not random are run whole besides.
 //!
 //! The first difference ends the run with status 1. It is made smaller, for 20 seconds or so many as
@@ -20,57 +20,8 @@
 use std::process::ExitCode;
 
 #[cfg(larnt)]
-mod case;
-#[cfg(larnt)]
-mod difference;
-#[cfg(larnt)]
-mod driver;
-#[cfg(larnt)]
-mod floats;
-#[cfg(larnt)]
-mod grids;
-#[cfg(larnt)]
-mod inputs;
-#[cfg(larnt)]
-mod lines;
-#[cfg(larnt)]
-mod lists;
-#[cfg(larnt)]
-mod meshes;
-#[cfg(all(larnt, test))]
-mod planted;
-#[cfg(larnt)]
-mod progress;
-#[cfg(larnt)]
-mod random;
-#[cfg(larnt)]
-mod record;
-#[cfg(larnt)]
-mod records;
-#[cfg(larnt)]
-mod request;
-#[cfg(larnt)]
-mod run;
-#[cfg(larnt)]
-mod seams;
-#[cfg(larnt)]
-mod shrink;
-#[cfg(larnt)]
-mod text;
-#[cfg(larnt)]
-mod textures;
-#[cfg(larnt)]
-mod traces;
-#[cfg(larnt)]
-mod value;
-#[cfg(larnt)]
-mod vectors;
-#[cfg(larnt)]
-mod walks;
-
-#[cfg(larnt)]
 fn main() -> ExitCode {
-    run::run(std::env::args().skip(1))
+    compare::run(std::env::args().skip(1))
 }
 
 #[cfg(not(larnt))]

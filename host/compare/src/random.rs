@@ -1,5 +1,6 @@
 //! Random numbers: Steele, Lea and Flood's SplitMix64, or the bytes that a fuzzer chose.
 
+/// A source of random numbers: the same seed, or the same bytes, give the same ones.
 pub struct Random(Source);
 
 enum Source {

@@ -9,8 +9,9 @@
 //! call, what it is held to (0 the original, 1 the scope's words) and the numbers it takes; lists follow, each its
 //! length and its places without the zeros at its end.
 
+use crate::inputs::grids::Grid;
+use crate::layers::{lines, meshes, seams, textures, traces, vectors};
 use crate::random::Random;
-use crate::{lines, meshes, seams, textures, traces, vectors};
 use merlontrispa::Refusal;
 use std::collections::BTreeMap;
 
@@ -113,6 +114,12 @@ impl Recorded {
             Some(refusal) => case.reaching(&format!("refusal {}", refusal.number())),
             None => case.reaching("answered"),
         }
+    }
+
+    /// A call on a grid: its steps and its numbers.
+    pub fn on_grid(call: Call, refused: Option<Refusal>, grid: &Grid) -> Self {
+        let steps = [grid.u_steps as u64, grid.v_steps as u64];
+        Self::new(call, refused, &steps).floats(&grid.numbers)
     }
 
     /// Held to the scope's words: the original has no such call.

@@ -1,6 +1,6 @@
 //! What the command line asks for.
 
-use crate::run::{LAYERS, Layer};
+use crate::layers::{LAYERS, Layer};
 use std::time::Duration;
 
 /// The seed where none is asked for.
@@ -67,7 +67,7 @@ impl Request {
             "--record" => self.asked = Asked::Record(value()?),
             _ => match LAYERS.into_iter().find(|layer| layer.name == word) {
                 Some(layer) => self.layers.push(layer),
-                None => return Err(format!("there is no layer {word}; {}", usage())),
+                None => return Err(format!("there is no option or layer {word}; {}", usage())),
             },
         }
         Ok(())

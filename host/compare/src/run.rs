@@ -1,68 +1,15 @@
-//! The command line, and the layers in order.
+//! Does what the command line asks for.
 
 use crate::difference::{Difference, Saved};
-use crate::driver::{Amount, Compared, Driver, Ended, FEW, Task};
+use crate::driver::{Amount, Driver, Ended, FEW, Task};
+use crate::layers::Layer;
 use crate::record::Record;
 use crate::request::{Asked, Request};
-use crate::{floats, lines, meshes, records, seams, textures, traces, vectors};
 use std::fs;
 use std::io::{self, Read};
 use std::panic;
 use std::process::{self, ExitCode};
 use std::time::Duration;
-
-/// Comparisons that belong together.
-#[derive(Clone, Copy)]
-pub struct Layer {
-    pub name: &'static str,
-    /// How many of a hundred inputs it takes where the number of all is given. Its comparisons share
-    /// them in the proportion of their own numbers.
-    pub share: u64,
-    pub compare: fn(&mut Driver) -> Compared,
-}
-
-pub const LAYERS: [Layer; 8] = [
-    Layer {
-        name: "float",
-        share: 15,
-        compare: floats::compare,
-    },
-    Layer {
-        name: "vector",
-        share: 10,
-        compare: vectors::compare,
-    },
-    Layer {
-        name: "path",
-        share: 10,
-        compare: lines::compare,
-    },
-    Layer {
-        name: "cyclic",
-        share: 30,
-        compare: seams::compare,
-    },
-    Layer {
-        name: "mesh",
-        share: 10,
-        compare: meshes::compare,
-    },
-    Layer {
-        name: "trace",
-        share: 18,
-        compare: traces::compare,
-    },
-    Layer {
-        name: "records",
-        share: 2,
-        compare: records::compare,
-    },
-    Layer {
-        name: "texture",
-        share: 5,
-        compare: textures::compare,
-    },
-];
 
 /// Does what the words ask for, and says how many comparisons passed.
 pub fn run(words: impl Iterator<Item = String>) -> ExitCode {
@@ -215,14 +162,10 @@ fn table(driver: &Driver) {
 #[cfg(test)]
 mod tests {
     use super::*;
+    use crate::layers::LAYERS;
     use std::collections::HashSet;
     use std::env;
     use std::path::Path;
-
-    #[test]
-    fn shares_are_of_a_hundred() {
-        assert_eq!(LAYERS.iter().map(|layer| layer.share).sum::<u64>(), 100);
-    }
 
     #[test]
     fn a_total_is_shared_out() {

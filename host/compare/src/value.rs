@@ -3,10 +3,12 @@
 use merlontrispa::{Drawn, Plan, Refusal, Seam, Triangulation, Vector};
 use std::cmp::Ordering;
 
+/// What can be told in a difference.
 pub trait Show {
     fn show(&self) -> String;
 }
 
+/// The output of a comparison.
 pub trait Value: Show {
     fn same(&self, other: &Self) -> bool;
 }

@@ -13,6 +13,9 @@ const DISTANCE: f64 = 6.0;
 const TURN: f64 = -2.2;
 const TILT: f64 = 0.55;
 
+/// What is seen nearer together than this, where the surface is about 2 wide, is seen at one place.
+const ONE_PLACE: f64 = 1e-6;
+
 /// A point as it is seen: x to the right and y down in mm, depth from 0 (near) to 1 (far).
 #[derive(Debug, Clone, Copy, PartialEq)]
 pub struct Seen {
@@ -53,7 +56,7 @@ impl Camera {
             (CARD[0] - 2.0 * MARGIN) / width,
             (CARD[1] - 2.0 * MARGIN) / height,
         );
-        (radius > 0.0 && width.max(height) > 1e-6).then_some(camera)
+        (radius > 0.0 && width.max(height) > ONE_PLACE).then_some(camera)
     }
 
     /// Right, up, and toward the eye, before the scale.
@@ -64,13 +67,14 @@ impl Camera {
         [right * nearer, up * nearer, toward]
     }
 
+    /// Where a point stands on the card.
     pub fn see(&self, point: [f64; 3]) -> Seen {
         let [right, up, toward] = self.project(point);
         let [width, height, depth] = self.seen;
         Seen {
             x: CARD[0] / 2.0 + (right - width.middle()) * self.scale,
             y: CARD[1] / 2.0 - (up - height.middle()) * self.scale,
-            depth: (depth.to - toward) / depth.length().max(1e-6),
+            depth: (depth.to - toward) / depth.length().max(ONE_PLACE),
         }
     }
 }

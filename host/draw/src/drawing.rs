@@ -67,7 +67,7 @@ fn edges(surface: Surface<'_>, seams: Seams) -> [(Seam, [usize; 2]); 2] {
 #[cfg(test)]
 mod tests {
     use super::*;
-    use options::{NAMES, ParametricSurface};
+    use options::{ParametricSurface, names};
 
     fn grid(name: &str, steps: [usize; 2]) -> Vec<f64> {
         ParametricSurface::named(name).expect("a name").grid(steps)
@@ -100,7 +100,7 @@ mod tests {
 
     #[test]
     fn no_line_makes_a_spike() {
-        for name in NAMES {
+        for name in names() {
             for [m, n] in [[30, 21], [7, 12], [1, 1]] {
                 let grid = grid(name, [m, n]);
                 let surface = Surface::new(&grid, m, n).expect("a surface");
@@ -123,7 +123,7 @@ mod tests {
     #[test]
     fn each_surface_has_its_rim() {
         let rims = [4, 2, 2, 0, 1, 0, 0, 0, 0];
-        for (name, rim) in NAMES.into_iter().zip(rims) {
+        for (name, rim) in names().into_iter().zip(rims) {
             let grid = grid(name, [15, 12]);
             let surface = Surface::new(&grid, 15, 12).expect("a surface");
             let drawing = Drawing::new(surface, Texture::Grid).expect("a drawing");

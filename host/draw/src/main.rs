@@ -10,11 +10,9 @@ mod svg;
 use camera::Camera;
 use drawing::Drawing;
 use merlontrispa::{Mapping, Refusal, Seam, Surface, Texture};
-use options::{Options, Request};
+use options::{HELP, Options, Request};
 use std::io::Write;
 use std::process::ExitCode;
-
-const HELP: &str = include_str!("help.txt");
 
 /// The output that is no file.
 const STDOUT: &str = "-";
@@ -23,7 +21,7 @@ const STDOUT: &str = "-";
 const SAMPLES: usize = 1_000_000;
 
 fn main() -> ExitCode {
-    match Request::given() {
+    match Request::from_args() {
         Err(sentence) => failed(&sentence, 2),
         Ok(Request::Help) => ended(write(STDOUT, HELP)),
         Ok(Request::Card(options)) => ended(draw(&options)),
@@ -91,7 +89,7 @@ fn write(output: &str, text: &str) -> Result<(), String> {
         STDOUT => std::io::stdout().lock().write_all(text.as_bytes()),
         _ => std::fs::write(output, text),
     };
-    written.map_err(|error| format!("cannot write {output}: {error}"))
+    written.map_err(|error| format!("cannot write '{output}': {error}"))
 }
 
 fn title(options: &Options) -> String {

@@ -63,6 +63,7 @@ impl Pen {
     }
 }
 
+/// The file's text, as far as it is written.
 struct Sheet(String);
 
 impl Sheet {
@@ -169,7 +170,7 @@ fn places(points: &[Seen]) -> String {
 mod tests {
     use super::*;
     use merlontrispa::{Surface, Texture};
-    use options::{NAMES, ParametricSurface};
+    use options::{ParametricSurface, names};
 
     const TEXTURES: [Texture; 3] = [
         Texture::Grid,
@@ -224,16 +225,15 @@ mod tests {
 
     #[test]
     fn every_line_of_the_library_is_a_polyline_of_the_plain_card() {
-        for name in NAMES {
+        for name in names() {
             for texture in TEXTURES {
                 let (drawing, text) = drawn(name, texture, PLAIN);
                 assert!(drawing.lines.iter().len() > 0);
                 let count = |class, element| elements(&text, class, element).len();
-                assert_eq!(
-                    count("texture", "polyline"),
-                    drawing.lines.iter().len(),
-                    "{name}"
-                );
+                let lines = elements(&text, "texture", "polyline");
+                assert_eq!(lines.len(), drawing.lines.iter().len(), "{name}");
+                // A line at a pole is a dot: one place, twice.
+                assert!(lines.iter().all(|line| line.contains(' ')), "{name}");
                 assert_eq!(count("rim", "polyline"), drawing.rim.iter().len(), "{name}");
                 assert_eq!(count("flipped", "polygon"), drawing.flipped.len(), "{name}");
                 let seams = count("forward-seam", "polyline") + count("reversed-seam", "polyline");
@@ -244,7 +244,7 @@ mod tests {
 
     #[test]
     fn all_stays_inside_the_card() {
-        for name in NAMES {
+        for name in names() {
             for texture in TEXTURES {
                 let (_, text) = drawn(name, texture, ALL);
                 let points = text.split("points=\"").skip(1);

@@ -1,7 +1,7 @@
 //! The surfaces, as the library finds them.
 
 use merlontrispa::{Mapping, Refusal, Surface};
-use options::{Formula, NAMES, ParametricSurface};
+use options::{Formula, ParametricSurface, names};
 
 /// The seams of a named surface, and the count of its flipped pairs.
 fn seams(name: &str, [m, n]: [usize; 2]) -> (Option<Mapping>, Option<Mapping>, usize) {
@@ -36,7 +36,7 @@ fn each_surface_has_its_seams() {
             ("klein-bottle", (reverse(0, n), forward(0, m), n)),
             ("klein-eight", (reverse(0, n), forward(0, m), n)),
         ];
-        assert_eq!(cases.map(|(name, _)| name), NAMES);
+        assert_eq!(cases.map(|(name, _)| name), names());
         for (name, expected) in cases {
             assert_eq!(seams(name, [m, n]), expected, "{name}, {m} × {n}");
         }
@@ -93,7 +93,7 @@ fn the_first_coordinate_that_the_library_refuses_is_found() {
         let surface = ParametricSurface {
             u: [0.0, 1.0],
             v: [0.0, 2.0],
-            ..ParametricSurface::own(Formula::parse(formula).expect("a formula"))
+            ..ParametricSurface::from_formula(Formula::parse(formula).expect("a formula"))
         };
         let refused = Surface::new(&surface.grid(steps), m, n).err();
         assert_eq!(refused, expected.map(|_| Refusal::Coordinate), "{formula}");

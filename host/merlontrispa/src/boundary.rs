@@ -254,9 +254,30 @@ unsafe extern "C" {
     ) -> PathsAnswer;
 }
 
+/// Calls a function of the library with lists that it reads, numbers, lists that it reads, and lists that
+/// it writes, in this order; each list goes in as its pointer and its length.
+macro_rules! call {
+    ($function:ident(
+        $($read:ident),*
+        $(; $($number:expr),* $(; $($then_read:ident),*; $($written:ident),*)?)?
+    )) => {
+        // SAFETY: each pointer and length are those of one slice, which is lent for the call. A slice that
+        // is written is a mutable one, so that no other overlaps it. The elements are numbers, or structs
+        // that are laid out as C lays out their fields.
+        unsafe {
+            $function(
+                $($read.as_ptr(), $read.len(),)*
+                $($($number,)* $(
+                    $($then_read.as_ptr(), $then_read.len(),)*
+                    $($written.as_mut_ptr(), $written.len(),)*
+                )?)?
+            )
+        }
+    };
+}
+
 pub fn new_vector(a: &[f64], b: &[f64]) -> RowsAnswer {
-    // SAFETY: each pointer and length are those of a slice that is lent for the call.
-    unsafe { mt_new_vector(a.as_ptr(), a.len(), b.as_ptr(), b.len()) }
+    call!(mt_new_vector(a, b))
 }
 
 pub fn grid_paths(
@@ -266,59 +287,17 @@ pub fn grid_paths(
     points: &mut [f64],
     starts: &mut [usize],
 ) -> PathsAnswer {
-    // SAFETY: each pointer and length are those of a slice that is lent for the call.
-    unsafe {
-        mt_grid_paths(
-            grid.as_ptr(),
-            grid.len(),
-            m,
-            n,
-            points.as_mut_ptr(),
-            points.len(),
-            starts.as_mut_ptr(),
-            starts.len(),
-        )
-    }
+    call!(mt_grid_paths(grid; m, n; ; points, starts))
 }
 
 pub fn line_span(lines: Lines<'_>, index: usize) -> SpanAnswer {
-    let Lines {
-        points,
-        starts,
-        drawn,
-    } = lines;
-    // SAFETY: each pointer and length are those of a slice that is lent for the call.
-    unsafe {
-        mt_line_span(
-            points.as_ptr(),
-            points.len(),
-            starts.as_ptr(),
-            starts.len(),
-            drawn.points,
-            drawn.lines,
-            index,
-        )
-    }
+    let (points, starts, drawn) = (lines.points, lines.starts, lines.drawn);
+    call!(mt_line_span(points, starts; drawn.points, drawn.lines, index))
 }
 
 pub fn get(lines: Lines<'_>, index: usize) -> Part {
-    let Lines {
-        points,
-        starts,
-        drawn,
-    } = lines;
-    // SAFETY: each pointer and length are those of a slice that is lent for the call.
-    unsafe {
-        mt_get(
-            points.as_ptr(),
-            points.len(),
-            starts.as_ptr(),
-            starts.len(),
-            drawn.points,
-            drawn.lines,
-            index,
-        )
-    }
+    let (points, starts, drawn) = (lines.points, lines.starts, lines.drawn);
+    call!(mt_get(points, starts; drawn.points, drawn.lines, index))
 }
 
 pub fn triangulate_grid(
@@ -328,19 +307,7 @@ pub fn triangulate_grid(
     triangles: &mut [usize],
     flipped: &mut [usize],
 ) -> MeshAnswer {
-    // SAFETY: each pointer and length are those of a slice that is lent for the call.
-    unsafe {
-        mt_triangulate_grid(
-            grid.as_ptr(),
-            grid.len(),
-            m,
-            n,
-            triangles.as_mut_ptr(),
-            triangles.len(),
-            flipped.as_mut_ptr(),
-            flipped.len(),
-        )
-    }
+    call!(mt_triangulate_grid(grid; m, n; ; triangles, flipped))
 }
 
 pub fn trace_flat(
@@ -351,33 +318,9 @@ pub fn trace_flat(
     marks: &[u8],
     lists: TraceLists<'_>,
 ) -> PathsAnswer {
-    let TraceLists {
-        points,
-        starts,
-        sides,
-        fractions,
-    } = lists;
-    // SAFETY: each pointer and length are those of a slice that is lent for the call.
-    unsafe {
-        mt_trace_flat(
-            grid.as_ptr(),
-            grid.len(),
-            m,
-            n,
-            pairs.as_ptr(),
-            pairs.len(),
-            marks.as_ptr(),
-            marks.len(),
-            points.as_mut_ptr(),
-            points.len(),
-            starts.as_mut_ptr(),
-            starts.len(),
-            sides.as_mut_ptr(),
-            sides.len(),
-            fractions.as_mut_ptr(),
-            fractions.len(),
-        )
-    }
+    let (points, starts) = (lists.points, lists.starts);
+    let (sides, fractions) = (lists.sides, lists.fractions);
+    call!(mt_trace_flat(grid; m, n; pairs, marks; points, starts, sides, fractions))
 }
 
 pub fn trace_samples(
@@ -387,30 +330,7 @@ pub fn trace_samples(
     samples: &[Sample],
     lists: TraceLists<'_>,
 ) -> PathsAnswer {
-    let TraceLists {
-        points,
-        starts,
-        sides,
-        fractions,
-    } = lists;
-    // SAFETY: each pointer and length are those of a slice that is lent for the call, and a sample is
-    // laid out as C lays out its fields.
-    unsafe {
-        mt_trace_samples(
-            grid.as_ptr(),
-            grid.len(),
-            m,
-            n,
-            samples.as_ptr(),
-            samples.len(),
-            points.as_mut_ptr(),
-            points.len(),
-            starts.as_mut_ptr(),
-            starts.len(),
-            sides.as_mut_ptr(),
-            sides.len(),
-            fractions.as_mut_ptr(),
-            fractions.len(),
-        )
-    }
+    let (points, starts) = (lists.points, lists.starts);
+    let (sides, fractions) = (lists.sides, lists.fractions);
+    call!(mt_trace_samples(grid; m, n; samples; points, starts, sides, fractions))
 }

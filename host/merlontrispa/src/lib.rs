@@ -29,9 +29,9 @@
 //! ```
 //!
 //! Below [`Surface`] lie the library's own calls, each one function here: [`triangulate_grid`],
-//! [`grid_paths`], [`trace_flat`], [`Lines::get`] and [`Lines::line_span`], the methods of [`Mapping`],
-//! [`Texture`] and [`Vector`], and the functions of [`float`]. Their meaning is fixed by their
-//! contracts: the numbers that they answer are those of the definitions in `crates/*/specs`, to the
+//! [`grid_paths`], [`trace_flat`], [`trace_samples`], [`Lines::get`] and [`Lines::line_span`], the methods
+//! of [`Mapping`], [`Texture`] and [`Vector`], and the functions of [`float`]. Their meaning is fixed by
+//! their contracts: the numbers that they answer are those of the definitions in `crates/*/specs`, to the
 //! last bit. They allocate nothing, and write only to lists that the caller lends.
 //!
 //! A call that cannot be answered is refused: [`Refusal`] has the twelve reasons.

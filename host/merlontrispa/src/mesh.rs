@@ -59,7 +59,7 @@ pub fn triangulate_grid(
     })
 }
 
-/// A triangulated grid in lists of its own.
+/// A triangulated grid in lists of its own. Made by [`Surface::triangulate`](crate::Surface::triangulate).
 #[derive(Debug, Clone, PartialEq, Eq)]
 pub struct Mesh {
     /// The seams that were found and joined.
@@ -68,31 +68,4 @@ pub struct Mesh {
     pub triangles: Vec<[usize; 3]>,
     /// The numbers of the triangles of each flipped pair, ascending.
     pub flipped: Vec<[usize; 2]>,
-}
-
-impl Mesh {
-    /// [`triangulate_grid`] into lists that this call allocates.
-    ///
-    /// # Errors
-    /// 1, 2 and 4.
-    pub fn from_grid(grid: &[f64], u_steps: usize, v_steps: usize) -> Result<Self, Refusal> {
-        // Steps that are refused get lists that are long enough for the largest grid.
-        let (m, n) = (u_steps.min(255), v_steps.min(255));
-        let mut triangles = vec![[0; 3]; 2 * m * n];
-        let mut flipped = vec![[0; 2]; m + n];
-        let written = triangulate_grid(
-            grid,
-            u_steps,
-            v_steps,
-            triangles.as_flattened_mut(),
-            flipped.as_flattened_mut(),
-        )?;
-        triangles.truncate(written.triangles);
-        flipped.truncate(written.flipped);
-        Ok(Self {
-            seams: written.seams,
-            triangles,
-            flipped,
-        })
-    }
 }

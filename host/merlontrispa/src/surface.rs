@@ -131,7 +131,18 @@ impl<'a> Surface<'a> {
 
     /// Allocates two lists and does [`Surface::triangulate_into`] with them.
     pub fn triangulate(self) -> Mesh {
-        answered(Mesh::from_grid(self.grid, self.u_steps, self.v_steps))
+        let mut triangles = vec![[0; 3]; self.triangles_room() / 3];
+        let mut flipped = vec![[0; 2]; self.flipped_room() / 2];
+        let written =
+            self.triangulate_into(triangles.as_flattened_mut(), flipped.as_flattened_mut());
+        let written = answered(written);
+        triangles.truncate(written.triangles);
+        flipped.truncate(written.flipped);
+        Mesh {
+            seams: written.seams,
+            triangles,
+            flipped,
+        }
     }
 
     /// How many numbers [`Surface::grid_lines_into`] asks of the list of points.

@@ -17,6 +17,8 @@ use crate::refusal::Refusal;
 ///     ray.push(swirl.sample_point(4, 4, 0, sample, [cosine, sine])?);
 /// }
 /// assert_eq!(ray[0], [2.0, 2.0]);
+/// // A twist of a half is half a turn from the centre to the end of a ray.
+/// assert_eq!(swirl.angle(4, 4, 0, plan.samples)?, std::f64::consts::PI);
 /// # Ok::<(), merlontrispa::Refusal>(())
 /// ```
 #[derive(Debug, Clone, Copy, PartialEq)]

@@ -46,6 +46,11 @@ fn seams_are_those_of_the_triangulation() {
         assert_eq!(seams.u.mapping, mapping);
         assert_eq!(seams.v.mapping.is_some(), closed_in_v);
     }
+    // One cell whose corners are all one point: both seams join, and no triangle is left.
+    let surface = Surface::new(&[0.0; 12], 1, 1).expect("a grid");
+    let mesh = surface.triangulate();
+    assert_eq!(surface.seams(), mesh.seams);
+    assert_eq!((mesh.triangles.len(), mesh.flipped.len()), (0, 0));
 }
 
 #[test]
@@ -129,7 +134,7 @@ fn a_trace_into_lists_that_just_hold_it_is_the_same() {
     let owned = surface.trace(&SAMPLES).expect("a trace");
     let count = owned.lines.points.len();
     let (mut points, mut starts) = (vec![0.0; 3 * count + 2], vec![0; 1]);
-    let (mut sides, mut fractions) = (vec![0; 2 * count + 1], vec![0.0; count]);
+    let (mut sides, mut fractions) = (vec![0; 2 * count + 1], vec![0.0; count + 1]);
     let mut lists = TraceLists {
         points: &mut points,
         starts: &mut starts,

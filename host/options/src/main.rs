@@ -4,7 +4,7 @@ use options::Request;
 use std::process::ExitCode;
 
 fn main() -> ExitCode {
-    match Request::given() {
+    match Request::from_args() {
         Ok(_) => ExitCode::SUCCESS,
         Err(sentence) => {
             eprintln!("draw: {sentence}");

@@ -21,45 +21,44 @@ pub struct ParametricSurface {
     pub steps: [usize; 2],
 }
 
-/// The names of the surfaces that need no formula of the user's, in the order of the help.
-pub const NAMES: [&str; 9] = [
-    "plane",
-    "cylinder",
-    "moebius-band",
-    "sphere",
-    "shell",
-    "torus",
-    "twisted-torus",
-    "klein-bottle",
-    "klein-eight",
+/// A range of one whole turn.
+const TURN: [f64; 2] = [0.0, TAU];
+
+/// A surface that needs no formula of the user's: name, formula, ranges of u and of v, and steps.
+type Named = (&'static str, &'static str, [f64; 2], [f64; 2], [usize; 2]);
+
+const NAMED: [Named; 9] = [
+    ("plane", PLANE, [-1.5, 1.5], [-1.0, 1.0], [36, 24]),
+    ("cylinder", CYLINDER, TURN, [-0.8, 0.8], [60, 16]),
+    ("moebius-band", MOEBIUS_BAND, TURN, [-0.5, 0.5], [96, 12]),
+    ("sphere", SPHERE, TURN, [0.0, PI], [48, 24]),
+    ("shell", SHELL, [0.0, 3.0 * TAU], TURN, [120, 30]),
+    ("torus", TORUS, TURN, TURN, [72, 30]),
+    ("twisted-torus", TWISTED_TORUS, TURN, TURN, [96, 36]),
+    ("klein-bottle", KLEIN_BOTTLE, [0.0, PI], TURN, [72, 24]),
+    ("klein-eight", KLEIN_EIGHT, TURN, TURN, [84, 36]),
 ];
+
+/// The names of the surfaces that need no formula of the user's, in the order of the help.
+pub fn names() -> [&'static str; 9] {
+    NAMED.map(|(name, ..)| name)
+}
 
 impl ParametricSurface {
     /// A surface of the user's own: u and v run through a whole turn.
-    pub fn own(formula: Formula) -> Self {
+    pub fn from_formula(formula: Formula) -> Self {
         Self {
             name: "formula",
             formula,
-            u: [0.0, TAU],
-            v: [0.0, TAU],
+            u: TURN,
+            v: TURN,
             steps: [48, 48],
         }
     }
 
     /// The surface of one of the names.
     pub fn named(name: &str) -> Option<Self> {
-        let name = NAMES.into_iter().find(|known| *known == name)?;
-        let (formula, u, v, steps) = match name {
-            "plane" => (PLANE, [-1.5, 1.5], [-1.0, 1.0], [36, 24]),
-            "cylinder" => (CYLINDER, [0.0, TAU], [-0.8, 0.8], [60, 16]),
-            "moebius-band" => (MOEBIUS_BAND, [0.0, TAU], [-0.5, 0.5], [96, 12]),
-            "sphere" => (SPHERE, [0.0, TAU], [0.0, PI], [48, 24]),
-            "shell" => (SHELL, [0.0, 3.0 * TAU], [0.0, TAU], [120, 30]),
-            "torus" => (TORUS, [0.0, TAU], [0.0, TAU], [72, 30]),
-            "twisted-torus" => (TWISTED_TORUS, [0.0, TAU], [0.0, TAU], [96, 36]),
-            "klein-bottle" => (KLEIN_BOTTLE, [0.0, PI], [0.0, TAU], [72, 24]),
-            _ => (KLEIN_EIGHT, [0.0, TAU], [0.0, TAU], [84, 36]),
-        };
+        let (name, formula, u, v, steps) = NAMED.into_iter().find(|named| named.0 == name)?;
         let formula = Formula::parse(formula).expect("the tests parse each");
         Some(Self {
             name,
@@ -94,7 +93,8 @@ impl ParametricSurface {
     pub fn first_refused(&self, steps: [usize; 2]) -> Option<String> {
         self.parameters(steps).find_map(|[u, v]| {
             let mut coordinates = std::iter::zip(["x", "y", "z"], self.formula.at(u, v));
-            let (name, value) = coordinates.find(|(_, value)| !(value.abs() <= LARGEST))?;
+            let refused = |value: f64| !value.is_finite() || value.abs() > LARGEST;
+            let (name, value) = coordinates.find(|(_, value)| refused(*value))?;
             Some(format!("{name} = {value:?} at u = {u:?}, v = {v:?}"))
         })
     }

@@ -1,7 +1,7 @@
 //! The options of the command line. Each fault is one sentence.
 
 use crate::formula::{Formula, constant};
-use crate::parametric::{NAMES, ParametricSurface};
+use crate::parametric::{ParametricSurface, names};
 use std::collections::BTreeMap;
 
 const WITH_VALUE: [&str; 9] = [
@@ -49,7 +49,7 @@ pub struct Options {
     pub output: String,
 }
 
-/// The lines on a surface.
+/// The lines on a surface: the library's texture, in a crate that is built without the library.
 #[derive(Debug, Clone, Copy, PartialEq)]
 pub enum Texture {
     /// The lines of its grid.
@@ -85,8 +85,8 @@ impl Request {
     /// The request of this program's command line.
     ///
     /// # Errors
-    /// As `parse`.
-    pub fn given() -> Result<Self, String> {
+    /// As [`Request::parse`], and one where the words are not in UTF-8.
+    pub fn from_args() -> Result<Self, String> {
         let words = std::env::args_os().skip(1);
         let words: Result<Vec<_>, _> = words.map(|word| word.into_string()).collect();
         Self::parse(words.map_err(|_| "the options are not all in UTF-8")?)
@@ -191,7 +191,7 @@ impl Given {
                 ));
             }
             (None, Some(text)) => Formula::parse(text)
-                .map(ParametricSurface::own)
+                .map(ParametricSurface::from_formula)
                 .map_err(|fault| format!("in the formula, {}", fault.show(text)))?,
             (name, None) => named(name.as_deref().unwrap_or("torus"))?,
         };
@@ -217,7 +217,12 @@ impl Given {
             })
         };
         let to_start = from.chars().count() + "..".len();
-        Ok(Some([end(from, 0)?, end(to, to_start)?]))
+        let ends = [end(from, 0)?, end(to, to_start)?];
+        if ends.iter().all(|end| end.is_finite()) {
+            Ok(Some(ends))
+        } else {
+            Err(format!("{name} wants finite ends, not '{text}'"))
+        }
     }
 
     fn steps(&self) -> Result<Option<[usize; 2]>, String> {
@@ -268,8 +273,8 @@ impl Given {
     fn spacing(&self) -> Result<f64, String> {
         match self.number("--spacing")?.unwrap_or(SPACING) {
             spacing if spacing.is_finite() && spacing > LEAST_SPACING => Ok(spacing),
-            _ => Err(format!(
-                "--spacing wants a finite number above {LEAST_SPACING:?}"
+            other => Err(format!(
+                "--spacing wants a finite number above {LEAST_SPACING:?}, not '{other}'"
             )),
         }
     }
@@ -280,7 +285,7 @@ impl Given {
         };
         match text.parse() {
             Ok(arms) if arms > 0 => Ok(arms),
-            _ => Err(format!("--arms wants a count from 1, not '{text}'")),
+            _ => Err(format!("--arms wants a count from 1 to 64, not '{text}'")),
         }
     }
 
@@ -295,7 +300,7 @@ impl Given {
 
 fn named(name: &str) -> Result<ParametricSurface, String> {
     ParametricSurface::named(name).ok_or_else(|| {
-        let names = NAMES.join(", ");
+        let names = names().join(", ");
         format!("there is no surface '{name}': the names are {names}")
     })
 }
@@ -303,6 +308,7 @@ fn named(name: &str) -> Result<ParametricSurface, String> {
 #[cfg(test)]
 mod tests {
     use super::*;
+    use crate::HELP;
     use std::f64::consts::PI;
 
     /// The words of a command, parted by spaces.
@@ -360,6 +366,22 @@ mod tests {
     }
 
     #[test]
+    fn the_help_names_every_surface_and_option_and_what_is_not_given() {
+        let words: Vec<_> = HELP
+            .split(|c: char| c.is_whitespace() || c == ',')
+            .collect();
+        for name in names().iter().chain(&WITH_VALUE).chain(&WITHOUT_VALUE) {
+            assert!(words.contains(name), "{name}");
+        }
+        for number in [SPACING, TWIST, ARMS as f64] {
+            assert!(
+                HELP.contains(&format!(" {number} if not given")),
+                "{number}"
+            );
+        }
+    }
+
+    #[test]
     fn faults_are_named() {
         let cases = [
             ("tours", "there is no surface 'tours'"),
@@ -395,6 +417,8 @@ mod tests {
             ("--texture spiral --arms 0", "--arms wants a count"),
             ("--texture spiral --arms 1.5", "--arms wants a count"),
             ("--u 3", "--u wants a range"),
+            ("--u 0..1/0", "--u wants finite ends, not '0..1/0'"),
+            ("--v sqrt(-1)..1", "--v wants finite ends"),
             ("--u 0..", "'(' belongs here\n    0..\n       ^"),
             (
                 "--u 0..v",

@@ -17,3 +17,9 @@ pub use parametric::textures::{radial_sample_count, spiral_sample_count, texture
 pub use parametric::{CyclicMapping, ParametricSurfaceTexture, seams};
 pub use path::Paths;
 pub use vector::Vector;
+
+/// The points of a list of three numbers each.
+pub fn vectors(numbers: &[f64]) -> Vec<Vector> {
+    let points = numbers.as_chunks().0.iter();
+    points.map(|&[x, y, z]| Vector::new(x, y, z)).collect()
+}

@@ -3,10 +3,11 @@
 use crate::case::{Smaller, case, plainer_everywhere, stretches, without};
 use crate::driver::{Compared, Driver};
 use crate::inputs::{COORDINATE_EDGES, COORDINATE_FAULTS, EPS, coordinates_fit, near, whole};
+use crate::mappings::{mapping, searched, to_original};
 use crate::random::Random;
 use crate::record::{Call, Record, Recorded};
 use merlontrispa::{Mapping, Refusal, Seam};
-use original::{CyclicMapping, Vector};
+use original::vectors;
 use std::collections::HashSet;
 use std::iter;
 
@@ -148,49 +149,14 @@ fn library_search(rows: &Rows) -> Result<Seam, Refusal> {
 }
 
 fn original_search(rows: &Rows) -> Result<Seam, Refusal> {
-    let row_fits = |row: &[f64]| row.len() % 3 == 0 && row.len() / 3 <= 65_536;
+    let row_fits = |row: &[f64]| row.len().is_multiple_of(3) && row.len() / 3 <= 65_536;
     if !row_fits(&rows.a) || !row_fits(&rows.b) {
         return Err(Refusal::Length);
     }
     if !coordinates_fit(&rows.a) || !coordinates_fit(&rows.b) {
         return Err(Refusal::Coordinate);
     }
-    Ok(found(&vectors(&rows.a), &vectors(&rows.b)))
-}
-
-/// What the original's search finds, and its comparisons.
-pub fn found(a: &[Vector], b: &[Vector]) -> Seam {
-    let (found, comparisons) = original::seams::search(a, b);
-    let mapping = found.map(|found| match found {
-        CyclicMapping::Forward(offset, steps) => Mapping::Forward { offset, steps },
-        CyclicMapping::Reverse(offset, steps) => Mapping::Reverse { offset, steps },
-    });
-    Seam {
-        mapping,
-        comparisons,
-    }
-}
-
-/// Points of three numbers each in the original's type.
-pub fn vectors(numbers: &[f64]) -> Vec<Vector> {
-    let points = numbers.as_chunks().0.iter();
-    points.map(|&[x, y, z]| Vector::new(x, y, z)).collect()
-}
-
-pub fn mapping(reverse: bool, offset: usize, steps: usize) -> Mapping {
-    if reverse {
-        Mapping::Reverse { offset, steps }
-    } else {
-        Mapping::Forward { offset, steps }
-    }
-}
-
-/// The same mapping in the original's type.
-pub fn to_original(mapping: Mapping) -> CyclicMapping {
-    match mapping {
-        Mapping::Forward { offset, steps } => CyclicMapping::Forward(offset, steps),
-        Mapping::Reverse { offset, steps } => CyclicMapping::Reverse(offset, steps),
-    }
+    Ok(searched(&vectors(&rows.a), &vectors(&rows.b)))
 }
 
 #[derive(Clone, Copy)]

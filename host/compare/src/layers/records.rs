@@ -2,10 +2,11 @@
 
 use crate::case::{Case, Smaller};
 use crate::driver::{Compared, Driver};
-use crate::grids::any_steps;
+use crate::inputs::grids::any_steps;
+use crate::layers::traces::curves::{self, Scene, Scenes, bent, faulty, spare, traced};
+use crate::layers::traces::{self, Output, called};
 use crate::random::Random;
 use crate::text::{Text, Words};
-use crate::traces::{self, Output, Scene, Scenes, bent, called, faulty, spare, traced};
 use merlontrispa::{ParamPoint, Sample, trace_samples};
 use std::rc::Rc;
 
@@ -51,10 +52,10 @@ fn compare_beside(driver: &mut Driver, name: &str, other: fn(&Input) -> Output) 
 
 /// An input of the flat trace that has as many pairs as marks.
 #[derive(Clone)]
-struct Input(traces::Input);
+struct Input(curves::Input);
 
 impl Input {
-    fn of(flat: traces::Input) -> Option<Self> {
+    fn of(flat: curves::Input) -> Option<Self> {
         (flat.pairs.len() == 2 * flat.marks.len()).then_some(Self(flat))
     }
 
@@ -76,7 +77,7 @@ impl Case for Input {
     }
 
     fn read(words: &mut Words<'_>) -> Result<Self, String> {
-        Self::of(traces::Input::read(words)?).ok_or_else(|| "pairs are not twice the marks".into())
+        Self::of(curves::Input::read(words)?).ok_or_else(|| "pairs are not twice the marks".into())
     }
 
     fn smaller(&self) -> Smaller<Self> {
@@ -119,7 +120,7 @@ fn around(scene: &Rc<Scene>, count: usize, more: usize) -> Input {
     });
     let marks = (0..count).map(|i| u8::from(i % 1_000 != 999));
     let (pairs, marks) = (pairs.collect(), marks.collect());
-    Input(traces::Input::new(scene, pairs, marks, |need| {
+    Input(curves::Input::new(scene, pairs, marks, |need| {
         let mut room = spare(need, more % 3);
         if more == 3 {
             room.fractions = room.fractions.saturating_sub(1);

@@ -2,14 +2,13 @@
 
 use crate::case::{Smaller, case};
 use crate::driver::{Compared, Driver};
-use crate::grids::{Grid, any_grid, any_steps};
+use crate::inputs::grids::{Grid, any_grid, any_steps, spoil};
+use crate::inputs::lists::{fewer_cells, fill, floats, length, numbers};
 use crate::inputs::whole;
-use crate::lists::{fewer_cells, fill, floats, grid_refusal, length, numbers, spoil};
 use crate::random::Random;
 use crate::record::{Call, Record, Recorded};
-use crate::seams::vectors;
 use merlontrispa::{Drawn, Lines, Refusal, grid_paths};
-use original::{ParametricSurfaceTexture, Paths, Surface, Vector};
+use original::{ParametricSurfaceTexture, Paths, Surface, Vector, vectors};
 
 /// A grid and how long the lists are that are lent.
 #[derive(Clone)]
@@ -22,13 +21,17 @@ struct Input {
 case!(Input { grid, points, starts }, first Input::fewer_cells);
 
 impl Input {
-    fn fewer_cells(&self) -> Smaller<Self> {
-        let fewer = fewer_cells(&self.grid, [self.points, self.starts], least);
-        Box::new(fewer.map(|(grid, [points, starts])| Self {
+    fn new(grid: Grid, [points, starts]: [usize; 2]) -> Self {
+        Self {
             grid,
             points,
             starts,
-        }))
+        }
+    }
+
+    fn fewer_cells(&self) -> Smaller<Self> {
+        let fewer = fewer_cells(&self.grid, [self.points, self.starts], least);
+        Box::new(fewer.map(|(grid, lengths)| Self::new(grid, lengths)))
     }
 }
 
@@ -75,11 +78,8 @@ fn library(input: &Input) -> Output {
 
 fn original(input: &Input) -> Output {
     let (mut points, mut starts) = (floats(input.points), numbers(input.starts));
-    let room = |m, n| {
-        let [points, starts] = least(m, n);
-        input.points >= points && input.starts >= starts
-    };
-    if let Some(refusal) = grid_refusal(&input.grid, room) {
+    let lengths = [input.points, input.starts];
+    if let Some(refusal) = input.grid.refusal_with_lists(lengths, least) {
         return (Err(refusal), (points, starts));
     }
     let paths = paths(&input.grid);
@@ -118,10 +118,10 @@ pub fn firsts<T>(paths: &Paths<T>) -> Vec<usize> {
 
 /// Every line of a grid by `get`, one past the last included.
 fn read(input: &Input) -> Vec<Vec<f64>> {
-    let Ok(drawn) = library(input).0 else {
+    let (told, (points, starts)) = library(input);
+    let Ok(drawn) = told else {
         return Vec::new();
     };
-    let (_, (points, starts)) = library(input);
     let lines = Lines {
         points: &points,
         starts: &starts,
@@ -144,12 +144,8 @@ fn walked(input: &Input) -> Vec<Vec<f64>> {
 
 fn drawable(random: &mut Random) -> Input {
     let (m, n) = (any_steps(random), any_steps(random));
-    let [points, starts] = least(m, n);
-    Input {
-        grid: any_grid(random, m, n),
-        points: length(random, points),
-        starts: length(random, starts),
-    }
+    let grid = any_grid(random, m, n);
+    Input::new(grid, least(m, n).map(|least| length(random, least)))
 }
 
 fn faulty(random: &mut Random) -> Input {
@@ -253,12 +249,7 @@ pub fn record(record: &mut Record) {
         record.offer(drawable(&mut random).recorded());
         record.offer(faulty(&mut random).recorded());
     }
-    let grid = any_grid(&mut random, 12, 9);
-    let many = Input {
-        grid,
-        points: 6 * 13 * 10 + 2,
-        starts: 24,
-    };
+    let many = Input::new(any_grid(&mut random, 12, 9), [6 * 13 * 10 + 2, 24]);
     record.keep(many.recorded().reaching("many cells"));
     for _ in 0..40 {
         record.keep(any_lists(&mut random).recorded());
@@ -267,21 +258,11 @@ pub fn record(record: &mut Record) {
 
 impl Input {
     fn recorded(&self) -> Recorded {
-        let Grid {
-            u_steps,
-            v_steps,
-            ref numbers,
-        } = self.grid;
         let (told, (points, starts)) = original(self);
-        Recorded::new(
-            Call::GridPaths,
-            told.err(),
-            &[u_steps as u64, v_steps as u64],
-        )
-        .floats(numbers)
-        .told(told.map(|drawn| [drawn.points, drawn.lines]))
-        .floats(&points)
-        .numbers(&starts)
+        Recorded::on_grid(Call::GridPaths, told.err(), &self.grid)
+            .told(told.map(|drawn| [drawn.points, drawn.lines]))
+            .floats(&points)
+            .numbers(&starts)
     }
 }
 

@@ -2,13 +2,14 @@
 
 use crate::case::{Smaller, case};
 use crate::driver::{Compared, Driver};
-use crate::grids::{Grid, Joining, any_grid, any_steps};
-use crate::lists::{fewer_cells, fill, grid_refusal, length, numbers, spoil};
+use crate::inputs::grids::{Grid, Joining, any_grid, any_steps, spoil};
+use crate::inputs::lists::{fewer_cells, fill, length, numbers};
+use crate::layers::seams::{kind, seam_words};
+use crate::mappings::{mapping, searched};
 use crate::random::Random;
 use crate::record::{Call, Record, Recorded};
-use crate::seams::{found, kind, mapping, seam_words, vectors};
 use merlontrispa::{Mapping, Refusal, Seams, Triangulation, triangulate_grid};
-use original::{Surface, Vector};
+use original::{Surface, Vector, vectors};
 
 /// A grid and how long the lists are that are lent.
 #[derive(Clone)]
@@ -21,13 +22,17 @@ struct Input {
 case!(Input { grid, triangles, flipped }, first Input::fewer_cells);
 
 impl Input {
-    fn fewer_cells(&self) -> Smaller<Self> {
-        let fewer = fewer_cells(&self.grid, [self.triangles, self.flipped], least);
-        Box::new(fewer.map(|(grid, [triangles, flipped])| Self {
+    fn new(grid: Grid, [triangles, flipped]: [usize; 2]) -> Self {
+        Self {
             grid,
             triangles,
             flipped,
-        }))
+        }
+    }
+
+    fn fewer_cells(&self) -> Smaller<Self> {
+        let fewer = fewer_cells(&self.grid, [self.triangles, self.flipped], least);
+        Box::new(fewer.map(|(grid, lengths)| Self::new(grid, lengths)))
     }
 }
 
@@ -116,27 +121,21 @@ fn seams(points: &[Vector], u_steps: usize, v_steps: usize) -> Seams {
             .collect()
     };
     Seams {
-        u: found(&column(0), &column(u_steps)),
-        v: found(&row(0), &row(v_steps)),
+        u: searched(&column(0), &column(u_steps)),
+        v: searched(&row(0), &row(v_steps)),
     }
 }
 
 /// The refusal that applies.
 fn refusal(input: &Input) -> Option<Refusal> {
-    grid_refusal(&input.grid, |m, n| {
-        let [triangles, flipped] = least(m, n);
-        input.triangles >= triangles && input.flipped >= flipped
-    })
+    let lengths = [input.triangles, input.flipped];
+    input.grid.refusal_with_lists(lengths, least)
 }
 
 /// A grid with lists that are just long enough.
 fn exact(grid: Grid) -> Input {
-    let [triangles, flipped] = least(grid.u_steps, grid.v_steps);
-    Input {
-        grid,
-        triangles,
-        flipped,
-    }
+    let lengths = least(grid.u_steps, grid.v_steps);
+    Input::new(grid, lengths)
 }
 
 /// The lists of an input made shorter or longer by turns.
@@ -147,19 +146,15 @@ fn other_room(turn: u64, input: Input) -> Input {
         triangles,
         flipped,
     } = input;
-    let (triangles, flipped) = match turn % 8 {
-        0 => (short(triangles), flipped),
-        1 => (triangles, short(flipped)),
-        2 => (long(triangles), short(flipped)),
-        3 => (long(triangles), long(flipped)),
-        4 => (triangles, long(flipped)),
-        _ => (triangles, flipped),
+    let lengths = match turn % 8 {
+        0 => [short(triangles), flipped],
+        1 => [triangles, short(flipped)],
+        2 => [long(triangles), short(flipped)],
+        3 => [long(triangles), long(flipped)],
+        4 => [triangles, long(flipped)],
+        _ => [triangles, flipped],
     };
-    Input {
-        grid,
-        triangles,
-        flipped,
-    }
+    Input::new(grid, lengths)
 }
 
 /// None, and each mapping of rows of so many steps.
@@ -250,27 +245,19 @@ pub fn record(record: &mut Record) {
 
 impl Input {
     fn recorded(&self) -> Recorded {
-        let Grid {
-            u_steps,
-            v_steps,
-            ref numbers,
-        } = self.grid;
         let (told, [triangles, flipped]) = original(self);
-        let steps = [u_steps as u64, v_steps as u64];
-        let case = Recorded::new(Call::TriangulateGrid, told.err(), &steps).floats(numbers);
+        let case = Recorded::on_grid(Call::TriangulateGrid, told.err(), &self.grid);
         let case = match told {
             Err(refusal) => case.told(Err(refusal)).words(&[]).words(&[]),
             Ok(told) => {
                 let Seams { u, v } = told.seams;
                 let joined = format!("u {}, v {}", kind(u.mapping), kind(v.mapping));
+                let most = 2 * self.grid.u_steps * self.grid.v_steps;
                 case.told(Ok([told.triangles, told.flipped]))
                     .words(&seam_words(&u))
                     .words(&seam_words(&v))
                     .reaching(&joined)
-                    .reaching_if(
-                        told.triangles < 2 * u_steps * v_steps,
-                        "a triangle left out",
-                    )
+                    .reaching_if(told.triangles < most, "a triangle left out")
                     .reaching_if(told.flipped > 0, "flipped pairs")
             }
         };
@@ -285,7 +272,7 @@ mod tests {
     use std::collections::HashSet;
 
     /// Direction and offset.
-    fn kind(mapping: Option<Mapping>) -> Option<(bool, usize)> {
+    fn way(mapping: Option<Mapping>) -> Option<(bool, usize)> {
         mapping.map(|mapping| match mapping {
             Mapping::Forward { offset, .. } => (false, offset),
             Mapping::Reverse { offset, .. } => (true, offset),
@@ -295,10 +282,10 @@ mod tests {
     #[test]
     fn small_grids_have_many_joinings() {
         let told = joinings().filter_map(|input| original(&input).0.ok());
-        let kinds: HashSet<_> = told
-            .map(|told| (kind(told.seams.u.mapping), kind(told.seams.v.mapping)))
-            .collect();
-        assert!(kinds.len() >= 40, "{}", kinds.len());
+        let ways =
+            told.map(|Triangulation { seams, .. }| [seams.u, seams.v].map(|s| way(s.mapping)));
+        let ways: HashSet<_> = ways.collect();
+        assert!(ways.len() >= 40, "{}", ways.len());
     }
 
     #[test]

@@ -3,18 +3,16 @@
 
 use crate::case::case;
 use crate::driver::{Compared, Driver};
-use crate::grids::{Grid, any_grid};
+use crate::inputs::grids::{Grid, any_grid};
 use crate::inputs::{EPS, any, whole};
-use crate::lines::coordinates;
-use crate::lists::grid_refusal;
+use crate::layers::lines::coordinates;
 use crate::random::Random;
 use crate::record::{Call, Record, Recorded, bits};
-use crate::seams::vectors;
 use crate::value::Value;
 use merlontrispa::{Plan, Refusal, Texture};
 use original::{
     ParametricSurfaceTexture, Surface, Vector, radial_sample_count, spiral_sample_count,
-    texture_spacing,
+    texture_spacing, vectors,
 };
 use std::cell::LazyCell;
 use std::f64::consts::TAU;
@@ -142,7 +140,7 @@ type DrawnLines = Result<Vec<Vec<f64>>, Refusal>;
 
 /// What the original draws; where it panics, 11 is due.
 fn original_lines(scene: &Scene) -> DrawnLines {
-    if let Some(refusal) = grid_refusal(&scene.grid, |_, _| true) {
+    if let Some(refusal) = scene.grid.refusal() {
         return Err(refusal);
     }
     let texture = match scene.texture {
@@ -292,10 +290,7 @@ fn recorded_input(random: &mut Random, edges: &[Input]) -> Input {
             let (m, n) = (grid.u_steps, grid.v_steps);
             Input { texture, m, n }
         }
-        _ => {
-            let Input { texture, m, n } = edges[random.below(edges.len() as u64) as usize];
-            Input { texture, m, n }
-        }
+        _ => edges[random.below(edges.len() as u64) as usize].clone(),
     }
 }
 

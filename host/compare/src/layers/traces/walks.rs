@@ -29,6 +29,7 @@ pub fn replay(walk: &[Made], points: usize, lines: usize) -> Result<Vec<Side>, R
     Ok(pen.kept)
 }
 
+/// A walk under way, with room for so many points and lines.
 struct Pen {
     points: usize,
     lines: usize,

@@ -40,12 +40,12 @@ pub fn compare(driver: &mut Driver) -> Compared {
 }
 
 /// The same vector in the original's type.
-pub fn original(v: Vector) -> original::Vector {
+fn original(v: Vector) -> original::Vector {
     original::Vector::new(v.x, v.y, v.z)
 }
 
 /// The same vector in the library's type.
-pub fn from_original(v: original::Vector) -> Vector {
+fn from_original(v: original::Vector) -> Vector {
     Vector::new(v.x, v.y, v.z)
 }
 

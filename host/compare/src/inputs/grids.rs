@@ -1,10 +1,11 @@
-//! Grids whose opposite lines meet by a mapping, nearly meet, or do not.
+//! Grids whose opposite lines meet by a mapping, nearly meet, or do not, and such as are refused.
 
 use crate::case::{Smaller, case, plainer_everywhere, stretches, without};
-use crate::inputs::near;
+use crate::inputs::{COORDINATE_EDGES, COORDINATE_FAULTS, coordinates_fit, near};
+use crate::mappings::{mapping, to_original};
 use crate::random::Random;
-use crate::seams::{mapping, to_original};
-use merlontrispa::Mapping;
+use merlontrispa::{Mapping, Refusal};
+use std::iter;
 
 /// A grid of `u_steps` by `v_steps` cells, three numbers for each point.
 #[derive(Debug, Clone)]
@@ -27,6 +28,32 @@ impl Grid {
         }
     }
 
+    /// The first of the refusals 1, 2 and 4 that applies.
+    pub fn refusal(&self) -> Option<Refusal> {
+        self.refusal_with_lists([0; 2], |_, _| [0; 2])
+    }
+
+    /// The first of the refusals 1, 2, 3 and 4 that applies where two lists of these lengths are lent; `least`
+    /// has the least lengths for so many steps.
+    pub fn refusal_with_lists(
+        &self,
+        lengths: [usize; 2],
+        least: fn(usize, usize) -> [usize; 2],
+    ) -> Option<Refusal> {
+        let (m, n) = (self.u_steps, self.v_steps);
+        if !(1..=255).contains(&m) || !(1..=255).contains(&n) {
+            Some(Refusal::Steps)
+        } else if self.numbers.len() != 3 * (m + 1) * (n + 1) {
+            Some(Refusal::Length)
+        } else if iter::zip(lengths, least(m, n)).any(|(length, least)| length < least) {
+            Some(Refusal::Room)
+        } else if !coordinates_fit(&self.numbers) {
+            Some(Refusal::Coordinate)
+        } else {
+            None
+        }
+    }
+
     /// Fewer lines, or points that still coincide where these do.
     fn simpler(&self) -> Smaller<Self> {
         let this = self.clone();
@@ -41,7 +68,7 @@ impl Grid {
         let (m, n) = (self.u_steps, self.v_steps);
         let points: Vec<_> = self.numbers.as_chunks::<3>().0.to_vec();
         if m.min(n) == 0 || m.max(n) > 255 || self.numbers.len() != 3 * (m + 1) * (n + 1) {
-            return Box::new(std::iter::empty());
+            return Box::new(iter::empty());
         }
         let part = move |us: &[usize], vs: &[usize]| {
             Self::new(us.len() - 1, vs.len() - 1, |i| {
@@ -208,6 +235,30 @@ fn seam_point(random: &mut Random, u_steps: usize, v_steps: usize) -> usize {
         1 => u_steps * (v_steps + 1) + v,
         2 => u * (v_steps + 1),
         _ => u * (v_steps + 1) + v_steps,
+    }
+}
+
+/// Puts any set of the faults of a grid that are refused into it, or none.
+pub fn spoil(random: &mut Random, grid: &mut Grid) {
+    if random.below(3) == 0 {
+        let place = random.below(grid.numbers.len() as u64) as usize;
+        grid.numbers[place] = match random.below(2) {
+            0 => random.of(&COORDINATE_FAULTS),
+            _ => random.of(&COORDINATE_EDGES),
+        };
+    }
+    if random.below(3) == 0 {
+        let length = grid.numbers.len();
+        let other = length.saturating_add_signed(random.of(&[-3, -1, 1, 3, 300]));
+        grid.numbers.resize(other, 0.0);
+    }
+    if random.below(3) == 0 {
+        let steps = random.of(&[0, 256, 257, 65_536, usize::MAX / 2, usize::MAX]);
+        if random.below(2) == 0 {
+            grid.u_steps = steps;
+        } else {
+            grid.v_steps = steps;
+        }
     }
 }
 

@@ -1,0 +1,440 @@
+//! Curves on grids, and how long the lists are that a trace of them is drawn into.
+
+use super::walks::Need;
+use crate::case::{Case, Smaller, case, stretches, without};
+use crate::inputs::grids::{Grid, any_grid, spoil};
+use crate::inputs::lists::as_far;
+use crate::inputs::{EPS, near};
+use crate::random::Random;
+use crate::text::{Text, Words};
+use merlontrispa::Refusal;
+use original::{Made, Sample, Surface, Vector, vectors};
+use std::rc::Rc;
+
+/// The largest magnitude of a sample's coordinate.
+pub const FAR: f64 = 1_048_576.0;
+
+/// A grid in the library's form and, where it is taken, in the original's.
+pub struct Scene {
+    pub grid: Grid,
+    pub points: Vec<Vector>,
+    surface: Option<Surface>,
+}
+
+impl Scene {
+    pub fn new(grid: Grid) -> Self {
+        let points = vectors(&grid.numbers);
+        let taken = grid.refusal().is_none();
+        let surface = taken.then(|| Surface::from_grid(points.clone(), grid.u_steps, grid.v_steps));
+        Self {
+            grid,
+            points,
+            surface,
+        }
+    }
+
+    /// The surface of a grid that is taken.
+    pub fn surface(&self) -> &Surface {
+        self.surface.as_ref().expect("the grid is taken")
+    }
+}
+
+/// How long the lists are that are lent.
+#[derive(Debug, Clone, Copy)]
+pub struct Room {
+    pub points: usize,
+    pub starts: usize,
+    pub sides: usize,
+    pub fractions: usize,
+}
+
+case!(Room {
+    points,
+    starts,
+    sides,
+    fractions
+});
+
+impl Room {
+    /// Room that is as far from what is needed `after` as this is from what was needed `before`.
+    fn as_far(self, before: Need, after: Need) -> Self {
+        Self {
+            points: as_far(self.points, 3 * before.points, 3 * after.points),
+            starts: as_far(self.starts, before.lines, after.lines),
+            sides: as_far(self.sides, 2 * before.points, 2 * after.points),
+            fractions: as_far(self.fractions, before.points, after.points),
+        }
+    }
+}
+
+/// What an input is made of.
+#[derive(Clone)]
+struct Curve {
+    grid: Grid,
+    pairs: Vec<f64>,
+    marks: Vec<u8>,
+    room: Room,
+}
+
+case!(Curve { grid, pairs, marks, room }, first Curve::fewer_samples);
+
+impl Curve {
+    fn fewer_samples(&self) -> Smaller<Self> {
+        let this = self.clone();
+        let samples = self.marks.len().min(self.pairs.len() / 2);
+        Box::new(stretches(samples).map(move |samples| Self {
+            pairs: without(&this.pairs, &(2 * samples.start..2 * samples.end)),
+            marks: without(&this.marks, &samples),
+            ..this.clone()
+        }))
+    }
+
+    fn input(self, room: impl FnOnce(Need) -> Room) -> Input {
+        Input::new(
+            &Rc::new(Scene::new(self.grid)),
+            self.pairs,
+            self.marks,
+            room,
+        )
+    }
+}
+
+/// A curve on a scene, and what the original makes of it.
+#[derive(Clone)]
+pub struct Input {
+    pub scene: Rc<Scene>,
+    pub pairs: Vec<f64>,
+    pub marks: Vec<u8>,
+    pub room: Room,
+    /// What the original's walk makes, unless the call is refused before it.
+    pub walk: Result<Vec<Made>, Refusal>,
+}
+
+impl Input {
+    pub fn new(
+        scene: &Rc<Scene>,
+        pairs: Vec<f64>,
+        marks: Vec<u8>,
+        room: impl FnOnce(Need) -> Room,
+    ) -> Self {
+        let walk = match refusal(scene, &pairs, &marks) {
+            Some(refusal) => Err(refusal),
+            None => Ok(scene.surface().walk(&samples(&pairs, &marks))),
+        };
+        Self {
+            scene: Rc::clone(scene),
+            pairs,
+            marks,
+            room: room(need(&walk)),
+            walk,
+        }
+    }
+
+    /// The samples in the original's form.
+    pub fn samples(&self) -> Vec<Sample> {
+        samples(&self.pairs, &self.marks)
+    }
+
+    /// The least room for what the original draws.
+    pub fn need(&self) -> Need {
+        need(&self.walk)
+    }
+
+    fn curve(&self) -> Curve {
+        Curve {
+            grid: self.scene.grid.clone(),
+            pairs: self.pairs.clone(),
+            marks: self.marks.clone(),
+            room: self.room,
+        }
+    }
+}
+
+fn need(walk: &Result<Vec<Made>, Refusal>) -> Need {
+    walk.as_deref().map_or_else(|_| Need::default(), Need::of)
+}
+
+impl Case for Input {
+    fn write(&self, text: &mut Text) {
+        self.curve().write(text);
+    }
+
+    fn read(words: &mut Words<'_>) -> Result<Self, String> {
+        let curve = Curve::read(words)?;
+        let room = curve.room;
+        Ok(curve.input(|_| room))
+    }
+
+    fn smaller(&self) -> Smaller<Self> {
+        let before = self.need();
+        Box::new(self.curve().smaller().flat_map(move |curve| {
+            let room = curve.room;
+            let moved = curve.clone().input(|after| room.as_far(before, after));
+            [moved, curve.input(|_| room)]
+        }))
+    }
+}
+
+fn samples(pairs: &[f64], marks: &[u8]) -> Vec<Sample> {
+    let pairs = pairs.as_chunks().0.iter();
+    pairs
+        .zip(marks)
+        .map(|(&[u, v], &mark)| (mark == 1).then_some((u, v)))
+        .collect()
+}
+
+/// The first of 1, 2, 4, 9 and 10 that applies.
+fn refusal(scene: &Scene, pairs: &[f64], marks: &[u8]) -> Option<Refusal> {
+    let lengths = pairs.len() != 2 * marks.len() || marks.len() > 65_537;
+    match scene.grid.refusal() {
+        Some(Refusal::Steps) => return Some(Refusal::Steps),
+        _ if lengths => return Some(Refusal::Length),
+        Some(refusal) => return Some(refusal),
+        None => {}
+    }
+    if marks.iter().any(|&mark| mark > 1) {
+        return Some(Refusal::Mark);
+    }
+    let near_enough = |x: f64| x.is_finite() && x.abs() <= FAR;
+    let placed = samples(pairs, marks).into_iter().flatten();
+    let far = placed
+        .into_iter()
+        .any(|(u, v)| !near_enough(u) || !near_enough(v));
+    far.then_some(Refusal::Sample)
+}
+
+/// A grid that nothing joins.
+pub fn bent(u_steps: usize, v_steps: usize) -> Grid {
+    Grid::new(u_steps, v_steps, |i| {
+        let (u, v) = (i / (v_steps + 1), i % (v_steps + 1));
+        [u as f64 + 0.1, v as f64 * 1.7, (3 * u + v * v) as f64]
+    })
+}
+
+/// Some grids of all kinds, now and then with coordinates at their limits. Another takes the place of one
+/// of them at every thousandth input or so.
+pub struct Scenes<S> {
+    scenes: Vec<Rc<Scene>>,
+    most: usize,
+    steps: S,
+}
+
+impl<S: Fn(&mut Random) -> usize> Scenes<S> {
+    pub fn new(most: usize, steps: S) -> Self {
+        Self {
+            scenes: Vec::new(),
+            most,
+            steps,
+        }
+    }
+
+    fn any(&mut self, random: &mut Random) -> &Rc<Scene> {
+        let count = self.scenes.len();
+        if count < self.most {
+            self.scenes.push(self.another(random));
+            return &self.scenes[count];
+        }
+        let place = random.below(count as u64) as usize;
+        if random.below(1_000) == 0 {
+            self.scenes[place] = self.another(random);
+        }
+        &self.scenes[place]
+    }
+
+    fn another(&self, random: &mut Random) -> Rc<Scene> {
+        let (m, n) = ((self.steps)(random), (self.steps)(random));
+        let mut grid = any_grid(random, m, n);
+        if random.below(8) == 0 {
+            let scale = random.of(&[EPS, 1e-12, 4_294_967_296.0, 1e-300]);
+            grid.numbers.iter_mut().for_each(|x| *x *= scale);
+        }
+        Rc::new(Scene::new(grid))
+    }
+}
+
+/// The edges of an axis of so many steps.
+fn edges(steps: usize) -> Vec<f64> {
+    let top = steps as f64;
+    let around = |x: f64| {
+        [
+            (x - EPS).next_down(),
+            x - EPS,
+            x,
+            x + EPS,
+            (x + EPS).next_up(),
+        ]
+    };
+    let inside = [-0.0, 0.25, 0.5, top - 0.25, 1.0];
+    let outside = [-100.0, -0.5, top + 0.5, 300.0];
+    [
+        around(0.0).to_vec(),
+        around(top).to_vec(),
+        inside.into(),
+        outside.into(),
+    ]
+    .concat()
+}
+
+/// Each step from one point at edges of both axes to another, with room to spare.
+pub fn steps_between_edges(scene: &Rc<Scene>) -> impl Iterator<Item = Input> {
+    let (us, vs) = (edges(scene.grid.u_steps), edges(scene.grid.v_steps));
+    let ends: Vec<_> = us
+        .iter()
+        .flat_map(|&u| vs.iter().map(move |&v| [u, v]))
+        .collect();
+    let count = ends.len();
+    (0..count * count).map(move |i| {
+        let pairs = [ends[i / count], ends[i % count]].concat();
+        Input::new(scene, pairs, vec![1, 1], |need| spare(need, i % 3))
+    })
+}
+
+/// Lists that hold what is needed and a little more.
+pub fn spare(need: Need, more: usize) -> Room {
+    Room {
+        points: 3 * need.points + more,
+        starts: need.lines + more,
+        sides: 2 * need.points + more,
+        fractions: need.points + more,
+    }
+}
+
+/// Samples on one of the scenes, and lists that just hold what is needed, just do not, or have more room.
+pub fn traced(random: &mut Random, scenes: &mut Scenes<impl Fn(&mut Random) -> usize>) -> Input {
+    let scene = scenes.any(random);
+    let (pairs, marks) = any_samples(random, scene.grid.u_steps, scene.grid.v_steps);
+    Input::new(scene, pairs, marks, |need| any_room(random, need))
+}
+
+/// Room that is mostly enough; where it is not, one list is the shortest.
+fn any_room(random: &mut Random, need: Need) -> Room {
+    let mut more = [0; 4].map(|_| random.below(4) as usize);
+    let mut least = [need.points, need.lines, need.points, need.points];
+    if random.below(3) == 0 {
+        let list = random.below(4) as usize;
+        more[list] = 0;
+        least[list] = match random.below(4) {
+            0 => random.below(least[list] as u64 + 1) as usize,
+            _ => least[list].saturating_sub(random.below(3) as usize),
+        };
+    }
+    let [points, starts, sides, fractions] = least;
+    Room {
+        points: 3 * points + more[0],
+        starts: starts + more[1],
+        sides: 2 * sides + more[2],
+        fractions: fractions + more[3],
+    }
+}
+
+/// 1 to 300 samples, mostly few, with breaks. The original takes a millisecond for a step that goes as
+/// far away as it may, so that such steps are few.
+fn any_samples(random: &mut Random, m: usize, n: usize) -> (Vec<f64>, Vec<u8>) {
+    let count = 1 + match random.below(256) {
+        0 => random.below(300),
+        1..16 => random.below(24),
+        _ => random.below(5),
+    };
+    let far = match random.below(512) {
+        0 if count < 8 => FAR,
+        1..100 => 2_000.0,
+        _ => 300.0,
+    };
+    let (mut pairs, mut marks) = (Vec::new(), Vec::new());
+    let mut last = [0.5, 0.5];
+    for _ in 0..count {
+        last = any_sample(random, last, [m, n], far);
+        let marked = random.below(12) != 0;
+        if marked {
+            pairs.extend(last);
+        } else {
+            pairs.extend(random.of(&[last, [f64::NAN; 2], [f64::INFINITY, 3.0 * FAR]]));
+        }
+        marks.push(u8::from(marked));
+    }
+    (pairs, marks)
+}
+
+/// A sample that stands in some relation to the one before it, to the grid lines or to the diagonals.
+fn any_sample(random: &mut Random, last: [f64; 2], steps: [usize; 2], far: f64) -> [f64; 2] {
+    let ([u, v], [m, n]) = (last, steps);
+    let pair = match random.below(16) {
+        0 => last,
+        1 => [u, any_coordinate(random, n, far)],
+        2 => [any_coordinate(random, m, far), v],
+        3 => [near(random, u), near(random, v)],
+        4 | 5 => [u + random.unit() - 0.5, v + random.unit() - 0.5],
+        6 => {
+            let sum = random.whole(0, (m + n) as i64) as f64;
+            let u = any_coordinate(random, m, far);
+            [u, near(random, sum - u)]
+        }
+        7 => {
+            let corner = [random.below(m as u64 + 1), random.below(n as u64 + 1)];
+            [2.0 * corner[0] as f64 - u, 2.0 * corner[1] as f64 - v]
+        }
+        _ => [
+            any_coordinate(random, m, far),
+            any_coordinate(random, n, far),
+        ],
+    };
+    pair.map(|x| x.clamp(-far, far))
+}
+
+/// A coordinate on, near or between the grid lines, at or past a border, or far away.
+fn any_coordinate(random: &mut Random, steps: usize, far: f64) -> f64 {
+    let top = steps as f64;
+    let line = random.below(steps as u64 + 1) as f64;
+    match random.below(16) {
+        0 => line,
+        1 => random.of(&[-0.0, line]),
+        2 | 3 => near(random, line),
+        4 => line + random.of(&[0.25, 0.5, 0.75]),
+        5 | 6 => {
+            let border = random.of(&[-EPS, top + EPS]);
+            random.of(&[border.next_down(), border, border.next_up()])
+        }
+        7 => random.of(&[-far, far, far.next_down(), -far / 2.0]),
+        8 => random.of(&[-1.0, 1.0]) * far * random.unit(),
+        9 => random.of(&[-1.0, -0.5, top + 0.5, top + 1.0]),
+        10 => (top + 2.0) * random.unit() - 1.0,
+        _ => top * random.unit(),
+    }
+}
+
+/// Any set of the faults that are refused before the walk, or none.
+pub fn faulty(random: &mut Random) -> Input {
+    let (m, n) = (1 + random.below(3) as usize, 1 + random.below(3) as usize);
+    let mut grid = any_grid(random, m, n);
+    if random.below(2) == 0 {
+        spoil(random, &mut grid);
+    }
+    let (mut pairs, mut marks) = any_samples(random, m, n);
+    if random.below(4) == 0 {
+        let place = random.below(marks.len() as u64) as usize;
+        marks[place] = random.of(&[2, 3, 128, 255]);
+    }
+    if random.below(3) == 0 {
+        let place = random.below(pairs.len() as u64) as usize;
+        let past = FAR.next_up();
+        pairs[place] = match random.below(256) {
+            0 => random.of(&[FAR, -FAR]),
+            _ => random.of(&[past, -past, f64::INFINITY, f64::NAN, f64::MAX]),
+        };
+    }
+    match random.below(16) {
+        0 => pairs.truncate(pairs.len() - 1),
+        1 => pairs.push(0.0),
+        2 => pairs.extend([0.0, 0.0]),
+        3 => marks.push(1),
+        _ => {}
+    }
+    if random.below(512) == 0 {
+        let count = random.of(&[65_536, 65_537, 65_538]);
+        marks.resize(count, 0);
+        pairs.resize(2 * count, 0.0);
+    }
+    Input::new(&Rc::new(Scene::new(grid)), pairs, marks, |need| {
+        any_room(random, need)
+    })
+}
