@@ -135,7 +135,7 @@ not-both a b h = go (eqb a b) (eqb a 0) refl refl
     go true false x y = refl
     go true true x y = absurd (clash (eqb-true a b x) (eqb-true a 0 y))
 
-le-signed : (s : Bool) (a : ℕ) (t : Bool) (b : ℕ) → below s a t b || level s a t b ≡ not (below t b s a)
+pub le-signed : (s : Bool) (a : ℕ) (t : Bool) (b : ℕ) → below s a t b || level s a t b ≡ not (below t b s a)
 le-signed false a false b = le-sizes a b
 le-signed false a true b = of-two (level false a true b) (ltb 0 (b + a)) (λ h. not-both a b (ap (ltb 0) (add-comm a b) ∙ h)) (λ h. both-zero a b (ap (ltb 0) (add-comm a b) ∙ h))
 le-signed true a false b = go (ltb 0 (a + b)) refl

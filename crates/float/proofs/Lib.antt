@@ -1,4 +1,4 @@
--- Laws that belong to no one function. Callers of other crates use Tests, Less, Orders, Larger, Differences, Bounds and Range.
+-- Laws that belong to no one function. Callers of other crates use Tests, Less, Orders, Larger, Differences, Bounds, Range and Between.
 pub mod Tests
 pub mod Value
 pub mod Less

@@ -11,7 +11,8 @@ use Rattle.float.specs.Order.{larger}
 use Rattle.float.specs.Table.{computed}
 use Rattle.float.proofs.Tests.{and-both, cannot}
 use Rattle.float.proofs.Less.{le-is, le-not-nan}
-use Rattle.float.proofs.Differences.{sub-swap, sub-not-nan, sub-self-close, within-eps}
+use Rattle.float.proofs.Differences.{sub-swap, sub-not-nan, sub-self-close}
+use Rattle.float.proofs.Between.{abs-below}
 use Rattle.float.proofs.Larger.{abs-nan, larger-nan, larger-under, nan-not-below}
 use Rattle.vector.specs.declared.Vector.{Vector}
 use Rattle.vector.specs.Vectors.{vector, minus, absolutes, largest, allClose}
@@ -65,7 +66,7 @@ apart-is d = go (isNan d) refl
 
     go : (t : Bool) → isNan d ≡ t → le eps d || le d (neg eps) ≡ not (lt (absolute d) eps || t)
     go true h = simp (not-le-nan eps d h .0, not-le-nan (neg eps) d h .1, or-true)
-    go false h = simp (le-is eps d (eps-not-nan .0) h, le-is d (neg eps) h (eps-not-nan .1), within-eps d) (both (lt d eps) (lt (neg eps) d))
+    go false h = simp (le-is eps d (eps-not-nan .0) h, le-is d (neg eps) h (eps-not-nan .1), abs-below d eps) (both (lt d eps) (lt (neg eps) d))
 
 self-equal : (x : Float) → eq x x ≡ not (isNan x)
 unfolding eq isNan
@@ -104,7 +105,7 @@ within d = lt (neg eps) d && lt d eps
 
 within-below : (d : Float) → within d ≡ true → (lt (absolute d) eps ≡ true) × (isNan d ≡ false)
 within-below d h =
-    let below : lt (absolute d) eps ≡ true = within-eps d ∙ h in
+    let below : lt (absolute d) eps ≡ true = abs-below d eps ∙ h in
     (below, cannot (isNan d) (λ e. true≢false (sym below ∙ nan-not-below (absolute d) eps (abs-nan d ∙ e))))
 
 pub close-within : (a b d : Vector) → d ≡ minus a b → (within (d .x) && within (d .y)) && within (d .z) ≡ true → allClose a b ≡ true
