@@ -3,7 +3,7 @@
 use mathlib.Core.Path.{_≡_, refl, sym, ap, _∙_, subst}
 use mathlib.Core.Logic.{_⊎_, inl, inr}
 use Prim.Native.Nat.{ℕ, zero, suc, _+_, _-_, _*_, _/_, _%_, _^_, _≤_, _<_, min}
-use native.Mathlib.Nat.{le-trans, lt-of-lt-of-le, eq-or-lt-of-le, mul-one, zero-mul, zero-lt-suc, mul-comm, mul-right-comm, le-of-eq, div-lt-iff-lt-mul, div-le-of-le-mul, le-div-iff-mul-le, div-mul-le-self, div-eq-of-lt, mod-eq-of-lt, lt-of-mul-lt-mul-right}
+use native.Mathlib.Nat.{le-trans, lt-of-lt-of-le, eq-or-lt-of-le, mul-one, zero-lt-suc, mul-comm, mul-right-comm, le-of-eq, div-lt-iff-lt-mul, div-le-of-le-mul, le-div-iff-mul-le, div-mul-le-self, div-eq-of-lt, mod-eq-of-lt, lt-of-mul-lt-mul-right}
 use native.Mathlib.Omega.{arith}
 use mathlib.Core.Bool.{Bool, true, false, not, cond, true≢false}
 use lib.IntN.{ℤ, pos, negsuc, negℤ, natAbs}
@@ -13,7 +13,7 @@ use lib.Ieee.{Float, nan, inf, fin, binary64, up, down, lt, le, sub, ofInt, ofBi
 use lib.Ieee.Fits.{down-pos, ofInt-fits}
 use lib.Ieee.Exact.{HasValue}
 use lib.Ieee.Back.{round-whole}
-use borrow.Author.Tests.{le-ltb, ltb-false}
+use borrow.Author.Tests.{ltb-false}
 use Rattle.float.specs.Sign.{absolute, isFinite, atMost}
 use Rattle.float.specs.Order.{clamped}
 use Rattle.float.specs.Whole.{over, floorZ, ceilZ}
@@ -21,6 +21,7 @@ use Rattle.float.specs.Consts.{eps, zero64}
 use Rattle.float.specs.Cast.{natFloat, count}
 use Rattle.float.proofs.Tests.{cond-keeps}
 use Rattle.float.proofs.Rounding.{round-both}
+use Rattle.float.proofs.Signs.{plus-not-below}
 use Rattle.float.proofs.Value.{lt-values, lt-value, lt-whole, whole-lt}
 use Rattle.float.proofs.Less.{lt-irreflexive, not-ltb, le-is, le-not-nan, le-of-not-lt, not-lt-of-le, value-not-nan}
 use Rattle.float.proofs.Differences.{sub-level}
@@ -60,10 +61,7 @@ nat-le a b h k = le-is (natFloat a) (natFloat b) (nat-not-nan a h) (nat-not-nan 
 -- a count as a float is not negative, however large
 pub nat-nonneg : (n : ℕ) → lt (natFloat n) zero64 ≡ false
 unfolding natFloat ofInt
-nat-nonneg n = round-both (λ x y. lt x zero64 ≡ false) false false (λ m e. unfold lt ofBits in le-ltb (m * up e * 1) (0 * down e) (none (m * up e * 1) (0 * down e) (zero-mul (down e)))) (unfold lt ofBits in refl) binary64 n 1
-  where
-    none : (a b : ℕ) → b ≡ 0 → b ≤ a
-    none a b h = omega arith
+nat-nonneg n = round-both (λ x y. lt x zero64 ≡ false) false false plus-not-below (unfold lt ofBits in refl) binary64 n 1
 
 -- what is at most a finite bound in magnitude is finite
 pub at-most-finite : (x top : Float) → isFinite top ≡ true → atMost x top ≡ true → isFinite x ≡ true

@@ -2,11 +2,11 @@
 -- They are those of the numbers: a finite value is a fraction with a sign. Assumes nothing.
 use mathlib.Core.Path.{_≡_, refl, sym, ap, _∙_}
 use mathlib.Core.Logic.{_⊎_, inl, inr}
-use Prim.Native.Nat.{ℕ, _+_, _*_, _≤_, _<_}
+use Prim.Native.Nat.{ℕ, zero, suc, _+_, _*_, _≤_, _<_}
 use native.Mathlib.Nat.{le-of-eq, le-of-lt, eq-or-lt-of-le, add-comm, add-zero, zero-add, mul-le-mul-right, le-of-mul-le-mul-right, zero-mul}
 use native.Mathlib.Omega.{arith}
-use mathlib.Core.Bool.{Bool, true, false, not, _&&_, _||_, cond, true≢false}
-use lib.Dec.{ltb, leb, eqb}
+use mathlib.Core.Bool.{Bool, true, false, not, _&&_, _||_, cond, and-false, or-not-self, true≢false}
+use lib.Dec.{ltb, leb, eqb, eqb·zero-suc, eqb·suc-zero}
 use lib.Ieee.{Float, nan, inf, fin, up, down, below, level, lt, le, eq, isNan}
 use lib.Ieee.Fits.{down-pos}
 use lib.Ieee.Exact.{HasValue}
@@ -63,7 +63,7 @@ lt-asymmetric (fin s m e) (fin t n d) h =
     let b = n * up d * down e in
     below-is t b s a ∙ le-ltb (gain t b + loss s a) (gain s a + loss t b) (le-of-lt (ltb-true (gain s a + loss t b) (gain t b + loss s a) (sym (below-is s a t b) ∙ h)))
 
--- y / b is at most x / a, and z / c at most y / b
+-- where (y - y') / b is at most (x - x') / a, and (z - z') / c at most (y - y') / b, the third is at most the first
 chain : (x x' a y y' b z z' c : ℕ) → 0 < b → y * a + x' * b ≤ x * b + y' * a → z * b + y' * c ≤ y * c + z' * b → z * a + x' * c ≤ x * c + z' * a
 chain x x' a y y' b z z' c B h k = le-of-mul-le-mul-right {k = b} (omega (arith, mul-le-mul-right c h, mul-le-mul-right a k)) B
 
@@ -97,19 +97,18 @@ not-lt-trans (fin s m e) (fin t i g) (fin u l w) n h k =
     cross-is s x (down w) u z (down e) ∙ le-ltb _ _ (chain (gain s x) (loss s x) (down e) (gain t y) (loss t y) (down g) (gain u z) (loss u z) (down w) (down-pos g) first second)
 
 -- ---- at most: the other is not less, where neither is a NaN
-of-two : (t n : Bool) → (n ≡ true → t ≡ false) → (n ≡ false → t ≡ true) → t ≡ not n
-of-two t true f g = f refl
-of-two t false f g = g refl
-
 le-sizes : (a b : ℕ) → ltb a b || (eqb a b && true) ≡ not (ltb b a)
-le-sizes a b = of-two _ (ltb b a) (λ h. above (ltb-true b a h)) (λ h. upto (eq-or-lt-of-le (ltb-false b a h)))
+le-sizes a b = go (ltb b a) refl
   where
-    above : b < a → ltb a b || (eqb a b && true) ≡ false
-    above h = simp (le-ltb a b (le-of-lt h), ne-eqb a b (λ (e : a ≡ b). omega arith))
-
     upto : (a ≡ b) ⊎ (a < b) → ltb a b || (eqb a b && true) ≡ true
     upto (inl h) = simp (le-ltb a b (le-of-eq (sym h)), eq-eqb a b h)
     upto (inr h) = simp (lt-ltb a b h)
+
+    go : (t : Bool) → ltb b a ≡ t → ltb a b || (eqb a b && true) ≡ not t
+    go true h =
+        let above : b < a = ltb-true b a h in
+        simp (le-ltb a b (le-of-lt above), ne-eqb a b (λ (e : a ≡ b). omega arith))
+    go false h = upto (eq-or-lt-of-le (ltb-false b a h))
 
 eqb-swap : (a b : ℕ) → eqb a b ≡ eqb b a
 eqb-swap a b = go (eqb b a) refl
@@ -119,31 +118,16 @@ eqb-swap a b = go (eqb b a) refl
     go false p = ne-eqb a b (λ (e : a ≡ b). eqb-false b a p (sym e))
 
 -- of two unlike signs only zeros are level
-both-zero : (a b : ℕ) → ltb 0 (a + b) ≡ false → eqb a b && (false || eqb a 0) ≡ true
-both-zero a b h =
-    let z : a + b ≤ 0 = ltb-false 0 (a + b) h in
-    simp (eq-eqb a b (omega arith), eq-eqb a 0 (omega arith))
-
-not-both : (a b : ℕ) → ltb 0 (a + b) ≡ true → eqb a b && (false || eqb a 0) ≡ false
-not-both a b h = go (eqb a b) (eqb a 0) refl refl
-  where
-    clash : a ≡ b → a ≡ 0 → ⊥
-    clash p q = omega (arith, ltb-true 0 (a + b) h)
-
-    go : (p q : Bool) → eqb a b ≡ p → eqb a 0 ≡ q → p && (false || q) ≡ false
-    go false q x y = refl
-    go true false x y = refl
-    go true true x y = absurd (clash (eqb-true a b x) (eqb-true a 0 y))
+level-zeros : (a b : ℕ) → eqb a b && (false || eqb a 0) ≡ not (ltb 0 (a + b))
+level-zeros zero zero = refl
+level-zeros zero (suc b) = simp (eqb·zero-suc b, lt-ltb 0 (0 + suc b) (omega arith))
+level-zeros (suc a) b = simp (eqb·suc-zero a, lt-ltb 0 (suc a + b) (omega arith), and-false)
 
 pub le-signed : (s : Bool) (a : ℕ) (t : Bool) (b : ℕ) → below s a t b || level s a t b ≡ not (below t b s a)
 le-signed false a false b = le-sizes a b
-le-signed false a true b = of-two (level false a true b) (ltb 0 (b + a)) (λ h. not-both a b (ap (ltb 0) (add-comm a b) ∙ h)) (λ h. both-zero a b (ap (ltb 0) (add-comm a b) ∙ h))
-le-signed true a false b = go (ltb 0 (a + b)) refl
-  where
-    go : (p : Bool) → ltb 0 (a + b) ≡ p → p || level true a false b ≡ true
-    go true h = refl
-    go false h = both-zero a b h
-le-signed true a true b = ap (λ (x : Bool). ltb b a || (x && true)) (eqb-swap a b) ∙ le-sizes b a
+le-signed false a true b = level-zeros a b ∙ simp (add-comm a b)
+le-signed true a false b = rw (level-zeros a b) (or-not-self (ltb 0 (a + b)))
+le-signed true a true b = rw (eqb-swap a b) (le-sizes b a)
 
 pub le-is : (x y : Float) → isNan x ≡ false → isNan y ≡ false → le x y ≡ not (lt y x)
 unfolding le lt eq isNan
