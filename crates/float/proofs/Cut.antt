@@ -7,7 +7,7 @@ use native.Mathlib.Numerals.{add-one}
 use native.Mathlib.Omega.{arith}
 use mathlib.Core.Bool.{Bool, true, false, cond, true≢false}
 use lib.IntN.{ℤ, pos, negsuc, negℤ, _+ℤ_, _-ℤ_, predℤ, -ℤ-one, +ℤ-one}
-use lib.Dec.{T, ltb, eqb}
+use lib.Dec.{T, ltb, eqb, lit<}
 use lib.Ieee.{Float, nan, inf, fin, binary64, up, down, lt, le, ne, ofInt, toSigned, isNan, fits}
 use lib.Ieee.Fits.{down-pos}
 use lib.Ieee.Compare.{differs-from-itself}
@@ -17,7 +17,7 @@ use mir.Syntax.{w64}
 use mir.Val.{SFits, toZ, ofZ}
 use mir.ValLaws.{toZ-ofZ}
 use Rattle.float.specs.Whole.{over, int64, floorZ, ceilZ}
-use Rattle.float.proofs.Value.{held, lt-value, lt-whole, whole-lt, lt-minus, minus-lt, back-pos, back-neg}
+use Rattle.float.proofs.Value.{held, lt-value, lt-whole, whole-lt, minus-below, lt-minus, minus-lt, back-pos, back-neg}
 use Rattle.float.proofs.Less.{le-is, not-lt-of-le}
 
 -- ---- quotients
@@ -49,7 +49,7 @@ module _ (m : ℕ) (e : ℤ) where
   size-neg h = ltb-false (2 ^ 63 * down e) (m * up e) (sym (lt-value true m e true (2 ^ 63) lowest (refl, refl)) ∙ not-lt-of-le lowest (fin true m e) h)
 
   size-pos : lt (fin false m e) highest ≡ true → m * up e < 2 ^ 63 * down e
-  size-pos h = ltb-true (m * up e) (2 ^ 63 * down e) (sym (lt-value false m e false (2 ^ 63) highest (refl, refl)) ∙ h)
+  size-pos h = ltb-true (m * up e) (2 ^ 63 * down e) (sym (lt-whole m e (2 ^ 63) highest (refl, refl)) ∙ h)
 
 -- where something is cut off, little is left
 cut-small : (s : Bool) (m : ℕ) (e : ℤ) → T (fits binary64 (fin s m e)) → m * up e / down e * down e < m * up e → m * up e / down e < 2 ^ 53
@@ -68,6 +68,9 @@ minus-is q h = ap (λ (k : ℕ). negℤ (pos k)) (cap q (2 ^ 63) h)
 
 pub uncapped : (q c : ℕ) → q < c → min q (c - 1) ≡ q
 uncapped q c h = omega arith
+
+pub at-cap : (q c : ℕ) → c ≤ q → min q (c - 1) ≡ c - 1
+at-cap q c h = omega arith
 
 plus-is : (q : ℕ) → q < 2 ^ 63 → int64 false q ≡ pos q
 plus-is q h = ap pos (uncapped q (2 ^ 63) h)
@@ -164,10 +167,7 @@ capped true q h = ap (λ (k : ℕ). negℤ (pos k)) (cap q (2 ^ 63) h)
   where
     cap : (q c : ℕ) → c ≤ q → min q c ≡ c
     cap q c h = omega arith
-capped false q h = ap pos (cap q h)
-  where
-    cap : (q : ℕ) → 9223372036854775808 ≤ q → min q 9223372036854775807 ≡ 9223372036854775807
-    cap q h = omega arith
+capped false q h = ap pos (at-cap q (2 ^ 63) h)
 
 -- from 2^63 on in size, floor and ceiling are the end of the range
 end : (s : Bool) (m : ℕ) (e : ℤ) → 2 ^ 63 * down e ≤ m * up e → (int64 s (2 ^ 63) ≡ floorZ (fin s m e)) × (int64 s (2 ^ 63) ≡ ceilZ (fin s m e))
@@ -183,11 +183,8 @@ pub high-end : (x : Float) → le lowest x ≡ true → lt x highest ≡ false �
 high-end nan lo hi = absurd (true≢false (sym (unfold le in lo)))
 high-end (inf true) lo hi = absurd (true≢false (sym (unfold le in lo)))
 high-end (inf false) lo hi = unfold floorZ ceilZ in (refl, refl)
-high-end (fin true m e) lo hi = absurd (never (m * up e) (down e) (down-pos e) (ltb-false 0 (m * up e + 2 ^ 63 * down e) (sym (lt-value true m e false (2 ^ 63) highest (refl, refl)) ∙ hi)))
-  where
-    never : (a d : ℕ) → 0 < d → a + 9223372036854775808 * d ≤ 0 → ⊥
-    never a d p l = omega arith
-high-end (fin false m e) lo hi = end false m e (ltb-false (m * up e) (2 ^ 63 * down e) (sym (lt-value false m e false (2 ^ 63) highest (refl, refl)) ∙ hi))
+high-end (fin true m e) lo hi = absurd (true≢false (sym (minus-below m e (2 ^ 63) highest (lit< tt) (refl, refl)) ∙ hi))
+high-end (fin false m e) lo hi = end false m e (ltb-false (m * up e) (2 ^ 63 * down e) (sym (lt-whole m e (2 ^ 63) highest (refl, refl)) ∙ hi))
 
 low-lt : (s : Bool) (m : ℕ) (e : ℤ) → le lowest (fin s m e) ≡ false → lt (fin s m e) lowest ≡ true
 low-lt s m e lo = not-false (lt (fin s m e) lowest) (sym (le-is lowest (fin s m e) (unfold isNan in refl) (unfold isNan in refl)) ∙ lo)

@@ -9,7 +9,6 @@ use mathlib.Core.Bool.{Bool, true, false, not, _&&_, _||_, cond, and-false, or-n
 use lib.Dec.{ltb, leb, eqb, eqb·zero-suc, eqb·suc-zero}
 use lib.Ieee.{Float, nan, inf, fin, up, down, below, level, lt, le, eq, isNan}
 use lib.Ieee.Fits.{down-pos}
-use lib.Ieee.Exact.{HasValue}
 use borrow.Author.Tests.{not-true, ltb-true, lt-ltb, le-ltb, ltb-false, le-leb, lt-leb, eqb-true, eqb-false, eq-eqb, ne-eqb}
 use Rattle.float.specs.Sign.{isFinite}
 use Rattle.float.proofs.Tests.{must}
@@ -190,16 +189,10 @@ finite-not-nan nan h = sym h
 finite-not-nan (inf s) h = refl
 finite-not-nan (fin s m e) h = refl
 
--- ---- for whole numbers, and values that are known
+-- ---- of whole numbers
 pub not-ltb : (a b : ℕ) → not (ltb b a) ≡ leb a b
 not-ltb a b = go (ltb b a) refl
   where
     go : (t : Bool) → ltb b a ≡ t → not t ≡ leb a b
     go true p = sym (lt-leb a b (ltb-true b a p))
     go false p = sym (le-leb a b (ltb-false b a p))
-
-pub value-not-nan : (y : Float) (s : Bool) (a c : ℕ) → HasValue y s a c → isNan y ≡ false
-unfolding isNan
-value-not-nan nan s a c v = absurd v
-value-not-nan (inf t) s a c v = refl
-value-not-nan (fin t m e) s a c v = refl

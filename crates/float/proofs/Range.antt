@@ -12,7 +12,7 @@ use Rattle.float.specs.Consts.{zero64}
 use Rattle.float.specs.Cast.{natFloat}
 use Rattle.float.proofs.Value.{whole-lt}
 use Rattle.float.proofs.Less.{not-lt-of-le, lt-le-trans, le-lt-trans}
-use Rattle.float.proofs.Bounds.{nat-value, inside, most, min-le}
+use Rattle.float.proofs.Bounds.{nat-value, nat-finite, inside, most, min-le}
 
 -- what `std::num::truncating_f64_to_u64` asks of y, and a bound on what it gives
 abbrev pub Counted : Float → ℕ → Type 0
@@ -23,7 +23,7 @@ cut-at-most : (y : Float) (n : ℕ) → n ≤ 2 ^ 53 → lt (natFloat n) y ≡ f
 unfolding toUnsigned
 cut-at-most nan n h l = omega arith
 cut-at-most (inf true) n h l = omega arith
-cut-at-most (inf false) n h l = absurd (true≢false (sym (inside (natFloat n) false n 1 (nat-value n h) .0) ∙ l))
+cut-at-most (inf false) n h l = absurd (true≢false (sym (inside (natFloat n) (nat-finite n h) .0) ∙ l))
 cut-at-most (fin true m e) n h l = omega arith
 cut-at-most (fin false m e) n h l = min-le (m * up e / down e) (2 ^ 64 - 1) n (div-le-of-le-mul (down e) (le-trans (most m e n h l) (le-of-eq (mul-comm n (down e)))))
 
