@@ -2,8 +2,8 @@
 -- Assumes nothing.
 use mathlib.Core.Path.{_≡_, refl, sym, ap, _∙_}
 use mathlib.Core.Logic.{_⊎_, inl, inr}
-use Prim.Native.Nat.{ℕ, zero, suc, _+_, _-_, _*_, _/_, _^_, _≤_, _<_, zero-le, min}
-use native.Mathlib.Nat.{le-trans, lt-of-lt-of-le, eq-or-lt-of-le, mul-one, zero-lt-suc, mul-comm, le-of-eq, div-lt-iff-lt-mul, div-le-of-le-mul, le-div-iff-mul-le, div-mul-le-self, div-eq-of-lt, mod-eq-of-lt, lt-of-mul-lt-mul-right}
+use Prim.Native.Nat.{ℕ, zero, suc, _+_, _-_, _*_, _/_, _^_, _≤_, _<_, zero-le}
+use native.Mathlib.Nat.{le-trans, lt-of-lt-of-le, eq-or-lt-of-le, mul-one, zero-lt-suc, mul-comm, le-of-eq, div-lt-iff-lt-mul, div-le-of-le-mul, le-div-iff-mul-le, div-mul-le-self, div-eq-of-lt, mod-eq-of-lt, lt-of-mul-lt-mul-right, lt-of-le-of-lt, le-min, min-le-left}
 use native.Mathlib.Omega.{arith}
 use mathlib.Core.Bool.{Bool, true, false, not, cond, true≢false}
 use lib.IntN.{ℤ, pos, negsuc, negℤ, natAbs}
@@ -165,14 +165,11 @@ floor-below (inf true) n N h l c = N
 floor-below (inf false) n N h l c = absurd (true≢false (sym (inside (natFloat n) (nat-finite n h) .0) ∙ l))
 floor-below (fin true m e) n N h l c = rw count-neg N
 floor-below (fin false m e) n N h l c =
-    min-lt (m * up e / down e) (2 ^ 63 - 1) n (div-lt-iff-lt-mul (down-pos e) .1 (strict (eq-or-lt-of-le (most m e n h l))))
+    lt-of-le-of-lt (min-le-left (m * up e / down e) (2 ^ 63 - 1)) (div-lt-iff-lt-mul (down-pos e) .1 (strict (eq-or-lt-of-le (most m e n h l))))
   where
     strict : (m * up e ≡ n * down e) ⊎ (m * up e < n * down e) → m * up e < n * down e
     strict (inl p) = absurd (true≢false (sym (same-close m e (natFloat n) n (nat-value n h) p) ∙ c))
     strict (inr q) = q
-
-    min-lt : (q c n : ℕ) → q < n → min q c < n
-    min-lt q c n h = omega arith
 
 -- the floor of a value clamped to 0 and n, and not within EPS of n, is a count below n
 pub floor-count : (v : Float) (n : ℕ) → 0 < n → n ≤ 2 ^ 53 → lt (absolute (sub binary64 (clamped v zero64 (natFloat n)) (natFloat n))) eps ≡ false → count (floorZ (clamped v zero64 (natFloat n))) < n
@@ -205,9 +202,6 @@ over-le a d n h = go (eq-or-lt-of-le (div-mul-le-self a d))
     go (inl p) = le-trans (le-of-eq (over-same a d (le-of-eq (sym p)))) (div-le-of-le-mul d (le-trans h (le-of-eq (mul-comm n d))))
     go (inr p) = le-trans (le-of-eq (over-more a d p)) (lt-of-mul-lt-mul-right d (lt-of-lt-of-le p h))
 
-pub min-le : (q c n : ℕ) → q ≤ n → min q c ≤ n
-min-le q c n h = omega arith
-
 -- a value that is not above n has its floor and its ceiling at most n
 pub whole-at-most : (v : Float) (n : ℕ) → n ≤ 2 ^ 53 → lt (natFloat n) v ≡ false → (count (floorZ v) ≤ n) × (count (ceilZ v) ≤ n)
 unfolding floorZ ceilZ
@@ -217,7 +211,7 @@ whole-at-most (inf false) n h l = absurd (true≢false (sym (inside (natFloat n)
 whole-at-most (fin true m e) n h l = (rw count-neg zero-le, rw count-neg zero-le)
 whole-at-most (fin false m e) n h l =
     let up-to = over-le (m * up e) (down e) n (most m e n h l) in
-    (min-le (m * up e / down e) (2 ^ 63 - 1) n (le-trans (over-ge (m * up e) (down e)) up-to), min-le (over (m * up e) (down e)) (2 ^ 63 - 1) n up-to)
+    (le-trans (min-le-left (m * up e / down e) _) (le-trans (over-ge (m * up e) (down e)) up-to), le-trans (min-le-left (over (m * up e) (down e)) _) up-to)
 
 pub floor-at-most : (v : Float) (n : ℕ) → le v (natFloat n) ≡ true → n ≤ 2 ^ 53 → count (floorZ v) ≤ n
 floor-at-most v n l h = whole-at-most v n h (not-lt-of-le v (natFloat n) l) .0
@@ -238,10 +232,8 @@ whole-at-least (fin true m e) (suc n) h l =
 whole-at-least (fin false m e) n h l =
     let least : n * down e ≤ m * up e = ltb-false (m * up e) (n * down e) (sym (lt-whole m e n (natFloat n) (nat-value n h)) ∙ not-lt-of-le (natFloat n) (fin false m e) l) in
     let down-to : n ≤ m * up e / down e = le-div-iff-mul-le (down-pos e) .1 least in
-    (le-min n (m * up e / down e) h down-to, le-min n (over (m * up e) (down e)) h (le-trans down-to (over-ge (m * up e) (down e))))
-  where
-    le-min : (n q : ℕ) → n ≤ 9007199254740992 → n ≤ q → n ≤ min q 9223372036854775807
-    le-min n q h k = omega arith
+    let few : n ≤ 2 ^ 63 - 1 = le-trans h (lit≤ tt) in
+    (le-min down-to few, le-min (le-trans down-to (over-ge (m * up e) (down e))) few)
 
 pub floor-at-least : (v : Float) (n : ℕ) → le (natFloat n) v ≡ true → n ≤ 2 ^ 53 → n ≤ count (floorZ v)
 floor-at-least v n l h = whole-at-least v n h l .0

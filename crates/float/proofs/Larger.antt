@@ -1,7 +1,6 @@
 -- `larger` by the tests of `max`, and its laws: it is below e where both are, a NaN left out, and a NaN only where both are. Assumes nothing.
-use mathlib.Core.Path.{_≡_, refl, sym, ap, _∙_, subst}
+use mathlib.Core.Path.{_≡_, refl, sym, _∙_}
 use mathlib.Core.Bool.{Bool, true, false, _&&_, _||_, and-true, or-false, cond, true≢false}
-use lib.Dec.{T}
 use lib.Ieee.{Float, nan, inf, fin, lt, ne, isNan}
 use lib.Ieee.Compare.{differs-from-itself}
 use Rattle.float.specs.Sign.{absolute}
@@ -29,7 +28,7 @@ larger-second (inf s) y h = rw h
 larger-second (fin s m e) y h = rw h
 
 pub larger-other : (x y : Float) → ne x x ≡ true → y ≡ larger x y
-larger-other x y h = subst (λ (z : Float). y ≡ larger z y) (sym (differs-from-itself x (subst T (sym h) tt))) (unfold larger in refl)
+larger-other x y h = rw (differs-from-itself x (rw h tt)) (unfold larger in refl)
 
 pub larger-first : (x y : Float) → lt x y ≡ false → ne x x ≡ false → x ≡ larger x y
 unfolding larger ne
@@ -39,7 +38,7 @@ larger-first (fin s m e) y h k = rw h
 
 -- of two that are no NaN
 pub larger-below : (x y e : Float) → isNan x ≡ false → isNan y ≡ false → lt (larger x y) e ≡ lt x e && lt y e
-larger-below x y e m n = ap (λ (z : Float). lt z e) (larger-is x y m) ∙ go (lt x y) (lt x e) (lt y e) refl refl refl
+larger-below x y e m n = rw (larger-is x y m) (go (lt x y) (lt x e) (lt y e) refl refl refl)
   where
     go : (p q r : Bool) → lt x y ≡ p → lt x e ≡ q → lt y e ≡ r → lt (cond p y x) e ≡ q && r
     go true true r a b c = c

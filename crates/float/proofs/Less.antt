@@ -78,7 +78,7 @@ not-lt-trans (inf s) (inf true) (fin u l w) n h k = absurd (true≢false k)
 not-lt-trans (inf true) (inf false) (fin u l w) n h k = h
 not-lt-trans (inf false) (inf false) (fin u l w) n h k = refl
 not-lt-trans (inf s) (fin t i g) nan n h k = refl
-not-lt-trans (inf s) (fin t i g) (inf u) n h k = ap (λ (b : Bool). b && not u) h
+not-lt-trans (inf s) (fin t i g) (inf u) n h k = rw h
 not-lt-trans (inf s) (fin t i g) (fin u l w) n h k = h
 not-lt-trans (fin s m e) nan z n h k = absurd (true≢false n)
 not-lt-trans (fin s m e) (inf true) nan n h k = refl
@@ -165,7 +165,7 @@ le-reflexive x n = le-of-not-lt x x n n (lt-irreflexive x)
 
 pub lt-le : (x y : Float) → lt x y ≡ true → le x y ≡ true
 unfolding le
-lt-le x y h = ap (λ (t : Bool). t || eq x y) h
+lt-le x y h = rw h
 
 pub le-transitive : (x y z : Float) → le x y ≡ true → le y z ≡ true → le x z ≡ true
 le-transitive x y z h k =

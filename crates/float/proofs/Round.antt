@@ -84,7 +84,7 @@ part-of : (y : Float) (a c : ℕ) → 0 < c → HasValue y false a c → a < 2 ^
 part-of y a c C v h =
     let above : lt (fin true 1 (pos 0)) y ≡ true = lt-values (fin true 1 (pos 0)) y true 1 1 false a c (lit< tt) C (refl, refl) v ∙ lt-ltb 0 (1 * c + a * 1) (some c a C) in
     let below : lt y (fin false 1 (pos 64)) ≡ true = lt-values y (fin false 1 (pos 64)) false a c false (2 ^ 64) 1 C (lit< tt) v (refl, refl) ∙ lt-ltb (a * 1) (2 ^ 64 * c) (subst (λ (x : ℕ). x < 2 ^ 64 * c) (sym (mul-one a)) h) in
-    ((subst T (sym above) tt, subst T (sym below) tt), whole-part y a c C v h)
+    ((rw above tt, rw below tt), whole-part y a c C v h)
   where
     some : (d n : ℕ) → 0 < d → 0 < 1 * d + n * 1
     some d n h = omega arith
@@ -181,7 +181,7 @@ halved (fin s m e) f h =
     tight a b h = omega arith
 
 pub round-small : (x : Float) {a : Float} → fits binary64 x ≡ true → a ≡ absolute x → lt a p52 ≡ true → Halved x a
-round-small x f p h = rw p (halved x (subst T (sym f) tt) (rw p at h))
+round-small x f p h = rw p (halved x (rw f tt) (rw p at h))
 
 whole-near : (a b : ℕ) → b ≡ 1 → near a b ≡ a
 whole-near a b h = ap (near a) h ∙ go a
@@ -196,7 +196,7 @@ large-rounded (inf s) f h = refl
 large-rounded (fin s m e) f h = large s m e (near (m * up e) (down e)) f (from-p52 m e h) (whole-near (m * up e) (down e))
 
 pub round-large : (x : Float) {a : Float} → fits binary64 x ≡ true → a ≡ absolute x → lt a p52 ≡ false → x ≡ rounded x
-round-large x f p h = large-rounded x (subst T (sym f) tt) (rw p at h)
+round-large x f p h = large-rounded x (rw f tt) (rw p at h)
 
 -- ---- `ceil`: x is a in size, t the whole part of a, and r is t as a float
 pub record Cuts (x a : Float) : Type 0 where
@@ -244,7 +244,7 @@ cuts (fin s m e) f h =
     }
 
 pub ceil-small : (x : Float) {a : Float} → fits binary64 x ≡ true → a ≡ absolute x → lt a p52 ≡ true → Cuts x a
-ceil-small x f p h = rw p (cuts x (subst T (sym f) tt) (rw p at h))
+ceil-small x f p h = rw p (cuts x (rw f tt) (rw p at h))
 
 over-one : (a d : ℕ) → d ≡ 1 → over a d ≡ a
 over-one a d h = ap (over a) h ∙ over-same a 1 (le-of-eq (sym (mul-one (a / 1) ∙ div-one a))) ∙ div-one a
@@ -260,4 +260,4 @@ large-ceiled (fin true m e) f h = large true m e (under (m * up e) (down e)) f (
 large-ceiled (fin false m e) f h = large false m e (over (m * up e) (down e)) f (from-p52 m e h) (over-one (m * up e) (down e))
 
 pub ceil-large : (x : Float) {a : Float} → fits binary64 x ≡ true → a ≡ absolute x → lt a p52 ≡ false → x ≡ ceiled x
-ceil-large x f p h = large-ceiled x (subst T (sym f) tt) (rw p at h)
+ceil-large x f p h = large-ceiled x (rw f tt) (rw p at h)
