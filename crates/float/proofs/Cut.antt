@@ -1,13 +1,14 @@
 -- `floorZ` and `ceilZ` from the cut toward zero: of a negative value the floor is one below the cut where something was cut off, of a positive one the
 -- ceiling is one above it; and whether something was cut off is one comparison with the cut as a float, which is exact. Assumes nothing.
 use mathlib.Core.Path.{_≡_, refl, sym, ap, _∙_}
-use Prim.Native.Nat.{ℕ, zero, suc, _-_, _*_, _/_, _%_, _^_, _≤_, _<_, min}
-use native.Mathlib.Nat.{le-trans, lt-of-lt-of-le, le-of-lt, le-of-eq, mul-comm, div-one, add-zero, le-add-right, div-mul-le-self, div-add-mod', div-le-of-le-mul, div-lt-iff-lt-mul, le-div-iff-mul-le, lt-of-mul-lt-mul-right, min-eq-left, min-eq-right}
+use Prim.Native.Nat.{ℕ, zero, suc, _-_, _*_, _/_, _%_, _^_, _≤_, _<_}
+use native.Mathlib.Nat.{le-trans, lt-of-lt-of-le, le-of-lt, le-of-eq, lt-irrefl, mul-one, mul-comm, div-one, add-zero, le-add-right, div-mul-le-self, div-add-mod', div-le-of-le-mul, div-lt-iff-lt-mul, le-div-iff-mul-le, lt-of-mul-lt-mul-right, min-eq-left, min-eq-right}
 use native.Mathlib.Numerals.{add-one}
 use native.Mathlib.Omega.{arith}
 use mathlib.Core.Bool.{Bool, true, false, cond, true≢false}
 use lib.IntN.{ℤ, pos, negsuc, negℤ, _+ℤ_, _-ℤ_, predℤ, -ℤ-one, +ℤ-one}
 use lib.Dec.{T, ltb, eqb, lit<}
+use lib.Pow.{le-ones, ones-lt}
 use lib.Ieee.{Float, nan, inf, fin, binary64, up, down, lt, le, ne, ofInt, toSigned, isNan, fits}
 use lib.Ieee.Fits.{down-pos}
 use lib.Ieee.Exact.{HasValue}
@@ -49,23 +50,14 @@ module _ (m : ℕ) (e : ℤ) where
 -- where something is cut off, little is left
 cut-small : (s : Bool) (m : ℕ) (e : ℤ) → T (fits binary64 (fin s m e)) → m * up e / down e * down e < m * up e → m * up e / down e < 2 ^ 53
 cut-small s m (negsuc k) f h = cut-few s m k f
-cut-small s m (pos k) f h = absurd (same (m * 2 ^ k) (m * 2 ^ k / 1) (div-one (m * 2 ^ k)) h)
-  where
-    same : (a b : ℕ) → b ≡ a → b * 1 < a → ⊥
-    same a b p l = omega arith
+cut-small s m (pos k) f h = absurd (lt-irrefl (m * 2 ^ k) (rw (div-one, mul-one) at h))
 
 -- ---- one below, one above
 minus-is : (q : ℕ) → q ≤ 2 ^ 63 → int64 true q ≡ negℤ (pos q)
 minus-is q h = ap (λ (k : ℕ). negℤ (pos k)) (min-eq-left h)
 
-pub uncapped : (q c : ℕ) → q < c → min q (c - 1) ≡ q
-uncapped q c h = omega arith
-
-pub at-cap : (q c : ℕ) → c ≤ q → min q (c - 1) ≡ c - 1
-at-cap q c h = omega arith
-
 plus-is : (q : ℕ) → q < 2 ^ 63 → int64 false q ≡ pos q
-plus-is q h = ap pos (uncapped q (2 ^ 63) h)
+plus-is q h = ap pos (min-eq-left (le-ones 63 h))
 
 step-down : (q : ℕ) → q < 2 ^ 63 → SFits w64 (int64 true q -ℤ pos 1) × (int64 true q -ℤ pos 1 ≡ int64 true (suc q))
 step-down q h =
@@ -84,7 +76,7 @@ step-up q h =
     before : (a b : ℕ) → suc a < b → a < b
     before a b h = omega arith
 
--- ---- in the range: c is the cut, and b is c as a float
+-- ---- in the range: c is the cut, and b is c as a float. Where x is below b the floor is one less than c, where x is above b the ceiling is one more, and otherwise they are c
 pub record Cut (x : Float) (c : ℤ) (b : Float) : Type 0 where
   pub below : lt x b ≡ true → SFits w64 (c -ℤ pos 1) × (c -ℤ pos 1 ≡ floorZ x)
   pub floor-is : lt x b ≡ false → c ≡ floorZ x
@@ -99,15 +91,15 @@ cut-neg m e f lo =
     let q = n / d in
     let b = ofInt binary64 (int64 true q) in
     let value : Minus b q = rw (minus-is q (div-le-of-le-mul d (le-trans lo (le-of-eq (mul-comm (2 ^ 63) d))))) (back-neg true m e f) in
-    let down : lt (fin true m e) b ≡ ltb (q * d) n = lt-minus m e q b value in
-    let up : lt b (fin true m e) ≡ false = minus-lt m e q b value ∙ le-ltb n (q * d) (div-mul-le-self n d) in
+    let less : lt (fin true m e) b ≡ ltb (q * d) n = lt-minus m e q b value in
+    let not-more : lt b (fin true m e) ≡ false = minus-lt m e q b value ∙ le-ltb n (q * d) (div-mul-le-self n d) in
     record {
       below = λ h.
-          let l : q * d < n = ltb-true (q * d) n (sym down ∙ h) in
+          let l : q * d < n = ltb-true (q * d) n (sym less ∙ h) in
           let s = step-down q (lt-of-mul-lt-mul-right d (lt-of-lt-of-le l lo)) in
           (s .0, s .1 ∙ ap (int64 true) (sym (over-more n d l)));
-      floor-is = λ h. ap (int64 true) (sym (over-same n d (ltb-false (q * d) n (sym down ∙ h))));
-      above = λ h. absurd (true≢false (sym h ∙ up));
+      floor-is = λ h. ap (int64 true) (sym (over-same n d (ltb-false (q * d) n (sym less ∙ h))));
+      above = λ h. absurd (true≢false (sym h ∙ not-more));
       ceil-is = λ h. refl;
     }
 
@@ -119,16 +111,16 @@ cut-pos m e f hi =
     let q = n / d in
     let b = ofInt binary64 (int64 false q) in
     let value : HasValue b false q 1 = rw (plus-is q (div-lt-iff-lt-mul (down-pos e) .1 hi)) (back-pos false m e f) in
-    let up : lt b (fin false m e) ≡ ltb (q * d) n = whole-lt m e q b value in
-    let down : lt (fin false m e) b ≡ false = lt-whole m e q b value ∙ le-ltb n (q * d) (div-mul-le-self n d) in
+    let more : lt b (fin false m e) ≡ ltb (q * d) n = whole-lt m e q b value in
+    let not-less : lt (fin false m e) b ≡ false = lt-whole m e q b value ∙ le-ltb n (q * d) (div-mul-le-self n d) in
     record {
-      below = λ h. absurd (true≢false (sym h ∙ down));
+      below = λ h. absurd (true≢false (sym h ∙ not-less));
       floor-is = λ h. refl;
       above = λ h.
-          let l : q * d < n = ltb-true (q * d) n (sym up ∙ h) in
+          let l : q * d < n = ltb-true (q * d) n (sym more ∙ h) in
           let s = step-up q (far q (cut-small false m e f l)) in
           (s .0, s .1 ∙ ap (int64 false) (sym (over-more n d l)));
-      ceil-is = λ h. ap (int64 false) (sym (over-same n d (ltb-false (q * d) n (sym up ∙ h))));
+      ceil-is = λ h. ap (int64 false) (sym (over-same n d (ltb-false (q * d) n (sym more ∙ h))));
     }
   where
     far : (a : ℕ) → a < 9007199254740992 → suc a < 9223372036854775808
@@ -156,7 +148,7 @@ cut-of x f lo hi {t} {b} p q =
 -- ---- out of the range, and a NaN
 capped : (s : Bool) (q : ℕ) → 2 ^ 63 ≤ q → int64 s q ≡ int64 s (2 ^ 63)
 capped true q h = ap (λ (k : ℕ). negℤ (pos k)) (min-eq-right h)
-capped false q h = ap pos (at-cap q (2 ^ 63) h)
+capped false q h = ap pos (min-eq-right (le-of-lt (lt-of-lt-of-le (ones-lt 63) h)))
 
 -- from 2^63 on in size, floor and ceiling are the end of the range
 end : (s : Bool) (m : ℕ) (e : ℤ) → 2 ^ 63 * down e ≤ m * up e → (int64 s (2 ^ 63) ≡ floorZ (fin s m e)) × (int64 s (2 ^ 63) ≡ ceilZ (fin s m e))

@@ -2,37 +2,35 @@
 -- Assumes nothing.
 use mathlib.Core.Path.{_≡_, refl, sym, ap, _∙_, subst}
 use Prim.Native.Nat.{ℕ, zero, suc, _+_, _-_, _*_, _/_, _^_, _≤_, _<_}
-use native.Mathlib.Nat.{le-trans, lt-of-lt-of-le, le-of-eq, lt-irrefl, mul-one, one-mul, mul-assoc, mul-right-comm, zero-lt-suc, mul-pos, mul-le-mul-right, mul-lt-mul-of-pos-right, lt-of-mul-lt-mul-right, div-lt-iff-lt-mul, div-one, mul-add-div-right, pow-suc, div-div-eq-div-mul}
+use native.Mathlib.Nat.{lt-of-lt-of-le, lt-of-not-le, le-of-suc-le-suc, le-of-eq, lt-irrefl, mul-one, one-mul, zero-lt-suc, mul-pos, mul-le-mul-right, mul-lt-mul-of-pos-right, lt-of-mul-lt-mul-right, min-eq-left, div-lt-iff-lt-mul, div-one, add-div-right, pow-suc, div-div-eq-div-mul}
 use native.Mathlib.Numerals.{add-one}
 use native.Mathlib.Omega.{arith}
 use mathlib.Core.Bool.{Bool, true, false, true≢false}
 use lib.IntN.{ℤ, pos, negsuc}
-use lib.Dec.{T, ltb, leb, lit≤, lit<}
-use lib.Pow.{pow-add, pow-pos, pow-lt}
+use lib.Dec.{T, ltb, lit≤, lit<}
+use lib.Pow.{pow-add, pow-pos, pow-lt, le-ones}
 use lib.Ieee.{Float, nan, inf, fin, binary64, up, down, lt, neg, round, mul, ofInt, ofBits, toUnsigned, fits}
 use lib.Ieee.Fits.{down-pos, round-fits}
 use lib.Ieee.Exact.{HasValue, round-exact}
 use lib.Ieee.Back.{whole-unique}
 use lib.Ieee.Digits.{back}
 use lib.Ieee.Nearest.{div-same}
-use borrow.Author.Tests.{ltb-true, ltb-false, leb-true, leb-false, lt-ltb}
+use borrow.Author.Tests.{ltb-true, ltb-false, lt-ltb}
 use Rattle.float.specs.Sign.{negative, absolute}
 use Rattle.float.specs.Whole.{near, over, under, rounded, ceiled}
 use Rattle.float.proofs.Rounding.{neg-round}
 use Rattle.float.proofs.Value.{lt-values, lt-whole, whole-lt, held, cut-exact, back-pos}
-use Rattle.float.proofs.Cut.{over-more, over-same, uncapped}
+use Rattle.float.proofs.Cut.{over-more, over-same}
 
 -- ---- a value that fits is a whole number of the smallest values: 2 ^ e is 2 ^ j of them
 pow-le-back : (i p : ℕ) → 2 ^ i ≤ 2 ^ p → i ≤ p
-pow-le-back i p h = go (leb i p) refl
-  where
-    go : (t : Bool) → leb i p ≡ t → i ≤ p
-    go true q = leb-true i p q
-    go false q = absurd (lt-irrefl (2 ^ p) (lt-of-lt-of-le (pow-lt (leb-false i p q)) h))
+pow-le-back i p h = le-of-suc-le-suc (lt-of-not-le (λ (g : p < i). lt-irrefl (2 ^ p) (lt-of-lt-of-le (pow-lt g) h)))
 
 steps-of : (s : Bool) (m : ℕ) (e : ℤ) → T (fits binary64 (fin s m e)) → (j : ℕ) × (up e * 2 ^ 1074 ≡ 2 ^ j * down e)
 steps-of s m (pos k) f = (k + 1074, sym (pow-add 2 k 1074) ∙ sym (mul-one (2 ^ (k + 1074))))
-steps-of s m (negsuc k) f = (1074 - suc k, one-mul (2 ^ 1074) ∙ ap (λ (x : ℕ). 2 ^ x) (sym (back 1074 (suc k) (pow-le-back (suc k) 1074 (held s m (negsuc k) f .1)))) ∙ pow-add 2 (1074 - suc k) (suc k))
+steps-of s m (negsuc k) f =
+    let low : suc k ≤ 1074 = pow-le-back (suc k) 1074 (held s m (negsuc k) f .1) in
+    (1074 - suc k, one-mul (2 ^ 1074) ∙ ap (λ (x : ℕ). 2 ^ x) (sym (back 1074 (suc k) low)) ∙ pow-add 2 (1074 - suc k) (suc k))
 
 -- ---- twice a value is exact
 module _ (m : ℕ) (e : ℤ) (f : T (fits binary64 (fin false m e))) (small : m * up e < 2 ^ 52 * down e) where
@@ -44,28 +42,23 @@ module _ (m : ℕ) (e : ℤ) (f : T (fits binary64 (fin false m e))) (small : m 
   twice-is = refl
 
   in-units : (j : ℕ) → up e * 2 ^ 1074 ≡ 2 ^ j * down e → m * up e * 2 * 2 ^ 1074 ≡ m * 2 ^ (j + 1) * (down e * 1)
-  in-units j h =
-      mul-right-comm (m * up e) 2 (2 ^ 1074)
-      ∙ ap (λ (x : ℕ). x * 2) (mul-assoc m (up e) (2 ^ 1074) ∙ ap (λ (x : ℕ). m * x) h ∙ sym (mul-assoc m (2 ^ j) (down e)))
-      ∙ mul-right-comm (m * 2 ^ j) (down e) 2
-      ∙ ap (λ (x : ℕ). x * down e) (mul-assoc m (2 ^ j) 2 ∙ ap (λ (x : ℕ). m * x) (sym (pow-add 2 j 1)))
-      ∙ ap (λ (x : ℕ). m * 2 ^ (j + 1) * x) (sym (mul-one (down e)))
+  in-units j h = rw (pow-add 2 j 1) (scaled (up e) (down e) (2 ^ 1074) (2 ^ j) h)
+    where
+      scaled : (u d p q : ℕ) → u * p ≡ q * d → m * u * 2 * p ≡ m * (q * 2) * (d * 1)
+      scaled u d p q h = omega (arith, ap (λ (x : ℕ). m * 2 * x) h)
 
   fine : (j : ℕ) → up e * 2 ^ 1074 ≡ 2 ^ j * down e → m * 2 ^ (j + 1) < 2 ^ (1074 + 1024)
   fine j h =
-      let b : m * 2 ^ (j + 1) * (down e * 1) < 2 ^ 53 * 2 ^ 1074 * (down e * 1) =
-      subst (λ (x : ℕ). x < 2 ^ 53 * 2 ^ 1074 * (down e * 1)) (in-units j h)
-      (subst (λ (x : ℕ). m * up e * 2 * 2 ^ 1074 < x) (regroup (down e)) (mul-lt-mul-of-pos-right (mul-lt-mul-of-pos-right small (zero-lt-suc 1)) (pow-pos 1074))) in
-      lt-of-lt-of-le (lt-of-mul-lt-mul-right (down e * 1) b) (lit≤ tt)
+      let bound : m * 2 ^ (j + 1) * (down e * 1) < 2 ^ 53 * 2 ^ 1074 * (down e * 1) = rw (in-units j h) at (scaled (m * up e) (down e) (2 ^ 1074) (pow-pos 1074) small) in
+      lt-of-lt-of-le (lt-of-mul-lt-mul-right (down e * 1) bound) (lit≤ tt)
     where
-      regroup : (d : ℕ) → 2 ^ 52 * d * 2 * 2 ^ 1074 ≡ 2 ^ 53 * 2 ^ 1074 * (d * 1)
-      regroup d = ap (λ (x : ℕ). x * 2 ^ 1074) (mul-right-comm (2 ^ 52) d 2) ∙ mul-right-comm (2 ^ 53) d (2 ^ 1074) ∙ ap (λ (x : ℕ). 2 ^ 53 * 2 ^ 1074 * x) (sym (mul-one d))
+      scaled : (a d p : ℕ) → 0 < p → a < 4503599627370496 * d → a * 2 * p < 9007199254740992 * p * (d * 1)
+      scaled a d p P h = omega (arith, mul-lt-mul-of-pos-right h P)
 
   twice-value : HasValue twice false (m * up e * 2) (down e * 1)
   twice-value =
       let s = steps-of false m e f in
-      subst (λ (y : Float). HasValue y false (m * up e * 2) (down e * 1)) (sym twice-is)
-      (round-exact binary64 false (m * up e * 2) (down e * 1) m (s .0 + 1) (mul-pos (down-pos e) (zero-lt-suc 0)) (held false m e f .0) (fine (s .0) (s .1)) (in-units (s .0) (s .1)))
+      rw twice-is (round-exact binary64 false (m * up e * 2) (down e * 1) m (s .0 + 1) (mul-pos (down-pos e) (zero-lt-suc 0)) (held false m e f .0) (fine (s .0) (s .1)) (in-units (s .0) (s .1)))
 
 -- ---- the whole part of a value that is a / c and below 2 ^ 64: what `std::num::truncating_f64_to_u64` asks of y, and what it gives
 abbrev Part : Float → ℕ → Type 0
@@ -78,12 +71,12 @@ whole-part (inf s) a c C v h = absurd v
 whole-part (fin true m e) a c C v h = absurd (true≢false (v .0))
 whole-part (fin false m e) a c C v h =
     let q : m * up e / down e ≡ a / c = div-same (m * up e) (down e) a c (down-pos e) C (v .1) in
-    uncapped (m * up e / down e) (2 ^ 64) (subst (λ (x : ℕ). x < 2 ^ 64) (sym q) (div-lt-iff-lt-mul C .1 h)) ∙ q
+    rw q (min-eq-left (le-ones 64 (div-lt-iff-lt-mul C .1 h)))
 
 part-of : (y : Float) (a c : ℕ) → 0 < c → HasValue y false a c → a < 2 ^ 64 * c → Part y (a / c)
 part-of y a c C v h =
     let above : lt (fin true 1 (pos 0)) y ≡ true = lt-values (fin true 1 (pos 0)) y true 1 1 false a c (lit< tt) C (refl, refl) v ∙ lt-ltb 0 (1 * c + a * 1) (some c a C) in
-    let below : lt y (fin false 1 (pos 64)) ≡ true = lt-values y (fin false 1 (pos 64)) false a c false (2 ^ 64) 1 C (lit< tt) v (refl, refl) ∙ lt-ltb (a * 1) (2 ^ 64 * c) (subst (λ (x : ℕ). x < 2 ^ 64 * c) (sym (mul-one a)) h) in
+    let below : lt y (fin false 1 (pos 64)) ≡ true = lt-values y (fin false 1 (pos 64)) false a c false (2 ^ 64) 1 C (lit< tt) v (refl, refl) ∙ lt-ltb (a * 1) (2 ^ 64 * c) (rw mul-one h) in
     ((rw above tt, rw below tt), whole-part y a c C v h)
   where
     some : (d n : ℕ) → 0 < d → 0 < 1 * d + n * 1
@@ -92,14 +85,7 @@ part-of y a c C v h =
 -- ---- near
 near-is : (n d : ℕ) → 0 < d → (n * 2 / d + 1) / 2 ≡ near n d
 near-is n d D =
-    ap (λ (x : ℕ). x / 2) (one-more (n * 2 / d) ∙ sym (mul-add-div-right D 1 (n * 2)) ∙ ap (λ (x : ℕ). x / d) (swap d (n * 2)))
-    ∙ div-div-eq-div-mul (n * 2 + d) d 2
-  where
-    one-more : (a : ℕ) → a + 1 ≡ 1 + a
-    one-more a = omega arith
-
-    swap : (a b : ℕ) → 1 * a + b ≡ b + a
-    swap a b = omega arith
+    rw (← add-div-right (n * 2) D) (div-div-eq-div-mul (n * 2 + d) d 2)
 
 -- ---- against 2 ^ 52
 abbrev pub p52 : Float
@@ -121,18 +107,11 @@ from-p52 m e h = ltb-false (m * up e) (2 ^ 52 * down e) (sym (below-p52 m e) ∙
 large : (s : Bool) (m : ℕ) (e : ℤ) (K : ℕ) → T (fits binary64 (fin s m e)) → 2 ^ 52 * down e ≤ m * up e → (down e ≡ 1 → K ≡ m * up e) → fin s m e ≡ round binary64 s K 1
 large s m (pos k) K f h is =
     whole-unique binary64 (fin s m (pos k)) (round binary64 s K 1) s (m * 2 ^ k) f (round-fits binary64 s K 1) (refl, refl)
-    (subst (λ (x : ℕ). HasValue (round binary64 s x 1) s (m * 2 ^ k) 1) (sym (is refl))
-    (subst (λ (x : ℕ). HasValue (round binary64 s x 1) s x 1) (div-one (m * 2 ^ k)) (cut-exact s s m (pos k) f)))
-large s m (negsuc k) K f h is = absurd (clash (m * 1) (2 ^ k) m (pow-pos k) (le-trans (le-of-eq (spread k)) h) (mul-one m) (held s m (negsuc k) f .0))
+    (rw (is refl) (rw div-one at (cut-exact s s m (pos k) f)))
+large s m (negsuc k) K f h is = absurd (clash (2 ^ k) (pow-pos k) (rw (pow-suc 2 k) at h) (held s m (negsuc k) f .0))
   where
-    double : (a : ℕ) → 9007199254740992 * a ≡ 4503599627370496 * (a * 2)
-    double a = omega arith
-
-    spread : (i : ℕ) → 9007199254740992 * 2 ^ i ≡ 4503599627370496 * 2 ^ suc i
-    spread i = double (2 ^ i) ∙ ap (λ (x : ℕ). 4503599627370496 * x) (sym (pow-suc 2 i))
-
-    clash : (a p b : ℕ) → 0 < p → 9007199254740992 * p ≤ a → a ≡ b → b < 9007199254740992 → ⊥
-    clash a p b P l q g = omega arith
+    clash : (p : ℕ) → 0 < p → 4503599627370496 * (p * 2) ≤ m * 1 → m < 9007199254740992 → ⊥
+    clash p P l g = omega arith
 
 either-sign : (s : Bool) (m : ℕ) (e : ℤ) → T (fits binary64 (fin s m e)) → T (fits binary64 (fin false m e))
 unfolding fits
