@@ -5,18 +5,18 @@ use native.Mathlib.Nat.{le-trans, le-of-eq, mul-comm, div-le-of-le-mul, min-le-l
 use native.Mathlib.Omega.{arith}
 use mathlib.Core.Bool.{true, false, true≢false}
 use lib.IntN.{pos}
-use lib.Dec.{T}
 use lib.Ieee.{Float, nan, inf, fin, up, down, lt, le, ofBits, toUnsigned}
 use borrow.Author.Tests.{lt-ltb}
 use Rattle.float.specs.Consts.{zero64}
 use Rattle.float.specs.Cast.{natFloat}
 use Rattle.float.proofs.Value.{whole-lt}
 use Rattle.float.proofs.Less.{not-lt-of-le, lt-le-trans, le-lt-trans}
+use Rattle.float.proofs.Casts.{Asked, asked}
 use Rattle.float.proofs.Bounds.{nat-value, nat-finite, inside, most}
 
 -- what `std::num::truncating_f64_to_u64` asks of y, and a bound on what it gives
 abbrev pub Counted : Float → ℕ → Type 0
-Counted y n = (T (lt (fin true 1 (pos 0)) y) × T (lt y (fin false 1 (pos 64)))) × (toUnsigned 64 y ≤ n)
+Counted y n = Asked y × (toUnsigned 64 y ≤ n)
 
 -- cut toward zero, a value that is not above n is at most n
 cut-at-most : (y : Float) (n : ℕ) → n ≤ 2 ^ 53 → lt (natFloat n) y ≡ false → toUnsigned 64 y ≤ n
@@ -30,8 +30,8 @@ cut-at-most (fin false m e) n h l = le-trans (min-le-left (m * up e / down e) (2
 pub counted : (y : Float) (n : ℕ) → n ≤ 2 ^ 53 → le zero64 y ≡ true → le y (natFloat n) ≡ true → Counted y n
 counted y n h lo hi =
     let above : lt (fin true 1 (pos 0)) y ≡ true = lt-le-trans (fin true 1 (pos 0)) zero64 y (unfold lt ofBits in refl) lo in
-    let below : lt y (fin false 1 (pos 64)) ≡ true = le-lt-trans y (natFloat n) (fin false 1 (pos 64)) hi (whole-lt 1 (pos 64) n (natFloat n) (nat-value n h) ∙ lt-ltb (n * 1) (1 * 2 ^ 64) (few n h)) in
-    ((rw above tt, rw below tt), cut-at-most y n h (not-lt-of-le y (natFloat n) hi))
+    let few : lt (natFloat n) (fin false 1 (pos 64)) ≡ true = whole-lt 1 (pos 64) n (natFloat n) (nat-value n h) ∙ lt-ltb (n * 1) (1 * 2 ^ 64) (small n h) in
+    (asked y above (le-lt-trans y (natFloat n) (fin false 1 (pos 64)) hi few), cut-at-most y n h (not-lt-of-le y (natFloat n) hi))
   where
-    few : (k : ℕ) → k ≤ 9007199254740992 → k * 1 < 18446744073709551616
-    few k l = omega arith
+    small : (k : ℕ) → k ≤ 9007199254740992 → k * 1 < 18446744073709551616
+    small k l = omega arith
