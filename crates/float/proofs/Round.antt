@@ -19,7 +19,7 @@ use borrow.Author.Tests.{ltb-true, ltb-false, lt-ltb}
 use Rattle.float.specs.Sign.{negative, absolute}
 use Rattle.float.specs.Whole.{near, over, under, rounded, ceiled}
 use Rattle.float.proofs.Rounding.{neg-round}
-use Rattle.float.proofs.Value.{lt-values, lt-whole, whole-lt, held, cut-exact, back-pos}
+use Rattle.float.proofs.Value.{lt-values, lt-whole, whole-lt, fits-says, cut-exact, back-pos}
 use Rattle.float.proofs.Casts.{Asked, asked}
 use Rattle.float.proofs.Cut.{over-more, over-same}
 
@@ -30,7 +30,7 @@ pow-le-back i p h = le-of-suc-le-suc (lt-of-not-le (λ (g : p < i). lt-irrefl (2
 steps-of : (s : Bool) (m : ℕ) (e : ℤ) → T (fits binary64 (fin s m e)) → (j : ℕ) × (up e * 2 ^ 1074 ≡ 2 ^ j * down e)
 steps-of s m (pos k) f = (k + 1074, sym (pow-add 2 k 1074) ∙ sym (mul-one (2 ^ (k + 1074))))
 steps-of s m (negsuc k) f =
-    let low : suc k ≤ 1074 = pow-le-back (suc k) 1074 (held s m (negsuc k) f .1) in
+    let low : suc k ≤ 1074 = pow-le-back (suc k) 1074 (fits-says s m (negsuc k) f .1) in
     (1074 - suc k, one-mul (2 ^ 1074) ∙ ap (λ (x : ℕ). 2 ^ x) (sym (back 1074 (suc k) low)) ∙ pow-add 2 (1074 - suc k) (suc k))
 
 -- ---- twice a value below 2 ^ 52 is exact
@@ -61,7 +61,7 @@ module _ (m : ℕ) (e : ℤ) (f : T (fits binary64 (fin false m e))) (small : m 
   twice-value =
       let s = steps-of false m e f in
       let D : 0 < down e * 1 = mul-pos (down-pos e) (zero-lt-suc 0) in
-      rw (twice-is m e) (round-exact binary64 false (m * up e * 2) (down e * 1) m (s .0 + 1) D (held false m e f .0) (few-units (s .0) (s .1)) (in-units (s .0) (s .1)))
+      rw (twice-is m e) (round-exact binary64 false (m * up e * 2) (down e * 1) m (s .0 + 1) D (fits-says false m e f .0) (few-units (s .0) (s .1)) (in-units (s .0) (s .1)))
 
 -- ---- the whole part of a value that is a / c and below 2 ^ 64: what `std::num::truncating_f64_to_u64` asks of y, and what it gives
 abbrev Part : Float → ℕ → Type 0
@@ -107,7 +107,7 @@ large : (s : Bool) (m : ℕ) (e : ℤ) (K : ℕ) → T (fits binary64 (fin s m e
 large s m (pos k) K f h is =
     whole-unique binary64 (fin s m (pos k)) (round binary64 s K 1) s (m * 2 ^ k) f (round-fits binary64 s K 1) (refl, refl)
     (rw (is refl) (rw div-one at (cut-exact s s m (pos k) f)))
-large s m (negsuc k) K f h is = absurd (clash (2 ^ k) (pow-pos k) (rw (pow-suc 2 k) at h) (held s m (negsuc k) f .0))
+large s m (negsuc k) K f h is = absurd (clash (2 ^ k) (pow-pos k) (rw (pow-suc 2 k) at h) (fits-says s m (negsuc k) f .0))
   where
     clash : (p : ℕ) → 0 < p → 4503599627370496 * (p * 2) ≤ m * 1 → m < 9007199254740992 → ⊥
     clash p P l g = omega arith
