@@ -5,9 +5,9 @@ use mathlib.Core.Logic.{_⊎_, inl, inr}
 use Prim.Native.Nat.{ℕ, zero, suc, _+_, _*_, _≤_, _<_}
 use native.Mathlib.Nat.{le-of-eq, le-of-lt, eq-or-lt-of-le, add-comm, add-zero, zero-add, mul-le-mul-right, le-of-mul-le-mul-right, zero-mul}
 use native.Mathlib.Omega.{arith}
-use mathlib.Core.Bool.{Bool, true, false, not, _&&_, _||_, cond, and-false, or-not-self, true≢false}
+use mathlib.Core.Bool.{Bool, true, false, not, _&&_, _||_, cond, and-false, or-not-self, Bool·not-not, true≢false}
 use lib.Dec.{ltb, leb, eqb, eqb·zero-suc, eqb·suc-zero}
-use lib.Ieee.{Float, nan, inf, fin, up, down, below, level, lt, le, eq, isNan}
+use lib.Ieee.{Float, nan, inf, fin, up, down, below, level, lt, le, eq, ne, isNan}
 use lib.Ieee.Fits.{down-pos}
 use borrow.Author.Tests.{not-true, ltb-true, lt-ltb, le-ltb, ltb-false, le-leb, lt-leb, eqb-true, eqb-false, eq-eqb, ne-eqb}
 use Rattle.float.specs.Sign.{isFinite}
@@ -182,6 +182,19 @@ le-lt-trans x y z h k = must (lt x z) (λ p. true≢false (sym k ∙ not-lt-tran
 
 pub lt-transitive : (x y z : Float) → lt x y ≡ true → lt y z ≡ true → lt x z ≡ true
 lt-transitive x y z h k = lt-le-trans x y z h (lt-le y z k)
+
+-- only a NaN differs from itself
+pub eq-self : (x : Float) → eq x x ≡ not (isNan x)
+unfolding eq isNan
+eq-self nan = refl
+eq-self (inf true) = refl
+eq-self (inf false) = refl
+eq-self (fin true m e) = rw (eq-eqb (m * up e * down e) (m * up e * down e) refl)
+eq-self (fin false m e) = rw (eq-eqb (m * up e * down e) (m * up e * down e) refl)
+
+pub ne-self : (x : Float) → ne x x ≡ isNan x
+unfolding ne
+ne-self x = rw (eq-self x) (Bool·not-not (isNan x))
 
 pub finite-not-nan : (x : Float) → isFinite x ≡ true → isNan x ≡ false
 unfolding isFinite isNan
