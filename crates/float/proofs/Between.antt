@@ -1,56 +1,70 @@
--- A float lies between -top and top exactly if its magnitude is at most top: by cases, down to two numbers a and b, the magnitudes of x and top
--- on one scale, which differ or are equal.
-use Prim.Native.Nat.{ℕ, zero, suc, _+_, _*_}
+-- The magnitude of x is below y, or at most y, exactly if x lies between -y and y, so that it is told by two comparisons of x. By the signs, down to the
+-- sizes a of x and b of y on one scale: what a sign adds is the test 0 < a + b, and it holds where a < b does. Assumes nothing.
+use Prim.Native.Nat.{ℕ, _+_, _*_}
+use native.Mathlib.Nat.{add-comm}
 use native.Mathlib.Omega.{arith}
-use mathlib.Core.Path.{_≡_, refl, sym, subst}
-use mathlib.Core.Bool.{Bool, true, false, not, _&&_, _||_}
-use lib.Dec.{ltb, eqb}
+use mathlib.Core.Path.{_≡_, refl, sym, ap, _∙_}
+use mathlib.Core.Bool.{Bool, true, false, not, _&&_, _||_, and-comm, and-false, or-comm, or-false}
+use lib.Dec.{ltb}
 use lib.Ieee.{Float, nan, inf, fin, up, down, below, level, lt, eq, le, neg}
-use borrow.Author.Tests.{lt-ltb, le-ltb, eq-eqb, ne-eqb, eqb-true, eqb-false}
+use borrow.Author.Tests.{ltb-true, lt-ltb}
 use Rattle.float.specs.Sign.{absolute, atMost}
+use Rattle.float.proofs.Less.{le-signed}
 
--- the two comparisons, and the one of the magnitude, of ±a and ±b
-abbrev both : Bool → Bool → ℕ → ℕ → Bool
-both s t a b = (below (not t) b s a || level (not t) b s a) && (below s a t b || level s a t b)
+module _ (a b : ℕ) where
+  some : ltb a b ≡ true → ltb 0 (a + b) ≡ true
+  some h = lt-ltb 0 (a + b) (omega (arith, ltb-true a b h))
 
-abbrev one : Bool → ℕ → ℕ → Bool
-one t a b = below false a t b || level false a t b
+  -- so beside a < b it adds nothing, and a < b adds nothing to it
+  less-and : ltb a b ≡ ltb a b && ltb 0 (a + b)
+  less-and = go (ltb a b) some
+    where
+      go : (t : Bool) → (t ≡ true → ltb 0 (a + b) ≡ true) → t ≡ t && ltb 0 (a + b)
+      go true h = sym (h refl)
+      go false h = refl
 
--- magnitudes that differ
-both-differ : (s t x y : Bool) (a b : ℕ) → ltb a b ≡ x → ltb b a ≡ y → eqb a b ≡ false → eqb b a ≡ false → ltb 0 (a + b) ≡ true → ltb 0 (b + a) ≡ true → both s t a b ≡ one t a b
-both-differ true true x y a b p q e f g h = simp (e, f)
-both-differ true false true y a b p q e f g h = simp (p, g)
-both-differ true false false y a b p q e f g h = simp (p, e, f)
-both-differ false true x true a b p q e f g h = simp (q, e)
-both-differ false true x false a b p q e f g h = simp (q, e, f)
-both-differ false false x y a b p q e f g h = simp h
+  less-or : ltb 0 (a + b) ≡ ltb a b || ltb 0 (a + b)
+  less-or = go (ltb a b) some
+    where
+      go : (t : Bool) → (t ≡ true → ltb 0 (a + b) ≡ true) → ltb 0 (a + b) ≡ t || ltb 0 (a + b)
+      go true h = h refl
+      go false h = refl
 
--- equal magnitudes, zero or not
-both-zero : (s t : Bool) → both s t 0 0 ≡ one t 0 0
-both-zero true true = refl
-both-zero true false = refl
-both-zero false true = refl
-both-zero false false = refl
+-- ---- below
+below-both : (s t : Bool) (a b : ℕ) → below false a t b ≡ below (not t) b s a && below s a t b
+below-both true true a b = refl
+below-both true false a b = less-and a b
+below-both false true a b = sym (and-false (ltb b a))
+below-both false false a b = less-and a b ∙ and-comm (ltb a b) (ltb 0 (a + b)) ∙ simp (add-comm a b)
 
-both-same : (s t : Bool) (k : ℕ) → ltb (suc k) (suc k) ≡ false → eqb (suc k) (suc k) ≡ true → eqb (suc k) 0 ≡ false → ltb 0 (suc k + suc k) ≡ true → both s t (suc k) (suc k) ≡ one t (suc k) (suc k)
-both-same true true k l e z p = simp (l, e, z)
-both-same true false k l e z p = simp (l, e, p)
-both-same false true k l e z p = simp (l, e, z)
-both-same false false k l e z p = simp (l, e, p)
+pub abs-below : (x y : Float) → lt (absolute x) y ≡ lt (neg y) x && lt x y
+unfolding lt neg absolute
+abs-below nan y = sym (and-false (lt (neg y) nan))
+abs-below (inf s) nan = refl
+abs-below (inf true) (inf true) = refl
+abs-below (inf true) (inf false) = refl
+abs-below (inf false) (inf true) = refl
+abs-below (inf false) (inf false) = refl
+abs-below (inf true) (fin t n d) = refl
+abs-below (inf false) (fin t n d) = refl
+abs-below (fin s m e) nan = refl
+abs-below (fin s m e) (inf true) = refl
+abs-below (fin s m e) (inf false) = refl
+abs-below (fin s m e) (fin t n d) = below-both s t (m * up e * down d) (n * up d * down e)
 
-both-one : (s t : Bool) (a b : ℕ) → both s t a b ≡ one t a b
-both-one s t a b = go (eqb a b) refl
+-- ---- at most: the other is not less
+above-either : (s t : Bool) (a b : ℕ) → below t b false a ≡ below s a (not t) b || below t b s a
+above-either true true a b = ap (ltb 0) (add-comm b a) ∙ less-or a b ∙ or-comm (ltb a b) (ltb 0 (a + b))
+above-either true false a b = sym (or-false (ltb b a))
+above-either false true a b = ap (ltb 0) (add-comm b a) ∙ less-or a b ∙ simp (add-comm a b)
+above-either false false a b = refl
+
+both-one : (s t : Bool) (a b : ℕ) → (below (not t) b s a || level (not t) b s a) && (below s a t b || level s a t b) ≡ below false a t b || level false a t b
+both-one s t a b = rw (le-signed (not t) b s a, le-signed s a t b, le-signed false a t b) (neither (below s a (not t) b) (below t b s a) ∙ ap not (sym (above-either s t a b)))
   where
-    same : (k : ℕ) → both s t k k ≡ one t k k
-    same zero = both-zero s t
-    same (suc k) =
-        both-same s t k (le-ltb (suc k) (suc k) (omega arith)) (eq-eqb (suc k) (suc k) refl) (ne-eqb (suc k) 0 (λ e. omega arith)) (lt-ltb 0 (suc k + suc k) (omega arith))
-
-    go : (x : Bool) → eqb a b ≡ x → both s t a b ≡ one t a b
-    go true e = subst (λ (n : ℕ). both s t a n ≡ one t a n) (eqb-true a b e) (same a)
-    go false e =
-        let ne = eqb-false a b e in
-        both-differ s t (ltb a b) (ltb b a) a b refl refl e (ne-eqb b a (λ f. ne (sym f))) (lt-ltb 0 (a + b) (omega arith)) (lt-ltb 0 (b + a) (omega arith))
+    neither : (p q : Bool) → not p && not q ≡ not (p || q)
+    neither true q = refl
+    neither false q = refl
 
 pub between-is : (x top : Float) → le (neg top) x && le x top ≡ atMost x top
 unfolding le lt eq neg absolute

@@ -1,19 +1,19 @@
 -- A count as a float is exact and stands to others as the counts do; `clamped` lies between its ends; and a value between counts has its floor and its ceiling between them.
 -- Assumes nothing.
-use mathlib.Core.Path.{_≡_, refl, sym, ap, _∙_, subst}
+use mathlib.Core.Path.{_≡_, refl, sym, ap, _∙_}
 use mathlib.Core.Logic.{_⊎_, inl, inr}
-use Prim.Native.Nat.{ℕ, zero, suc, _+_, _-_, _*_, _/_, _%_, _^_, _≤_, _<_, min}
-use native.Mathlib.Nat.{le-trans, lt-of-lt-of-le, eq-or-lt-of-le, mul-one, zero-mul, zero-lt-suc, mul-comm, mul-right-comm, le-of-eq, div-lt-iff-lt-mul, div-le-of-le-mul, le-div-iff-mul-le, div-mul-le-self, div-eq-of-lt, mod-eq-of-lt, lt-of-mul-lt-mul-right}
+use Prim.Native.Nat.{ℕ, zero, suc, _+_, _-_, _*_, _/_, _^_, _≤_, _<_, zero-le}
+use native.Mathlib.Nat.{le-trans, lt-of-lt-of-le, eq-or-lt-of-le, mul-one, zero-lt-suc, mul-comm, le-of-eq, div-lt-iff-lt-mul, div-le-of-le-mul, le-div-iff-mul-le, div-mul-le-self, div-eq-of-lt, mod-eq-of-lt, lt-of-mul-lt-mul-right, lt-of-le-of-lt, le-min, min-le-left}
 use native.Mathlib.Omega.{arith}
 use mathlib.Core.Bool.{Bool, true, false, not, cond, true≢false}
 use lib.IntN.{ℤ, pos, negsuc, negℤ, natAbs}
 use lib.Signed.{nonNeg}
-use lib.Dec.{T, ltb, leb, eqb, lit≤}
+use lib.Dec.{T, ltb, leb, lit≤}
 use lib.Ieee.{Float, nan, inf, fin, binary64, up, down, lt, le, sub, ofInt, ofBits, isNan, fits}
 use lib.Ieee.Fits.{down-pos, ofInt-fits}
 use lib.Ieee.Exact.{HasValue}
 use lib.Ieee.Back.{round-whole}
-use borrow.Author.Tests.{le-ltb, ltb-false}
+use borrow.Author.Tests.{ltb-false}
 use Rattle.float.specs.Sign.{absolute, isFinite, atMost}
 use Rattle.float.specs.Order.{clamped}
 use Rattle.float.specs.Whole.{over, floorZ, ceilZ}
@@ -21,8 +21,9 @@ use Rattle.float.specs.Consts.{eps, zero64}
 use Rattle.float.specs.Cast.{natFloat, count}
 use Rattle.float.proofs.Tests.{cond-keeps}
 use Rattle.float.proofs.Rounding.{round-both}
-use Rattle.float.proofs.Value.{lt-values, lt-value, lt-whole, whole-lt}
-use Rattle.float.proofs.Less.{lt-irreflexive, not-ltb, le-is, le-not-nan, le-of-not-lt, not-lt-of-le, value-not-nan}
+use Rattle.float.proofs.Signs.{plus-not-below}
+use Rattle.float.proofs.Value.{lt-values, lt-whole, whole-lt, minus-below}
+use Rattle.float.proofs.Less.{lt-irreflexive, not-ltb, le-is, le-not-nan, le-of-not-lt, not-lt-of-le, finite-not-nan}
 use Rattle.float.proofs.Differences.{sub-level}
 use Rattle.float.proofs.Cut.{over-more, over-same, over-ge}
 
@@ -48,7 +49,7 @@ pub nat-finite : (n : ℕ) → n ≤ 2 ^ 53 → isFinite (natFloat n) ≡ true
 nat-finite n h = value-finite (natFloat n) false n 1 (nat-value n h)
 
 pub nat-not-nan : (n : ℕ) → n ≤ 2 ^ 53 → isNan (natFloat n) ≡ false
-nat-not-nan n h = value-not-nan (natFloat n) false n 1 (nat-value n h)
+nat-not-nan n h = finite-not-nan (natFloat n) (nat-finite n h)
 
 -- counts as floats compare as the counts
 pub nat-lt : (a b : ℕ) → a ≤ 2 ^ 53 → b ≤ 2 ^ 53 → lt (natFloat a) (natFloat b) ≡ ltb a b
@@ -60,10 +61,7 @@ nat-le a b h k = le-is (natFloat a) (natFloat b) (nat-not-nan a h) (nat-not-nan 
 -- a count as a float is not negative, however large
 pub nat-nonneg : (n : ℕ) → lt (natFloat n) zero64 ≡ false
 unfolding natFloat ofInt
-nat-nonneg n = round-both (λ x y. lt x zero64 ≡ false) false false (λ m e. unfold lt ofBits in le-ltb (m * up e * 1) (0 * down e) (none (m * up e * 1) (0 * down e) (zero-mul (down e)))) (unfold lt ofBits in refl) binary64 n 1
-  where
-    none : (a b : ℕ) → b ≡ 0 → b ≤ a
-    none a b h = omega arith
+nat-nonneg n = round-both (λ x y. lt x zero64 ≡ false) false false plus-not-below (unfold lt ofBits in refl) binary64 n 1
 
 -- what is at most a finite bound in magnitude is finite
 pub at-most-finite : (x top : Float) → isFinite top ≡ true → atMost x top ≡ true → isFinite x ≡ true
@@ -133,42 +131,41 @@ clamped-nonneg v n = clamp-not-below v zero64 (natFloat n) (nat-nonneg n)
 
 -- ---- floors and ceilings
 
+-- a finite value lies between the infinities
+pub inside : (y : Float) → isFinite y ≡ true → (lt y (inf false) ≡ true) × (lt (inf true) y ≡ true)
+unfolding isFinite lt
+inside nan h = absurd (true≢false (sym h))
+inside (inf t) h = absurd (true≢false (sym h))
+inside (fin t m e) h = (refl, refl)
+
+-- a finite value not above n is at most n as a fraction
+pub most : (m : ℕ) (e : ℤ) (n : ℕ) → n ≤ 2 ^ 53 → lt (natFloat n) (fin false m e) ≡ false → m * up e ≤ n * down e
+most m e n h l = ltb-false (n * down e) (m * up e) (sym (whole-lt m e n (natFloat n) (nat-value n h)) ∙ l)
+
+-- a whole number that is not above 0 counts as 0
 count-neg : (k : ℕ) → count (negℤ (pos k)) ≡ 0
 count-neg zero = refl
 count-neg (suc k) = refl
-
-min-lt : (q c n : ℕ) → q < n → min q c < n
-min-lt q c n h = omega arith
 
 -- a value that is n is within EPS of n
 same-close : (m : ℕ) (e : ℤ) (y : Float) (n : ℕ) → HasValue y false n 1 → m * up e ≡ n * down e → lt (absolute (sub binary64 (fin false m e) y)) eps ≡ true
 same-close m e nan n v h = absurd v
 same-close m e (inf s) n v h = absurd v
 same-close m e (fin true k d) n v h = absurd (true≢false (v .0))
-same-close m e (fin false k d) n v h =
-    let same : m * up e * down d ≡ k * up d * down e = ap (λ (x : ℕ). x * down d) h ∙ mul-right-comm n (down e) (down d) ∙ ap (λ (x : ℕ). x * down e) (sym (v .1) ∙ mul-one (k * up d)) in
-    ap (λ (x : Float). lt (absolute x) eps) (sub-level false m e k d same) ∙ unfold lt absolute eps ofBits in refl
-
--- a finite value lies between the infinities
-pub inside : (y : Float) (s : Bool) (a c : ℕ) → HasValue y s a c → (lt y (inf false) ≡ true) × (lt (inf true) y ≡ true)
-unfolding lt
-inside nan s a c v = absurd v
-inside (inf t) s a c v = absurd v
-inside (fin t m e) s a c v = (refl, refl)
-
--- a finite value not above n is at most n as a fraction
-pub most : (m : ℕ) (e : ℤ) (n : ℕ) → n ≤ 2 ^ 53 → lt (natFloat n) (fin false m e) ≡ false → m * up e ≤ n * down e
-most m e n h l = ltb-false (n * down e) (m * up e) (sym (whole-lt m e n (natFloat n) (nat-value n h)) ∙ l)
+same-close m e (fin false k d) n v h = rw (sub-level false m e k d (cross (m * up e) (down e) (k * up d) (down d) h (v .1))) (unfold lt absolute eps ofBits in refl)
+  where
+    cross : (a b c d : ℕ) → a ≡ n * b → c * 1 ≡ n * d → a * d ≡ c * b
+    cross a b c d p q = omega (arith, ap (λ (x : ℕ). x * d) p, ap (λ (x : ℕ). x * b) q)
 
 -- the floor of what is not above n, and not within EPS of n, is a count below n
 pub floor-below : (v : Float) (n : ℕ) → 0 < n → n ≤ 2 ^ 53 → lt (natFloat n) v ≡ false → lt (absolute (sub binary64 v (natFloat n))) eps ≡ false → count (floorZ v) < n
 unfolding floorZ
 floor-below nan n N h l c = N
 floor-below (inf true) n N h l c = N
-floor-below (inf false) n N h l c = absurd (true≢false (sym (inside (natFloat n) false n 1 (nat-value n h) .0) ∙ l))
-floor-below (fin true m e) n N h l c = subst (λ (x : ℕ). x < n) (sym (count-neg (min (over (m * up e) (down e)) (2 ^ 63)))) N
+floor-below (inf false) n N h l c = absurd (true≢false (sym (inside (natFloat n) (nat-finite n h) .0) ∙ l))
+floor-below (fin true m e) n N h l c = rw count-neg N
 floor-below (fin false m e) n N h l c =
-    min-lt (m * up e / down e) (2 ^ 63 - 1) n (div-lt-iff-lt-mul (down-pos e) .1 (strict (eq-or-lt-of-le (most m e n h l))))
+    lt-of-le-of-lt (min-le-left (m * up e / down e) (2 ^ 63 - 1)) (div-lt-iff-lt-mul (down-pos e) .1 (strict (eq-or-lt-of-le (most m e n h l))))
   where
     strict : (m * up e ≡ n * down e) ⊎ (m * up e < n * down e) → m * up e < n * down e
     strict (inl p) = absurd (true≢false (sym (same-close m e (natFloat n) n (nat-value n h) p) ∙ c))
@@ -179,9 +176,6 @@ pub floor-count : (v : Float) (n : ℕ) → 0 < n → n ≤ 2 ^ 53 → lt (absol
 floor-count v n N h c = floor-below (clamped v zero64 (natFloat n)) n N h (clamp-not-above v zero64 (natFloat n)) c
 
 -- the floor of what is not below 0 is not negative
-none-left : (d : ℕ) → 0 < d → over 0 d ≡ 0
-none-left d D = ap (λ (x : ℕ). x + cond (eqb (0 % d) 0) 0 1) (div-eq-of-lt D) ∙ ap (λ (x : ℕ). 0 + cond (eqb x 0) 0 1) (mod-eq-of-lt D)
-
 pub floor-nonneg : (v : Float) → lt v zero64 ≡ false → T (nonNeg (floorZ v))
 unfolding floorZ lt ofBits
 floor-nonneg nan h = tt
@@ -190,8 +184,7 @@ floor-nonneg (inf false) h = tt
 floor-nonneg (fin false m e) h = tt
 floor-nonneg (fin true m e) h =
     let z : m * up e ≡ 0 = gone (m * up e) (0 * down e) (ltb-false 0 (m * up e * 1 + 0 * down e) h) in
-    subst (λ (x : ℕ). T (nonNeg (negℤ (pos (min (over x (down e)) (2 ^ 63)))))) (sym z)
-    (subst (λ (x : ℕ). T (nonNeg (negℤ (pos (min x (2 ^ 63)))))) (sym (none-left (down e) (down-pos e))) tt)
+    rw (z, div-eq-of-lt (down-pos e), mod-eq-of-lt (down-pos e)) tt
   where
     gone : (a b : ℕ) → a * 1 + b ≤ 0 → a ≡ 0
     gone a b l = omega arith
@@ -201,7 +194,7 @@ pub abs-count : (z : ℤ) → T (nonNeg z) → natAbs z ≡ count z
 abs-count (pos n) h = refl
 abs-count (negsuc n) h = absurd h
 
--- a value that is not above n has its floor and its ceiling at most n
+-- where a / d is at most n, so it is rounded up
 over-le : (a d n : ℕ) → a ≤ n * d → over a d ≤ n
 over-le a d n h = go (eq-or-lt-of-le (div-mul-le-self a d))
   where
@@ -209,24 +202,16 @@ over-le a d n h = go (eq-or-lt-of-le (div-mul-le-self a d))
     go (inl p) = le-trans (le-of-eq (over-same a d (le-of-eq (sym p)))) (div-le-of-le-mul d (le-trans h (le-of-eq (mul-comm n d))))
     go (inr p) = le-trans (le-of-eq (over-more a d p)) (lt-of-mul-lt-mul-right d (lt-of-lt-of-le p h))
 
-nothing : (n : ℕ) → 0 ≤ n
-nothing n = omega arith
-
-pub min-le : (q c n : ℕ) → q ≤ n → min q c ≤ n
-min-le q c n h = omega arith
-
+-- a value that is not above n has its floor and its ceiling at most n
 pub whole-at-most : (v : Float) (n : ℕ) → n ≤ 2 ^ 53 → lt (natFloat n) v ≡ false → (count (floorZ v) ≤ n) × (count (ceilZ v) ≤ n)
 unfolding floorZ ceilZ
-whole-at-most nan n h l = (nothing n, nothing n)
-whole-at-most (inf true) n h l = (nothing n, nothing n)
-whole-at-most (inf false) n h l = absurd (true≢false (sym (inside (natFloat n) false n 1 (nat-value n h) .0) ∙ l))
-whole-at-most (fin true m e) n h l = (
-  subst (λ (x : ℕ). x ≤ n) (sym (count-neg (min (over (m * up e) (down e)) (2 ^ 63)))) (nothing n),
-  subst (λ (x : ℕ). x ≤ n) (sym (count-neg (min (m * up e / down e) (2 ^ 63)))) (nothing n),
-)
+whole-at-most nan n h l = (zero-le, zero-le)
+whole-at-most (inf true) n h l = (zero-le, zero-le)
+whole-at-most (inf false) n h l = absurd (true≢false (sym (inside (natFloat n) (nat-finite n h) .0) ∙ l))
+whole-at-most (fin true m e) n h l = (rw count-neg zero-le, rw count-neg zero-le)
 whole-at-most (fin false m e) n h l =
     let up-to = over-le (m * up e) (down e) n (most m e n h l) in
-    (min-le (m * up e / down e) (2 ^ 63 - 1) n (le-trans (over-ge (m * up e) (down e)) up-to), min-le (over (m * up e) (down e)) (2 ^ 63 - 1) n up-to)
+    (le-trans (min-le-left (m * up e / down e) _) (le-trans (over-ge (m * up e) (down e)) up-to), le-trans (min-le-left (over (m * up e) (down e)) _) up-to)
 
 pub floor-at-most : (v : Float) (n : ℕ) → le v (natFloat n) ≡ true → n ≤ 2 ^ 53 → count (floorZ v) ≤ n
 floor-at-most v n l h = whole-at-most v n h (not-lt-of-le v (natFloat n) l) .0
@@ -235,28 +220,20 @@ pub ceil-at-most : (v : Float) (n : ℕ) → le v (natFloat n) ≡ true → n �
 ceil-at-most v n l h = whole-at-most v n h (not-lt-of-le v (natFloat n) l) .1
 
 -- a value at least n has its floor and its ceiling at least n
-le-min : (n q : ℕ) → n ≤ 9007199254740992 → n ≤ q → n ≤ min q 9223372036854775807
-le-min n q h k = omega arith
-
 pub whole-at-least : (v : Float) (n : ℕ) → n ≤ 2 ^ 53 → le (natFloat n) v ≡ true → (n ≤ count (floorZ v)) × (n ≤ count (ceilZ v))
 unfolding floorZ ceilZ
 whole-at-least nan n h l = absurd (true≢false (unfold isNan in le-not-nan (natFloat n) nan l .1))
-whole-at-least (inf true) n h l = absurd (true≢false (sym (inside (natFloat n) false n 1 (nat-value n h) .1) ∙ not-lt-of-le (natFloat n) (inf true) l))
+whole-at-least (inf true) n h l = absurd (true≢false (sym (inside (natFloat n) (nat-finite n h) .1) ∙ not-lt-of-le (natFloat n) (inf true) l))
 whole-at-least (inf false) n h l = (le-trans h (lit≤ tt), le-trans h (lit≤ tt))
-whole-at-least (fin true m e) n h l =
-    let none : m * up e + n * down e ≤ 0 = ltb-false 0 (m * up e + n * down e) (sym (lt-value true m e false n (natFloat n) (nat-value n h)) ∙ not-lt-of-le (natFloat n) (fin true m e) l) in
-    let z : n ≡ 0 = is-zero (m * up e) n (down e) (down-pos e) none in
-    (le-of-zero n (count (negℤ (pos (min (over (m * up e) (down e)) (2 ^ 63))))) z, le-of-zero n (count (negℤ (pos (min (m * up e / down e) (2 ^ 63))))) z)
-  where
-    is-zero : (a k d : ℕ) → 0 < d → a + k * d ≤ 0 → k ≡ 0
-    is-zero a k d D b = let small : k < 1 = lt-of-mul-lt-mul-right d (omega arith) in omega arith
-
-    le-of-zero : (a b : ℕ) → a ≡ 0 → a ≤ b
-    le-of-zero a b z = omega arith
+whole-at-least (fin true m e) zero h l = (zero-le, zero-le)
+whole-at-least (fin true m e) (suc n) h l =
+    let less = minus-below m e (suc n) (natFloat (suc n)) (zero-lt-suc n) (nat-value (suc n) h) in
+    absurd (true≢false (sym less ∙ not-lt-of-le (natFloat (suc n)) (fin true m e) l))
 whole-at-least (fin false m e) n h l =
     let least : n * down e ≤ m * up e = ltb-false (m * up e) (n * down e) (sym (lt-whole m e n (natFloat n) (nat-value n h)) ∙ not-lt-of-le (natFloat n) (fin false m e) l) in
     let down-to : n ≤ m * up e / down e = le-div-iff-mul-le (down-pos e) .1 least in
-    (le-min n (m * up e / down e) h down-to, le-min n (over (m * up e) (down e)) h (le-trans down-to (over-ge (m * up e) (down e))))
+    let few : n ≤ 2 ^ 63 - 1 = le-trans h (lit≤ tt) in
+    (le-min down-to few, le-min (le-trans down-to (over-ge (m * up e) (down e))) few)
 
 pub floor-at-least : (v : Float) (n : ℕ) → le (natFloat n) v ≡ true → n ≤ 2 ^ 53 → n ≤ count (floorZ v)
 floor-at-least v n l h = whole-at-least v n h l .0

@@ -1,13 +1,11 @@
 -- `larger` by the tests of `max`, and its laws: it is below e where both are, a NaN left out, and a NaN only where both are. Assumes nothing.
-use mathlib.Core.Path.{_≡_, refl, sym, ap, _∙_, subst}
+use mathlib.Core.Path.{_≡_, refl, sym, _∙_}
 use mathlib.Core.Bool.{Bool, true, false, _&&_, _||_, and-true, or-false, cond, true≢false}
-use lib.Dec.{T}
 use lib.Ieee.{Float, nan, inf, fin, lt, ne, isNan}
-use lib.Ieee.Compare.{differs-from-itself}
 use Rattle.float.specs.Sign.{absolute}
 use Rattle.float.specs.Order.{larger}
 use Rattle.float.proofs.Tests.{cond-keeps}
-use Rattle.float.proofs.Less.{lt-transitive, not-lt-trans}
+use Rattle.float.proofs.Less.{lt-transitive, not-lt-trans, ne-self}
 
 pub abs-nan : (x : Float) → isNan (absolute x) ≡ isNan x
 unfolding isNan absolute
@@ -15,31 +13,19 @@ abs-nan nan = refl
 abs-nan (inf s) = refl
 abs-nan (fin s m e) = refl
 
-larger-is : (x y : Float) → isNan x ≡ false → larger x y ≡ cond (lt x y) y x
-unfolding larger isNan
-larger-is nan y n = absurd (true≢false n)
-larger-is (inf s) y n = refl
-larger-is (fin s m e) y n = refl
+-- by the two tests of `max`, the second of which tells a NaN
+larger-is : (x y : Float) → larger x y ≡ cond (lt x y) y (cond (isNan x) y x)
+unfolding larger lt isNan
+larger-is nan y = refl
+larger-is (inf s) y = refl
+larger-is (fin s m e) y = refl
 
--- by the two tests of `max`
-pub larger-second : (x y : Float) → lt x y ≡ true → y ≡ larger x y
-unfolding larger
-larger-second nan y h = refl
-larger-second (inf s) y h = rw h
-larger-second (fin s m e) y h = rw h
-
-pub larger-other : (x y : Float) → ne x x ≡ true → y ≡ larger x y
-larger-other x y h = subst (λ (z : Float). y ≡ larger z y) (sym (differs-from-itself x (subst T (sym h) tt))) (unfold larger in refl)
-
-pub larger-first : (x y : Float) → lt x y ≡ false → ne x x ≡ false → x ≡ larger x y
-unfolding larger ne
-larger-first nan y h k = absurd (true≢false k)
-larger-first (inf s) y h k = rw h
-larger-first (fin s m e) y h k = rw h
+pub larger-tests : (x y : Float) → larger x y ≡ cond (lt x y) y (cond (ne x x) y x)
+larger-tests x y = rw (ne-self x) (larger-is x y)
 
 -- of two that are no NaN
 pub larger-below : (x y e : Float) → isNan x ≡ false → isNan y ≡ false → lt (larger x y) e ≡ lt x e && lt y e
-larger-below x y e m n = ap (λ (z : Float). lt z e) (larger-is x y m) ∙ go (lt x y) (lt x e) (lt y e) refl refl refl
+larger-below x y e m n = rw (larger-is x y, m) (go (lt x y) (lt x e) (lt y e) refl refl refl)
   where
     go : (p q r : Bool) → lt x y ≡ p → lt x e ≡ q → lt y e ≡ r → lt (cond p y x) e ≡ q && r
     go true true r a b c = c
@@ -49,29 +35,33 @@ larger-below x y e m n = ap (λ (z : Float). lt z e) (larger-is x y m) ∙ go (l
     go false true true a b c = b
     go false true false a b c = absurd (true≢false (sym b ∙ not-lt-trans x y e n a c))
 
+larger-no-nan : (x y : Float) → isNan x ≡ false → isNan y ≡ false → isNan (larger x y) ≡ false
+larger-no-nan x y m n = rw (larger-is x y, m) (cond-keeps (λ z. isNan z ≡ false) (lt x y) y x n m)
+
+both-under : (x y e : Float) → isNan x ≡ false → isNan y ≡ false → lt (larger x y) e || isNan (larger x y) ≡ (lt x e || isNan x) && (lt y e || isNan y)
+both-under x y e m n = simp (larger-below x y e m n, larger-no-nan x y m n, m, n, or-false)
+
 -- of any two
 pub larger-nan : (x y : Float) → isNan (larger x y) ≡ isNan x && isNan y
 unfolding larger lt isNan
 larger-nan nan y = refl
 larger-nan (inf s) nan = refl
-larger-nan (inf s) (inf t) = cond-keeps (λ z. isNan z ≡ false) (lt (inf s) (inf t)) (inf t) (inf s) refl refl
-larger-nan (inf s) (fin t n d) = cond-keeps (λ z. isNan z ≡ false) (lt (inf s) (fin t n d)) (fin t n d) (inf s) refl refl
-larger-nan (fin s m e) nan = refl
-larger-nan (fin s m e) (inf t) = cond-keeps (λ z. isNan z ≡ false) (lt (fin s m e) (inf t)) (inf t) (fin s m e) refl refl
-larger-nan (fin s m e) (fin t n d) = cond-keeps (λ z. isNan z ≡ false) (lt (fin s m e) (fin t n d)) (fin t n d) (fin s m e) refl refl
-
-under-both : (x y e : Float) → isNan x ≡ false → isNan y ≡ false → lt (larger x y) e || isNan (larger x y) ≡ (lt x e || isNan x) && (lt y e || isNan y)
-under-both x y e m n = simp (larger-below x y e m n, larger-nan x y, m, n, or-false)
+larger-nan (inf s) (inf t) = larger-no-nan (inf s) (inf t) refl refl
+larger-nan (inf s) (fin t n d) = larger-no-nan (inf s) (fin t n d) refl refl
+larger-nan (fin s m g) nan = refl
+larger-nan (fin s m g) (inf t) = larger-no-nan (fin s m g) (inf t) refl refl
+larger-nan (fin s m g) (fin t n d) = larger-no-nan (fin s m g) (fin t n d) refl refl
 
 -- below e or a NaN
 pub larger-under : (x y e : Float) → lt (larger x y) e || isNan (larger x y) ≡ (lt x e || isNan x) && (lt y e || isNan y)
-larger-under nan y e = unfold larger lt isNan in refl
-larger-under (inf s) nan e = unfold larger lt isNan in sym (and-true (lt (inf s) e || false))
-larger-under (inf s) (inf t) e = under-both (inf s) (inf t) e (unfold isNan in refl) (unfold isNan in refl)
-larger-under (inf s) (fin t n d) e = under-both (inf s) (fin t n d) e (unfold isNan in refl) (unfold isNan in refl)
-larger-under (fin s m g) nan e = unfold larger lt isNan in sym (and-true (lt (fin s m g) e || false))
-larger-under (fin s m g) (inf t) e = under-both (fin s m g) (inf t) e (unfold isNan in refl) (unfold isNan in refl)
-larger-under (fin s m g) (fin t n d) e = under-both (fin s m g) (fin t n d) e (unfold isNan in refl) (unfold isNan in refl)
+unfolding larger lt isNan
+larger-under nan y e = refl
+larger-under (inf s) nan e = sym (and-true (lt (inf s) e || false))
+larger-under (inf s) (inf t) e = both-under (inf s) (inf t) e refl refl
+larger-under (inf s) (fin t n d) e = both-under (inf s) (fin t n d) e refl refl
+larger-under (fin s m g) nan e = sym (and-true (lt (fin s m g) e || false))
+larger-under (fin s m g) (inf t) e = both-under (fin s m g) (inf t) e refl refl
+larger-under (fin s m g) (fin t n d) e = both-under (fin s m g) (fin t n d) e refl refl
 
 -- a NaN is below nothing
 pub nan-not-below : (x e : Float) → isNan x ≡ true → lt x e ≡ false

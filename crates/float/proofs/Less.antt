@@ -1,15 +1,14 @@
--- Laws of `lt` and `le`: less is irreflexive and asymmetric, "not less" is transitive, and at most is that the other is not less.
--- They are those of the numbers: a finite value is a fraction with a sign. Assumes nothing.
+-- Laws of `lt`, `le` and `eq`: less is irreflexive and asymmetric, "not less" is transitive, at most is that the other is not less, and only a NaN differs from
+-- itself. They are those of the numbers: a finite value is a fraction with a sign. Assumes nothing.
 use mathlib.Core.Path.{_≡_, refl, sym, ap, _∙_}
 use mathlib.Core.Logic.{_⊎_, inl, inr}
-use Prim.Native.Nat.{ℕ, _+_, _*_, _≤_, _<_}
+use Prim.Native.Nat.{ℕ, zero, suc, _+_, _*_, _≤_, _<_}
 use native.Mathlib.Nat.{le-of-eq, le-of-lt, eq-or-lt-of-le, add-comm, add-zero, zero-add, mul-le-mul-right, le-of-mul-le-mul-right, zero-mul}
 use native.Mathlib.Omega.{arith}
-use mathlib.Core.Bool.{Bool, true, false, not, _&&_, _||_, cond, true≢false}
-use lib.Dec.{ltb, leb, eqb}
-use lib.Ieee.{Float, nan, inf, fin, up, down, below, level, lt, le, eq, isNan}
+use mathlib.Core.Bool.{Bool, true, false, not, _&&_, _||_, cond, and-false, or-not-self, Bool·not-not, true≢false}
+use lib.Dec.{ltb, leb, eqb, eqb·zero-suc, eqb·suc-zero}
+use lib.Ieee.{Float, nan, inf, fin, up, down, below, level, lt, le, eq, ne, isNan}
 use lib.Ieee.Fits.{down-pos}
-use lib.Ieee.Exact.{HasValue}
 use borrow.Author.Tests.{not-true, ltb-true, lt-ltb, le-ltb, ltb-false, le-leb, lt-leb, eqb-true, eqb-false, eq-eqb, ne-eqb}
 use Rattle.float.specs.Sign.{isFinite}
 use Rattle.float.proofs.Tests.{must}
@@ -63,7 +62,7 @@ lt-asymmetric (fin s m e) (fin t n d) h =
     let b = n * up d * down e in
     below-is t b s a ∙ le-ltb (gain t b + loss s a) (gain s a + loss t b) (le-of-lt (ltb-true (gain s a + loss t b) (gain t b + loss s a) (sym (below-is s a t b) ∙ h)))
 
--- y / b is at most x / a, and z / c at most y / b
+-- where (y - y') / b is at most (x - x') / a, and (z - z') / c at most (y - y') / b, the third is at most the first
 chain : (x x' a y y' b z z' c : ℕ) → 0 < b → y * a + x' * b ≤ x * b + y' * a → z * b + y' * c ≤ y * c + z' * b → z * a + x' * c ≤ x * c + z' * a
 chain x x' a y y' b z z' c B h k = le-of-mul-le-mul-right {k = b} (omega (arith, mul-le-mul-right c h, mul-le-mul-right a k)) B
 
@@ -79,7 +78,7 @@ not-lt-trans (inf s) (inf true) (fin u l w) n h k = absurd (true≢false k)
 not-lt-trans (inf true) (inf false) (fin u l w) n h k = h
 not-lt-trans (inf false) (inf false) (fin u l w) n h k = refl
 not-lt-trans (inf s) (fin t i g) nan n h k = refl
-not-lt-trans (inf s) (fin t i g) (inf u) n h k = ap (λ (b : Bool). b && not u) h
+not-lt-trans (inf s) (fin t i g) (inf u) n h k = rw h
 not-lt-trans (inf s) (fin t i g) (fin u l w) n h k = h
 not-lt-trans (fin s m e) nan z n h k = absurd (true≢false n)
 not-lt-trans (fin s m e) (inf true) nan n h k = refl
@@ -97,19 +96,18 @@ not-lt-trans (fin s m e) (fin t i g) (fin u l w) n h k =
     cross-is s x (down w) u z (down e) ∙ le-ltb _ _ (chain (gain s x) (loss s x) (down e) (gain t y) (loss t y) (down g) (gain u z) (loss u z) (down w) (down-pos g) first second)
 
 -- ---- at most: the other is not less, where neither is a NaN
-of-two : (t n : Bool) → (n ≡ true → t ≡ false) → (n ≡ false → t ≡ true) → t ≡ not n
-of-two t true f g = f refl
-of-two t false f g = g refl
-
 le-sizes : (a b : ℕ) → ltb a b || (eqb a b && true) ≡ not (ltb b a)
-le-sizes a b = of-two _ (ltb b a) (λ h. above (ltb-true b a h)) (λ h. upto (eq-or-lt-of-le (ltb-false b a h)))
+le-sizes a b = go (ltb b a) refl
   where
-    above : b < a → ltb a b || (eqb a b && true) ≡ false
-    above h = simp (le-ltb a b (le-of-lt h), ne-eqb a b (λ (e : a ≡ b). omega arith))
-
     upto : (a ≡ b) ⊎ (a < b) → ltb a b || (eqb a b && true) ≡ true
     upto (inl h) = simp (le-ltb a b (le-of-eq (sym h)), eq-eqb a b h)
     upto (inr h) = simp (lt-ltb a b h)
+
+    go : (t : Bool) → ltb b a ≡ t → ltb a b || (eqb a b && true) ≡ not t
+    go true h =
+        let above : b < a = ltb-true b a h in
+        simp (le-ltb a b (le-of-lt above), ne-eqb a b (λ (e : a ≡ b). omega arith))
+    go false h = upto (eq-or-lt-of-le (ltb-false b a h))
 
 eqb-swap : (a b : ℕ) → eqb a b ≡ eqb b a
 eqb-swap a b = go (eqb b a) refl
@@ -119,31 +117,16 @@ eqb-swap a b = go (eqb b a) refl
     go false p = ne-eqb a b (λ (e : a ≡ b). eqb-false b a p (sym e))
 
 -- of two unlike signs only zeros are level
-both-zero : (a b : ℕ) → ltb 0 (a + b) ≡ false → eqb a b && (false || eqb a 0) ≡ true
-both-zero a b h =
-    let z : a + b ≤ 0 = ltb-false 0 (a + b) h in
-    simp (eq-eqb a b (omega arith), eq-eqb a 0 (omega arith))
+level-zeros : (a b : ℕ) → eqb a b && (false || eqb a 0) ≡ not (ltb 0 (a + b))
+level-zeros zero zero = refl
+level-zeros zero (suc b) = simp (eqb·zero-suc b, lt-ltb 0 (0 + suc b) (omega arith))
+level-zeros (suc a) b = simp (eqb·suc-zero a, lt-ltb 0 (suc a + b) (omega arith), and-false)
 
-not-both : (a b : ℕ) → ltb 0 (a + b) ≡ true → eqb a b && (false || eqb a 0) ≡ false
-not-both a b h = go (eqb a b) (eqb a 0) refl refl
-  where
-    clash : a ≡ b → a ≡ 0 → ⊥
-    clash p q = omega (arith, ltb-true 0 (a + b) h)
-
-    go : (p q : Bool) → eqb a b ≡ p → eqb a 0 ≡ q → p && (false || q) ≡ false
-    go false q x y = refl
-    go true false x y = refl
-    go true true x y = absurd (clash (eqb-true a b x) (eqb-true a 0 y))
-
-le-signed : (s : Bool) (a : ℕ) (t : Bool) (b : ℕ) → below s a t b || level s a t b ≡ not (below t b s a)
+pub le-signed : (s : Bool) (a : ℕ) (t : Bool) (b : ℕ) → below s a t b || level s a t b ≡ not (below t b s a)
 le-signed false a false b = le-sizes a b
-le-signed false a true b = of-two (level false a true b) (ltb 0 (b + a)) (λ h. not-both a b (ap (ltb 0) (add-comm a b) ∙ h)) (λ h. both-zero a b (ap (ltb 0) (add-comm a b) ∙ h))
-le-signed true a false b = go (ltb 0 (a + b)) refl
-  where
-    go : (p : Bool) → ltb 0 (a + b) ≡ p → p || level true a false b ≡ true
-    go true h = refl
-    go false h = both-zero a b h
-le-signed true a true b = ap (λ (x : Bool). ltb b a || (x && true)) (eqb-swap a b) ∙ le-sizes b a
+le-signed false a true b = level-zeros a b ∙ simp (add-comm a b)
+le-signed true a false b = rw (level-zeros a b) (or-not-self (ltb 0 (a + b)))
+le-signed true a true b = rw (eqb-swap a b) (le-sizes b a)
 
 pub le-is : (x y : Float) → isNan x ≡ false → isNan y ≡ false → le x y ≡ not (lt y x)
 unfolding le lt eq isNan
@@ -182,7 +165,7 @@ le-reflexive x n = le-of-not-lt x x n n (lt-irreflexive x)
 
 pub lt-le : (x y : Float) → lt x y ≡ true → le x y ≡ true
 unfolding le
-lt-le x y h = ap (λ (t : Bool). t || eq x y) h
+lt-le x y h = rw h
 
 pub le-transitive : (x y z : Float) → le x y ≡ true → le y z ≡ true → le x z ≡ true
 le-transitive x y z h k =
@@ -200,22 +183,29 @@ le-lt-trans x y z h k = must (lt x z) (λ p. true≢false (sym k ∙ not-lt-tran
 pub lt-transitive : (x y z : Float) → lt x y ≡ true → lt y z ≡ true → lt x z ≡ true
 lt-transitive x y z h k = lt-le-trans x y z h (lt-le y z k)
 
+-- only a NaN differs from itself
+pub eq-self : (x : Float) → eq x x ≡ not (isNan x)
+unfolding eq isNan
+eq-self nan = refl
+eq-self (inf true) = refl
+eq-self (inf false) = refl
+eq-self (fin true m e) = rw (eq-eqb (m * up e * down e) (m * up e * down e) refl)
+eq-self (fin false m e) = rw (eq-eqb (m * up e * down e) (m * up e * down e) refl)
+
+pub ne-self : (x : Float) → ne x x ≡ isNan x
+unfolding ne
+ne-self x = rw (eq-self x) (Bool·not-not (isNan x))
+
 pub finite-not-nan : (x : Float) → isFinite x ≡ true → isNan x ≡ false
 unfolding isFinite isNan
 finite-not-nan nan h = sym h
 finite-not-nan (inf s) h = refl
 finite-not-nan (fin s m e) h = refl
 
--- ---- for whole numbers, and values that are known
+-- ---- of whole numbers
 pub not-ltb : (a b : ℕ) → not (ltb b a) ≡ leb a b
 not-ltb a b = go (ltb b a) refl
   where
     go : (t : Bool) → ltb b a ≡ t → not t ≡ leb a b
     go true p = sym (lt-leb a b (ltb-true b a p))
     go false p = sym (le-leb a b (ltb-false b a p))
-
-pub value-not-nan : (y : Float) (s : Bool) (a c : ℕ) → HasValue y s a c → isNan y ≡ false
-unfolding isNan
-value-not-nan nan s a c v = absurd v
-value-not-nan (inf t) s a c v = refl
-value-not-nan (fin t m e) s a c v = refl

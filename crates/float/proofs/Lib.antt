@@ -1,4 +1,4 @@
--- Laws that belong to no one function. Callers of other crates use Tests, Less, Orders, Larger, Differences, Bounds and Range.
+-- Laws that belong to no one function. Callers of other crates use Tests, Less, Orders, Larger, Differences, Bounds, Range and Between.
 pub mod Tests
 pub mod Value
 pub mod Less
@@ -7,9 +7,9 @@ pub mod Signs
 pub mod Orders
 pub mod Larger
 pub mod Differences
+pub mod Casts
 pub mod Cut
 pub mod Round
-pub mod Casts
 pub mod Bounds
 pub mod Range
 pub mod Between

@@ -1,9 +1,10 @@
--- `totalOrder` by the tests of `total_cmp`; and that it is a total order of the values that are no NaN: turned round the answer is the other one, less is
--- transitive, and what is Equal is equal as data, since the bits of a value depend on its sign and size alone. Assumes nothing.
+-- `totalOrder` is a total order of the values that are no NaN: turned round the answer is the other one, less is transitive, and what is Equal is equal as
+-- data, since the bits of a value depend on its sign and size alone. Assumes nothing.
 use mathlib.Core.Path.{_≡_, refl, sym, ap, _∙_}
 use mathlib.Core.Logic.{_⊎_, inl, inr}
 use Prim.Native.Nat.{ℕ, _+_, _-_, _*_, _/_, _^_}
-use native.Mathlib.Nat.{le-antisymm, mul-right-comm}
+use native.Mathlib.Nat.{le-antisymm}
+use native.Mathlib.Omega.{arith}
 use mathlib.Core.Bool.{Bool, true, false, not, _&&_, cond, true≢false}
 use lib.IntN.{ℤ}
 use lib.Dec.{T}
@@ -18,44 +19,12 @@ use Rattle.float.proofs.Less.{lt-irreflexive, lt-asymmetric, lt-transit
 use Rattle.float.specs.declared.order.Ordering.{Ordering}
 use Rattle.float.specs.declared.order.Ordering.the-variants.{Less, Equal, Greater}
 
--- ---- by the tests of `total_cmp`
-sign-less : (s t : Bool) → s && not t ≡ true → signOrder s t ≡ Less
-sign-less true true h = absurd (true≢false (sym h))
-sign-less true false h = refl
-sign-less false t h = absurd (true≢false (sym h))
-
-sign-greater : (s t : Bool) → t && not s ≡ true → signOrder s t ≡ Greater
-sign-greater true true h = absurd (true≢false (sym h))
-sign-greater false true h = refl
-sign-greater s false h = absurd (true≢false (sym h))
-
-sign-equal : (s t : Bool) → s && not t ≡ false → t && not s ≡ false → signOrder s t ≡ Equal
-sign-equal true true h k = refl
-sign-equal true false h k = absurd (true≢false h)
-sign-equal false true h k = absurd (true≢false k)
-sign-equal false false h k = refl
-
-pub order-less : (x y : Float) → lt x y ≡ true → Less ≡ totalOrder x y
-unfolding totalOrder
-order-less x y h = simp h
-
-pub order-greater : (x y : Float) → lt x y ≡ false → lt y x ≡ true → Greater ≡ totalOrder x y
-unfolding totalOrder
-order-greater x y h k = simp (h, k)
-
--- where neither is less, the signs decide
-module _ (x y : Float) (h : lt x y ≡ false) (k : lt y x ≡ false) {s t : Bool} (p : s ≡ negative x) (q : t ≡ negative y) where
-  pub zeros-less : s && not t ≡ true → Less ≡ totalOrder x y
-  unfolding totalOrder
-  zeros-less l = simp (h, k, ← p, ← q) (sym (sign-less s t l))
-
-  pub zeros-greater : t && not s ≡ true → Greater ≡ totalOrder x y
-  unfolding totalOrder
-  zeros-greater l = simp (h, k, ← p, ← q) (sym (sign-greater s t l))
-
-  pub zeros-equal : s && not t ≡ false → t && not s ≡ false → Equal ≡ totalOrder x y
-  unfolding totalOrder
-  zeros-equal l m = simp (h, k, ← p, ← q) (sym (sign-equal s t l m))
+-- ---- the order of the signs, by the tests of `total_cmp`
+pub sign-is : (s t : Bool) → signOrder s t ≡ cond (s && not t) Less (cond (t && not s) Greater Equal)
+sign-is true true = refl
+sign-is true false = refl
+sign-is false true = refl
+sign-is false false = refl
 
 -- ---- turned round, the answer is the other one
 abbrev pub flip : Ordering → Ordering
@@ -83,47 +52,45 @@ pub greater-less : (x y : Float) → totalOrder x y ≡ Greater → totalOrder y
 greater-less x y h = order-flip x y ∙ ap flip h
 
 -- ---- what an answer says
+-- neither is less
 abbrev Level : Float → Float → Type 0
 Level x y = (lt x y ≡ false) × (lt y x ≡ false)
 
-abbrev isLess : Ordering → Bool
-isLess Less = true
-isLess Equal = false
-isLess Greater = false
+-- x is less, or neither is and x alone is negative
+abbrev Before : Float → Float → Type 0
+Before x y = (lt x y ≡ true) ⊎ (Level x y × (negative x ≡ true) × (negative y ≡ false))
 
-abbrev isEqual : Ordering → Bool
-isEqual Less = false
-isEqual Equal = true
-isEqual Greater = false
-
-less-says : (x y : Float) → totalOrder x y ≡ Less → (lt x y ≡ true) ⊎ (Level x y × (negative x ≡ true) × (negative y ≡ false))
+less-says : (x y : Float) → totalOrder x y ≡ Less → Before x y
 unfolding totalOrder
 less-says x y = go (lt x y) (lt y x) (negative x) (negative y)
   where
     go : (p q s t : Bool) → cond p Less (cond q Greater (signOrder s t)) ≡ Less → (p ≡ true) ⊎ (((p ≡ false) × (q ≡ false)) × (s ≡ true) × (t ≡ false))
     go true q s t h = inl refl
-    go false true s t h = absurd (true≢false (sym (ap isLess h)))
-    go false false true true h = absurd (true≢false (sym (ap isLess h)))
+    go false true s t h = absurd (true≢false (cc))
+    go false false true true h = absurd (true≢false (cc))
     go false false true false h = inr ((refl, refl), refl, refl)
-    go false false false true h = absurd (true≢false (sym (ap isLess h)))
-    go false false false false h = absurd (true≢false (sym (ap isLess h)))
+    go false false false true h = absurd (true≢false (cc))
+    go false false false false h = absurd (true≢false (cc))
 
 equal-says : (x y : Float) → totalOrder x y ≡ Equal → Level x y × (negative x ≡ negative y)
 unfolding totalOrder
 equal-says x y = go (lt x y) (lt y x) (negative x) (negative y)
   where
     go : (p q s t : Bool) → cond p Less (cond q Greater (signOrder s t)) ≡ Equal → ((p ≡ false) × (q ≡ false)) × (s ≡ t)
-    go true q s t h = absurd (true≢false (sym (ap isEqual h)))
-    go false true s t h = absurd (true≢false (sym (ap isEqual h)))
+    go true q s t h = absurd (true≢false (cc))
+    go false true s t h = absurd (true≢false (cc))
     go false false true true h = ((refl, refl), refl)
-    go false false true false h = absurd (true≢false (sym (ap isEqual h)))
-    go false false false true h = absurd (true≢false (sym (ap isEqual h)))
+    go false false true false h = absurd (true≢false (cc))
+    go false false false true h = absurd (true≢false (cc))
     go false false false false h = ((refl, refl), refl)
 
 -- ---- transitive
--- where y and x are level, the one is less than z where the other is
+-- where x and y are level, each stands to z as the other does
 lt-level : (x y z : Float) → isNan x ≡ false → isNan y ≡ false → Level x y → (lt x z ≡ lt y z) × (lt z x ≡ lt z y)
-lt-level x y z m n l = (same (lt x z) (lt y z) (not-lt-trans y x z m (l .1)) (not-lt-trans x y z n (l .0)), same (lt z x) (lt z y) (λ h. not-lt-trans z x y m h (l .0)) (λ h. not-lt-trans z y x n h (l .1)))
+lt-level x y z m n l = (
+  same (lt x z) (lt y z) (not-lt-trans y x z m (l .1)) (not-lt-trans x y z n (l .0)),
+  same (lt z x) (lt z y) (λ h. not-lt-trans z x y m h (l .0)) (λ h. not-lt-trans z y x n h (l .1)),
+)
   where
     same : (s t : Bool) → (s ≡ false → t ≡ false) → (t ≡ false → s ≡ false) → s ≡ t
     same true true f g = refl
@@ -140,13 +107,17 @@ order-equal-left x y z m n h =
 pub order-equal-right : (x y z : Float) → isNan y ≡ false → isNan z ≡ false → totalOrder y z ≡ Equal → totalOrder x y ≡ totalOrder x z
 order-equal-right x y z m n h = order-flip y x ∙ ap flip (order-equal-left y z x m n h) ∙ sym (order-flip z x)
 
+order-less : (x y : Float) → lt x y ≡ true → totalOrder x y ≡ Less
+unfolding totalOrder
+order-less x y h = simp h
+
 pub less-transitive : (x y z : Float) → isNan x ≡ false → isNan y ≡ false → isNan z ≡ false → totalOrder x y ≡ Less → totalOrder y z ≡ Less → totalOrder x z ≡ Less
 less-transitive x y z l m n h k = go (less-says x y h) (less-says y z k)
   where
-    go : (lt x y ≡ true) ⊎ (Level x y × (negative x ≡ true) × (negative y ≡ false)) → (lt y z ≡ true) ⊎ (Level y z × (negative y ≡ true) × (negative z ≡ false)) → totalOrder x z ≡ Less
-    go (inl p) (inl q) = sym (order-less x z (lt-transitive x y z p q))
-    go (inl p) (inr q) = sym (order-less x z (sym (lt-level y z x m n (q .0) .1) ∙ p))
-    go (inr p) (inl q) = sym (order-less x z (lt-level x y z l m (p .0) .0 ∙ q))
+    go : Before x y → Before y z → totalOrder x z ≡ Less
+    go (inl p) (inl q) = order-less x z (lt-transitive x y z p q)
+    go (inl p) (inr q) = order-less x z (sym (lt-level y z x m n (q .0) .1) ∙ p)
+    go (inr p) (inl q) = order-less x z (lt-level x y z l m (p .0) .0 ∙ q)
     go (inr p) (inr q) = absurd (true≢false (sym (q .1) ∙ p .2))
 
 -- a stable sort by "less" needs it so: what does not come before y, which does not come before x, does not come before x
@@ -168,10 +139,13 @@ bits-are s m e = refl
 
 same-data : (s : Bool) (m : ℕ) (e : ℤ) (n : ℕ) (d : ℤ) → T (fits binary64 (fin s m e)) → T (fits binary64 (fin s n d)) → m * up e * down d ≡ n * up d * down e → fin s m e ≡ fin s n d
 same-data s m e n d f g h =
-    let units : m * up e * 2 ^ 1074 / down e ≡ n * up d * 2 ^ 1074 / down d =
-    div-same (m * up e * 2 ^ 1074) (down e) (n * up d * 2 ^ 1074) (down d) (down-pos e) (down-pos d)
-    (mul-right-comm (m * up e) (2 ^ 1074) (down d) ∙ ap (λ (x : ℕ). x * 2 ^ 1074) h ∙ mul-right-comm (n * up d) (down e) (2 ^ 1074)) in
+    let a = m * up e * 2 ^ 1074 in
+    let b = n * up d * 2 ^ 1074 in
+    let units : a / down e ≡ b / down d = div-same a (down e) b (down d) (down-pos e) (down-pos d) (scaled (m * up e) (n * up d) (2 ^ 1074) (down d) (down e) h) in
     sym (ofBits-toBits binary64 (fin s m e) f) ∙ ap (ofBits binary64) (bits-are s m e ∙ ap (bits s) units ∙ sym (bits-are s n d)) ∙ ofBits-toBits binary64 (fin s n d) g
+  where
+    scaled : (x y p d e : ℕ) → x * d ≡ y * e → x * p * d ≡ y * p * e
+    scaled x y p d e h = omega (arith, ap (λ (z : ℕ). z * p) h)
 
 same-size : (s : Bool) (a b : ℕ) → below s a s b ≡ false → below s b s a ≡ false → a ≡ b
 same-size true a b h k = le-antisymm (ltb-false b a h) (ltb-false a b k)

@@ -1,37 +1,37 @@
 -- A value between 0 and a count n can be cut to a whole number, which is at most n: it lies above -1 and below 2^64. Assumes nothing.
-use mathlib.Core.Path.{_≡_, refl, sym, _∙_, subst}
+use mathlib.Core.Path.{_≡_, refl, sym, _∙_}
 use Prim.Native.Nat.{ℕ, _-_, _*_, _/_, _^_, _≤_, _<_}
-use native.Mathlib.Nat.{le-trans, le-of-eq, mul-comm, div-le-of-le-mul}
+use native.Mathlib.Nat.{le-trans, le-of-eq, mul-comm, div-le-of-le-mul, min-le-left}
 use native.Mathlib.Omega.{arith}
 use mathlib.Core.Bool.{true, false, true≢false}
 use lib.IntN.{pos}
-use lib.Dec.{T}
 use lib.Ieee.{Float, nan, inf, fin, up, down, lt, le, ofBits, toUnsigned}
 use borrow.Author.Tests.{lt-ltb}
 use Rattle.float.specs.Consts.{zero64}
 use Rattle.float.specs.Cast.{natFloat}
 use Rattle.float.proofs.Value.{whole-lt}
 use Rattle.float.proofs.Less.{not-lt-of-le, lt-le-trans, le-lt-trans}
-use Rattle.float.proofs.Bounds.{nat-value, inside, most, min-le}
+use Rattle.float.proofs.Casts.{Asked, asked}
+use Rattle.float.proofs.Bounds.{nat-value, nat-finite, inside, most}
 
 -- what `std::num::truncating_f64_to_u64` asks of y, and a bound on what it gives
 abbrev pub Counted : Float → ℕ → Type 0
-Counted y n = (T (lt (fin true 1 (pos 0)) y) × T (lt y (fin false 1 (pos 64)))) × (toUnsigned 64 y ≤ n)
+Counted y n = Asked y × (toUnsigned 64 y ≤ n)
 
 -- cut toward zero, a value that is not above n is at most n
 cut-at-most : (y : Float) (n : ℕ) → n ≤ 2 ^ 53 → lt (natFloat n) y ≡ false → toUnsigned 64 y ≤ n
 unfolding toUnsigned
 cut-at-most nan n h l = omega arith
 cut-at-most (inf true) n h l = omega arith
-cut-at-most (inf false) n h l = absurd (true≢false (sym (inside (natFloat n) false n 1 (nat-value n h) .0) ∙ l))
+cut-at-most (inf false) n h l = absurd (true≢false (sym (inside (natFloat n) (nat-finite n h) .0) ∙ l))
 cut-at-most (fin true m e) n h l = omega arith
-cut-at-most (fin false m e) n h l = min-le (m * up e / down e) (2 ^ 64 - 1) n (div-le-of-le-mul (down e) (le-trans (most m e n h l) (le-of-eq (mul-comm n (down e)))))
+cut-at-most (fin false m e) n h l = le-trans (min-le-left (m * up e / down e) (2 ^ 64 - 1)) (div-le-of-le-mul (down e) (le-trans (most m e n h l) (le-of-eq (mul-comm n (down e)))))
 
 pub counted : (y : Float) (n : ℕ) → n ≤ 2 ^ 53 → le zero64 y ≡ true → le y (natFloat n) ≡ true → Counted y n
 counted y n h lo hi =
     let above : lt (fin true 1 (pos 0)) y ≡ true = lt-le-trans (fin true 1 (pos 0)) zero64 y (unfold lt ofBits in refl) lo in
-    let below : lt y (fin false 1 (pos 64)) ≡ true = le-lt-trans y (natFloat n) (fin false 1 (pos 64)) hi (whole-lt 1 (pos 64) n (natFloat n) (nat-value n h) ∙ lt-ltb (n * 1) (1 * 2 ^ 64) (few n h)) in
-    ((subst T (sym above) tt, subst T (sym below) tt), cut-at-most y n h (not-lt-of-le y (natFloat n) hi))
+    let few : lt (natFloat n) (fin false 1 (pos 64)) ≡ true = whole-lt 1 (pos 64) n (natFloat n) (nat-value n h) ∙ lt-ltb (n * 1) (1 * 2 ^ 64) (small n h) in
+    (asked y above (le-lt-trans y (natFloat n) (fin false 1 (pos 64)) hi few), cut-at-most y n h (not-lt-of-le y (natFloat n) hi))
   where
-    few : (k : ℕ) → k ≤ 9007199254740992 → k * 1 < 18446744073709551616
-    few k l = omega arith
+    small : (k : ℕ) → k ≤ 9007199254740992 → k * 1 < 18446744073709551616
+    small k l = omega arith

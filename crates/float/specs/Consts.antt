@@ -12,8 +12,10 @@ tau = ofBits binary64 0x401921FB54442D18
 unfoldable pub sqrt2 : Float
 sqrt2 = ofBits binary64 0x3FF6A09E667F3BCD
 
+-- +0
 abbrev pub zero64 : Float
 zero64 = ofBits binary64 0
 
+-- 1
 abbrev pub one64 : Float
 one64 = ofBits binary64 0x3FF0000000000000

@@ -3,8 +3,8 @@ use Prim.Native.Nat.{ℕ, zero, suc, _+_, _*_, _/_, _%_, _≤_, _<_}
 use native.Mathlib.Nat.{mul-le-mul}
 use native.Mathlib.Omega.{arith}
 use native.Mathlib.Numerals.{add-one}
-use mathlib.Core.Path.{_≡_, refl, subst}
-use mathlib.Core.Bool.{Bool, true, false, _&&_}
+use mathlib.Core.Path.{_≡_, refl}
+use mathlib.Core.Bool.{Bool, true, false, _&&_, true≢false}
 use mathlib.Core.List.{List, [], _∷_}
 use lib.Arith.{digits-lt, digits-div, digits-mod}
 use lib.Dec.{leb}
@@ -22,6 +22,7 @@ use Rattle.refusal.specs.declared.Refusal.the-variants.{Steps, Length, Coordina
 use Rattle.refusal.specs.Refusals.{unless, andThen}
 use Rattle.grid.specs.Grid.{pointNumber, stepsFit, lengthFits, maxCoordinate, coordinatesFit, gridCheck, Accepted}
 
+-- M and N from 1 to 255, and so at most 2^16 points
 pub record Stepped (m n : ℕ) : Type 0 where
   pub m-least : 1 ≤ m
   pub m-most : m ≤ 255
@@ -29,22 +30,22 @@ pub record Stepped (m n : ℕ) : Type 0 where
   pub n-most : n ≤ 255
   pub points : (m + 1) * (n + 1) ≤ 65536
 
+-- such M and N, and a list that has three numbers for each point
 pub record Shaped (g : List Float) (m n : ℕ) : Type 0 where
   pub steps : Stepped m n
   pub size : length g ≡ 3 * ((m + 1) * (n + 1))
 
--- both of two tests that pass
+-- where tests pass one after the other, each of them passes
 pub unless-passed : (t : Bool) (k : Refusal) (after : Check) → unless t k after ≡ Passed → (t ≡ true) × (after ≡ Passed)
 unless-passed true k after h = (refl, h)
-unless-passed false k after h = let z : _≡_ {A = ℕ} 0 1 = cc in absurd (omega arith)
+unless-passed false k after h = absurd (true≢false (cc))
 
 pub then-passed : (c after : Check) → andThen c after ≡ Passed → (c ≡ Passed) × (after ≡ Passed)
 then-passed Passed after h = (refl, h)
-then-passed (Failed k) after h = let z : _≡_ {A = ℕ} 0 1 = cc in absurd (omega arith)
+then-passed (Failed k) after h = absurd (true≢false (cc))
 
 -- M and N
 
--- at most 2^16 points
 pub points-most : (m n : ℕ) → m ≤ 255 → n ≤ 255 → (m + 1) * (n + 1) ≤ 65536
 points-most m n hm hn = mul-le-mul {n₂ = 256} {m₂ = 256} (omega arith) (omega arith)
 
@@ -80,7 +81,7 @@ grid-passed g m n between h =
 
 -- a grid that passes in a call is accepted
 pub grid-accepted : (g : List Float) (m n : ℕ) (between : Check) → gridCheck g m n between ≡ Passed → Accepted g m n
-grid-accepted g m n between h = subst (λ (c : Check). gridCheck g m n c ≡ Passed) (grid-passed g m n between h .own) h
+grid-accepted g m n between h = rw (grid-passed g m n between h .own) at h
 
 pub accepted-known : (g : List Float) (m n : ℕ) → Accepted g m n → Shaped g m n
 accepted-known g m n h = grid-passed g m n Passed h .shaped
@@ -97,11 +98,12 @@ steps-twice g m n between = go (stepsFit m n)
 
 -- Coordinates
 
--- one coordinate on
+-- from place i on they fit where the coordinate at i fits and those from i + 1 on do
 pub coordinates-step : (g : List Float) (i : ℕ) (d : Float) → i < length g → coordinatesFit (drop i g) ≡ (atMost (getD g i d) maxCoordinate && coordinatesFit (drop (i + 1) g))
 unfolding coordinatesFit
 coordinates-step g i d h = rw (add-one, drop-cons g i d)
 
+-- each coordinate is at most 2^40 in magnitude, and so it is finite
 pub coordinate-fits : (g : List Float) (i : ℕ) (d : Float) → coordinatesFit g ≡ true → i < length g → atMost (getD g i d) maxCoordinate ≡ true
 unfolding coordinatesFit
 coordinate-fits [] i d h l = absurd (omega arith)
@@ -114,12 +116,14 @@ coordinate-finite g i d h l = at-most-finite (getD g i d) maxCoordinate refl (co
 
 -- Point numbers
 
+-- (u, v) is one of the points, and its three coordinates stand in the list
 pub point-below : (m n u v : ℕ) → u ≤ m → v ≤ n → pointNumber n u v < (m + 1) * (n + 1)
 point-below m n u v hu hv = digits-lt (omega arith) (omega arith)
 
 pub point-inside : (g : List Float) (m n u v : ℕ) → Shaped g m n → u ≤ m → v ≤ n → 3 * pointNumber n u v + 3 ≤ length g
 point-inside g m n u v s hu hv = omega (arith, point-below m n u v hu hv)
 
+-- u and v from the number
 pub point-u : (n u v : ℕ) → v ≤ n → pointNumber n u v / (n + 1) ≡ u
 point-u n u v h = digits-div u (omega arith)
 

@@ -1,17 +1,16 @@
 -- `allClose` as `all_close` tests it, and its laws. The largest of three is below EPS where each is, but `larger` leaves a NaN out: so a NaN difference
 -- is passed over, and only three of them are never close. Assumes nothing.
-use Prim.Native.Nat.{_*_}
-use mathlib.Core.Path.{_≡_, refl, sym, ap, _∙_}
+use mathlib.Core.Path.{_≡_, refl, sym, _∙_}
 use mathlib.Core.Bool.{Bool, true, false, not, _&&_, _||_, or-true, or-false, and-true, and-false, true≢false}
-use lib.Ieee.{Float, nan, inf, fin, up, down, lt, le, eq, neg, ofBits, isNan}
-use borrow.Author.Tests.{eq-eqb}
+use lib.Ieee.{Float, nan, lt, le, eq, neg, ofBits, isNan}
 use Rattle.float.specs.Consts.{eps, zero64, one64}
 use Rattle.float.specs.Sign.{absolute, isFinite}
 use Rattle.float.specs.Order.{larger}
 use Rattle.float.specs.Table.{computed}
 use Rattle.float.proofs.Tests.{and-both, cannot}
-use Rattle.float.proofs.Less.{le-is, le-not-nan}
-use Rattle.float.proofs.Differences.{sub-swap, sub-not-nan, sub-self-close, within-eps}
+use Rattle.float.proofs.Less.{le-is, le-not-nan, eq-self}
+use Rattle.float.proofs.Differences.{sub-swap, sub-not-nan, sub-self-close}
+use Rattle.float.proofs.Between.{abs-below}
 use Rattle.float.proofs.Larger.{abs-nan, larger-nan, larger-under, nan-not-below}
 use Rattle.vector.specs.declared.Vector.{Vector}
 use Rattle.vector.specs.Vectors.{vector, minus, absolutes, largest, allClose}
@@ -21,11 +20,15 @@ pub close-symmetric : (a b : Vector) → allClose a b ≡ allClose b a
 unfolding allClose
 close-symmetric a b = simp (sub-swap (a .x) (b .x), sub-swap (a .y) (b .y), sub-swap (a .z) (b .z))
 
--- ---- what a difference has to be: below EPS in magnitude, or a NaN
+-- ---- what one difference has to be: below EPS in magnitude, or a NaN
 abbrev pub passes : Float → Bool
 passes d = lt (absolute d) eps || isNan d
 
-largest-below : (d : Vector) → lt (largest (absolutes d)) eps ≡ (passes (d .x) && passes (d .y) && passes (d .z)) && not (isNan (d .x) && isNan (d .y) && isNan (d .z))
+-- what their difference has to be for points to be close: each component passes, and not all three are NaNs
+abbrev pub closeBy : Vector → Bool
+closeBy d = (passes (d .x) && passes (d .y) && passes (d .z)) && not (isNan (d .x) && isNan (d .y) && isNan (d .z))
+
+largest-below : (d : Vector) → lt (largest (absolutes d)) eps ≡ closeBy d
 largest-below d =
     let p = absolute (d .x) in
     let q = absolute (d .y) in
@@ -33,7 +36,7 @@ largest-below d =
     let l = larger (larger p q) r in
     let under : lt l eps || isNan l ≡ passes (d .x) && passes (d .y) && passes (d .z) = larger-under (larger p q) r eps ∙ simp (larger-under p q eps, abs-nan) in
     let none : isNan l ≡ isNan (d .x) && isNan (d .y) && isNan (d .z) = larger-nan (larger p q) r ∙ simp (larger-nan p q, abs-nan) in
-    split (lt l eps) (isNan l) (nan-not-below l eps) ∙ ap (λ (t : Bool). t && not (isNan l)) under ∙ ap (λ (t : Bool). (passes (d .x) && passes (d .y) && passes (d .z)) && not t) none
+    split (lt l eps) (isNan l) (nan-not-below l eps) ∙ rw (under, none)
   where
     split : (u n : Bool) → (n ≡ true → u ≡ false) → u ≡ (u || n) && not n
     split true true h = absurd (true≢false (h refl))
@@ -41,12 +44,12 @@ largest-below d =
     split false true h = refl
     split false false h = refl
 
--- close: each difference passes, and not all three are NaNs
-pub close-by : (a b : Vector) → allClose a b ≡ (passes (minus a b .x) && passes (minus a b .y) && passes (minus a b .z)) && not (isNan (minus a b .x) && isNan (minus a b .y) && isNan (minus a b .z))
+pub close-by : (a b : Vector) → allClose a b ≡ closeBy (minus a b)
 unfolding allClose
 close-by a b = largest-below (minus a b)
 
 -- ---- as `all_close` tests it
+-- no value is at most a NaN, nor a NaN at most a value
 not-le-nan : (x y : Float) → isNan y ≡ true → (le x y ≡ false) × (le y x ≡ false)
 not-le-nan x y h = (cannot (le x y) (λ e. true≢false (sym h ∙ le-not-nan x y e .1)), cannot (le y x) (λ e. true≢false (sym h ∙ le-not-nan y x e .0)))
 
@@ -54,6 +57,7 @@ eps-not-nan : (isNan eps ≡ false) × (isNan (neg eps) ≡ false)
 unfolding eps ofBits neg isNan
 eps-not-nan = (refl, refl)
 
+-- EPS or more in magnitude is what does not pass
 pub apart-is : (d : Float) → le eps d || le d (neg eps) ≡ not (passes d)
 apart-is d = go (isNan d) refl
   where
@@ -65,33 +69,23 @@ apart-is d = go (isNan d) refl
 
     go : (t : Bool) → isNan d ≡ t → le eps d || le d (neg eps) ≡ not (lt (absolute d) eps || t)
     go true h = simp (not-le-nan eps d h .0, not-le-nan (neg eps) d h .1, or-true)
-    go false h = simp (le-is eps d (eps-not-nan .0) h, le-is d (neg eps) h (eps-not-nan .1), within-eps d) (both (lt d eps) (lt (neg eps) d))
-
-self-equal : (x : Float) → eq x x ≡ not (isNan x)
-unfolding eq isNan
-self-equal nan = refl
-self-equal (inf true) = refl
-self-equal (inf false) = refl
-self-equal (fin true m e) = rw (eq-eqb (m * up e * down e) (m * up e * down e) refl)
-self-equal (fin false m e) = rw (eq-eqb (m * up e * down e) (m * up e * down e) refl)
+    go false h = simp (le-is eps d (eps-not-nan .0) h, le-is d (neg eps) h (eps-not-nan .1), abs-below d eps) (both (lt d eps) (lt (neg eps) d))
 
 module _ (a b d : Vector) (e : d ≡ minus a b) where
-  close-differences : allClose a b ≡ (passes (d .x) && passes (d .y) && passes (d .z)) && not (isNan (d .x) && isNan (d .y) && isNan (d .z))
+  close-differences : allClose a b ≡ closeBy d
   close-differences = rw e (close-by a b)
 
   pub apart-first : passes (d .x) ≡ false → false ≡ allClose a b
-  apart-first h = sym (close-differences ∙ simp h)
+  apart-first h = simp (close-differences, h)
 
   pub apart-second : passes (d .y) ≡ false → false ≡ allClose a b
-  apart-second h = sym (close-differences ∙ simp (h, and-false))
+  apart-second h = simp (close-differences, h, and-false)
 
   pub apart-third : passes (d .z) ≡ false → false ≡ allClose a b
-  apart-third h = sym (close-differences ∙ simp (h, and-false))
+  apart-third h = simp (close-differences, h, and-false)
 
   pub none-apart : passes (d .x) ≡ true → passes (d .y) ≡ true → passes (d .z) ≡ true → eq (d .x) (d .x) || eq (d .y) (d .y) || eq (d .z) (d .z) ≡ allClose a b
-  none-apart h k l =
-      let ordered : eq (d .x) (d .x) || eq (d .y) (d .y) || eq (d .z) (d .z) ≡ not (isNan (d .x) && isNan (d .y) && isNan (d .z)) = simp (self-equal (d .x), self-equal (d .y), self-equal (d .z)) (either (isNan (d .x)) (isNan (d .y)) (isNan (d .z))) in
-      ordered ∙ sym (close-differences ∙ simp (h, k, l))
+  none-apart h k l = simp (eq-self, close-differences, h, k, l) (either (isNan (d .x)) (isNan (d .y)) (isNan (d .z)))
     where
       either : (p q r : Bool) → not p || not q || not r ≡ not (p && q && r)
       either true true r = refl
@@ -104,7 +98,7 @@ within d = lt (neg eps) d && lt d eps
 
 within-below : (d : Float) → within d ≡ true → (lt (absolute d) eps ≡ true) × (isNan d ≡ false)
 within-below d h =
-    let below : lt (absolute d) eps ≡ true = within-eps d ∙ h in
+    let below : lt (absolute d) eps ≡ true = abs-below d eps ∙ h in
     (below, cannot (isNan d) (λ e. true≢false (sym below ∙ nan-not-below (absolute d) eps (abs-nan d ∙ e))))
 
 pub close-within : (a b d : Vector) → d ≡ minus a b → (within (d .x) && within (d .y)) && within (d .z) ≡ true → allClose a b ≡ true

@@ -1,32 +1,39 @@
--- `float::order::total_cmp` meets its contract: its tests are those of `totalOrder`, in its order (proofs/Orders.antt). Assumes nothing.
+-- `float::order::total_cmp` meets its contract: each branch rewrites `totalOrder` by the tests that led there, the last two of which decide by the signs
+-- (proofs/Orders.antt). Assumes nothing.
 use borrow.Author.Needs.{needs}
-use Rattle.float.proofs.Orders.{order-less, order-greater, zeros-less, zeros-greater, zeros-equal}
+use Rattle.float.specs.Order.{totalOrder}
+use Rattle.float.proofs.Orders.{sign-is}
 use Rattle.float.proofs.order.total_cmp.Statement.{statement}
 use Rattle.float.proofs.order.total_cmp.Tie as tie
 
 returns : tie.Need-returns
-returns c = order-less (c .before .args .x) (c .before .args .y) (c .if1 .taken)
+unfolding totalOrder
+returns c = simp (c .if1 .taken)
 
 returns-2 : tie.Need-returns-2
-returns-2 c = order-greater (c .before .before .args .x) (c .before .before .args .y) (c .before .if1 .left) (c .if2 .taken)
+unfolding totalOrder
+returns-2 c = simp (c .before .if1 .left, c .if2 .taken)
 
 returns-3 : tie.Need-returns-3
+unfolding totalOrder
 returns-3 c =
-    let n = c .before .before .before in
-    let a = n .before .before .args in
-    zeros-less (a .x) (a .y) (n .before .if1 .left) (n .if2 .left) (c .before .before .is-negative .ensures) (c .before .is-negative2 .ensures) (c .if3 .taken)
+    let y = c .before in
+    let x = y .before in
+    simp (x .before .before .if1 .left, x .before .if2 .left, ← x .is-negative .ensures, ← y .is-negative2 .ensures, sign-is, c .if3 .taken)
 
 returns-4 : tie.Need-returns-4
+unfolding totalOrder
 returns-4 c =
-    let n = c .before .before .before .before in
-    let a = n .before .before .args in
-    zeros-greater (a .x) (a .y) (n .before .if1 .left) (n .if2 .left) (c .before .before .before .is-negative .ensures) (c .before .before .is-negative2 .ensures) (c .if4 .taken)
+    let y = c .before .before in
+    let x = y .before in
+    simp (x .before .before .if1 .left, x .before .if2 .left, ← x .is-negative .ensures, ← y .is-negative2 .ensures, sign-is, c .before .if3 .left, c .if4 .taken)
 
 returns-5 : tie.Need-returns-5
+unfolding totalOrder
 returns-5 c =
-    let n = c .before .before .before .before in
-    let a = n .before .before .args in
-    zeros-equal (a .x) (a .y) (n .before .if1 .left) (n .if2 .left) (c .before .before .before .is-negative .ensures) (c .before .before .is-negative2 .ensures) (c .before .if3 .left) (c .if4 .left)
+    let y = c .before .before in
+    let x = y .before in
+    simp (x .before .before .if1 .left, x .before .if2 .left, ← x .is-negative .ensures, ← y .is-negative2 .ensures, sign-is, c .before .if3 .left, c .if4 .left)
 
 pub total-cmp-spec : {M : Type 1} → statement M
 total-cmp-spec = tie.close (tie.spec returns returns-2 (λ c κs. search needs) (λ c κs. search needs) returns-3 returns-4 returns-5)

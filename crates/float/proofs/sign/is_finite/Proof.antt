@@ -1,14 +1,11 @@
 -- `float::sign::is_finite` meets its contract: a magnitude is below the infinity where the value is finite (proofs/Signs.antt). Assumes nothing.
-use mathlib.Core.Path.{ap, _∙_}
-use lib.Ieee.{Float, binary64, div, lt}
 use borrow.Author.Needs.{needs}
-use Rattle.float.specs.Consts.{zero64, one64}
 use Rattle.float.proofs.Signs.{finite-is}
 use Rattle.float.proofs.sign.is_finite.Statement.{statement}
 use Rattle.float.proofs.sign.is_finite.Tie as tie
 
 returns : tie.Need-returns
-returns c = ap (λ (y : Float). lt y (div binary64 one64 zero64)) (c .abs .ensures) ∙ finite-is (c .before .args .x)
+returns c = rw (c .abs .ensures) (finite-is (c .before .args .x))
 
 pub is-finite-spec : {M : Type 1} → statement M
 is-finite-spec = tie.close (tie.spec (λ c κs. search needs) returns)

@@ -9,7 +9,7 @@ returns : tie.Need-returns
 returns c = sym (below-zero (c .before .args .x) (c .if1 .taken))
 
 returns-2 : tie.Need-returns-2
-returns-2 c = zero-sign (c .before .before .args .x) (c .before .if1 .left) (c .if2 .taken)
+returns-2 c = zero-sign (c .before .before .args .x) (c .if2 .taken)
 
 returns-3 : tie.Need-returns-3
 returns-3 c = sym (not-below (c .before .before .args .x) (c .before .if1 .left) (c .if2 .left))

@@ -1,7 +1,5 @@
 -- `float::whole::ceil_i64` meets its contract: in the range it is the cut toward zero or one above it, and out of it the end of the range (proofs/Cut.antt).
 -- Assumes nothing.
-use mathlib.Core.Path.{sym, subst}
-use lib.Dec.{T}
 use lib.Ieee.{ofBits, neg}
 use borrow.Author.Needs.{needs}
 use Rattle.float.proofs.Cut.{Cut, kept, kept-is, cut-of, high-end, low-end, nan-end}
@@ -10,7 +8,7 @@ use Rattle.float.proofs.whole.ceil_i64.Tie as tie
 
 truncating-f64-to-i64-requires : tie.Need-truncating-f64-to-i64-requires
 unfolding ofBits neg
-truncating-f64-to-i64-requires c κs = (subst T (sym (c .before .if1 .taken)) tt, subst T (sym (c .if2 .taken)) tt)
+truncating-f64-to-i64-requires c κs = (rw (c .before .if1 .taken) tt, rw (c .if2 .taken) tt)
 
 cut : (c : tie.After-nearest-i64-to-f64) → Cut (c .before .before .before .before .args .x) (kept (c .before .truncating-f64-to-i64 .result)) (c .nearest-i64-to-f64 .result)
 unfolding ofBits neg
