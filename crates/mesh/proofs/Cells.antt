@@ -1,11 +1,12 @@
 -- The triangles of a cell among all: which slots are its, and what is kept after them. Assumes nothing.
-use Prim.Native.Nat.{ℕ, suc, _+_, _*_, _/_, _%_, _≤_, _<_}
+use Prim.Native.Nat.{ℕ, _+_, _*_, _/_, _%_, _≤_, _<_}
 use mathlib.Core.Path.{_≡_, sym, ap, _∙_}
 use mathlib.Core.Logic.{⊎-elim}
 use mathlib.Core.Bool.{true, false, cond}
 use mathlib.Core.List.{List, [], _∷_, _++_, append-nil}
 use native.Mathlib.Omega.{arith}
 use native.Mathlib.Nat.{zero-mul, add-mul}
+use native.Mathlib.Numerals.{add-one}
 use lib.Arith.{digits-div, digits-mod, digits-lt}
 use lib.ListN.{length, getD, set}
 use lib.Seq.{getD-set-same, getD-set-other}
@@ -35,6 +36,11 @@ added-none ts t e = rw e (sym (append-nil ts))
 
 pub added-one : (ts : List Triangle) (t : Triangle) → proper t ≡ true → ts ++ (t ∷ []) ≡ ts ++ addedBy t
 added-one ts t e = rw e
+
+-- one slot more
+kept-more : (s : Shape) (k : ℕ) {t : Triangle} {before after : List Triangle} → t ≡ slot s k → before ≡ kept s k → after ≡ before ++ addedBy t → after ≡ kept s (k + 1)
+unfolding kept
+kept-more s k e b a = rw (add-one, a, b, e)
 
 -- a cell from its four corners
 pub corners-same : {A : Type 0} (f : ℕ → ℕ → ℕ → ℕ → A) {a b c d a′ b′ c′ d′ : ℕ} → a ≡ a′ → b ≡ b′ → c ≡ c′ → d ≡ d′ → f a b c d ≡ f a′ b′ c′ d′
@@ -97,22 +103,10 @@ module _ (m n : ℕ) (su sv : Seam) (u v : ℕ) (h : v < n) where
   -- what the cell's triangles are added to, and give
   pub cell-first : {cell : Cell} {before after : List Triangle} → cell ≡ cellOf (surfaceWith m n su sv) u v → before ≡ kept (surfaceWith m n su sv) (2 * (u * n + v)) →
       after ≡ before ++ addedBy (firstOf cell) → after ≡ kept (surfaceWith m n su sv) (2 * (u * n + v) + 1)
-  unfolding kept
-  cell-first {cell} {before} {after} c b a =
-      let e : 2 * (u * n + v) + 1 ≡ suc (2 * (u * n + v)) = omega arith in
-      a
-      ∙ ap (λ (ts : List Triangle). ts ++ addedBy (firstOf cell)) b
-      ∙ ap (λ (x : Cell). kept (surfaceWith m n su sv) (2 * (u * n + v)) ++ addedBy (firstOf x)) c
-      ∙ ap (λ (t : Triangle). kept (surfaceWith m n su sv) (2 * (u * n + v)) ++ addedBy t) (sym slot-first)
-      ∙ ap (kept (surfaceWith m n su sv)) (sym e)
+  cell-first c b a = kept-more (surfaceWith m n su sv) (2 * (u * n + v)) (ap firstOf c ∙ sym slot-first) b a
 
   pub cell-second : {cell : Cell} {before after : List Triangle} → cell ≡ cellOf (surfaceWith m n su sv) u v → before ≡ kept (surfaceWith m n su sv) (2 * (u * n + v) + 1) →
       after ≡ before ++ addedBy (secondOf cell) → after ≡ kept (surfaceWith m n su sv) (2 * (u * n + (v + 1)))
-  unfolding kept
-  cell-second {cell} {before} {after} c b a =
-      let e : 2 * (u * n + (v + 1)) ≡ suc (2 * (u * n + v) + 1) = omega arith in
-      a
-      ∙ ap (λ (ts : List Triangle). ts ++ addedBy (secondOf cell)) b
-      ∙ ap (λ (x : Cell). kept (surfaceWith m n su sv) (2 * (u * n + v) + 1) ++ addedBy (secondOf x)) c
-      ∙ ap (λ (t : Triangle). kept (surfaceWith m n su sv) (2 * (u * n + v) + 1) ++ addedBy t) (sym slot-second)
-      ∙ ap (kept (surfaceWith m n su sv)) (sym e)
+  cell-second c b a =
+      let e : 2 * (u * n + v) + 1 + 1 ≡ 2 * (u * n + (v + 1)) = omega arith in
+      kept-more (surfaceWith m n su sv) (2 * (u * n + v) + 1) (ap secondOf c ∙ sym slot-second) b a ∙ ap (kept (surfaceWith m n su sv)) e

@@ -9,6 +9,7 @@ use native.Mathlib.Numerals.{add-one}
 use lib.Dec.{ltb}
 use lib.ListN.{length, getD}
 use borrow.Author.Tests.{lt-ltb, le-ltb}
+use Rattle.float.proofs.Tests.{and-both}
 use Rattle.cyclic.specs.declared.mapping.CyclicMapping.{CyclicMapping}
 use Rattle.cyclic.specs.declared.mapping.CyclicMapping.the-variants.{Forward, Reverse}
 use Rattle.cyclic.specs.declared.seam.Seam.{Seam as Found}
@@ -31,9 +32,7 @@ steps-most «V» surface b = b .m-most
 
 -- the number of a triangle from the count after it
 pub number-before : (s : Shape) (k x : ℕ) → x ≡ triangleNumber s (k + 1) → proper (slot s k) ≡ true → x ≡ triangleNumber s k + 1
-number-before s k x e p =
-    let f : k + 1 ≡ suc k = omega arith in
-    e ∙ ap (triangleNumber s) f ∙ number-step s k ∙ ap (oneMore (triangleNumber s k)) p
+number-before s k x e p = rw (e, number-step, p)
 
 pub ordered-up : (a b : ℕ) → a < b → pair a b ≡ ordered a b
 ordered-up a b h =
@@ -62,12 +61,7 @@ module _ (axis : Axis) (s : Shape) (m : Seam) (i : ℕ) (ps : List Pair) {on : �
     put-both e = sym (rw (sym here, lt-ltb on (stepsOf axis s) there, tested, e))
 
     pub high-proper : a && b ≡ true → proper (slot s (highOf axis s i)) ≡ true
-    high-proper e = sym high ∙ and-right a b e
-      where
-        and-right : (x y : Bool) → x && y ≡ true → y ≡ true
-        and-right true y h = h
-        and-right false true h = refl
-        and-right false false h = h
+    high-proper e = sym high ∙ and-both a b e .1
 
 -- Steps one after another
 

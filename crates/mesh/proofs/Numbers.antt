@@ -4,6 +4,7 @@ use mathlib.Core.Path.{_≡_, refl, sym, ap, subst, _∙_}
 use mathlib.Core.Bool.{Bool, true, false, cond}
 use mathlib.Core.List.{[], _∷_}
 use native.Mathlib.Nat.{zero-mul, mul-le-mul}
+use native.Mathlib.Numerals.{add-one}
 use native.Mathlib.Omega.{arith}
 use lib.ListN.{length, length-append}
 use Rattle.cyclic.specs.declared.mapping.CyclicMapping.{CyclicMapping}
@@ -16,9 +17,10 @@ use Rattle.mesh.specs.Rims.{oneMore, stepsOf}
 use Rattle.surface.proofs.Triangles.{kept-at-most}
 use Rattle.mesh.proofs.Joins.{inverse-is}
 
-pub number-step : (s : Shape) (k : ℕ) → triangleNumber s (suc k) ≡ oneMore (triangleNumber s k) (proper (slot s k))
+-- a slot is counted if its triangle is proper
+pub number-step : (s : Shape) (k : ℕ) → triangleNumber s (k + 1) ≡ oneMore (triangleNumber s k) (proper (slot s k))
 unfolding triangleNumber kept
-number-step s k = length-append (kept s k) (cond (proper (slot s k)) (slot s k ∷ []) []) ∙ go (proper (slot s k))
+number-step s k = rw (add-one, length-append) (go (proper (slot s k)))
   where
     go : (b : Bool) → length (kept s k) + length (cond b (slot s k ∷ []) []) ≡ oneMore (length (kept s k)) b
     go true = refl
@@ -41,11 +43,8 @@ pub cell-counted : (s : Shape) (n u v : ℕ) {count first last : ℕ} {a b : Boo
     b ≡ proper (slot s (2 * (u * n + v) + 1)) → last ≡ oneMore first b →
     last ≡ triangleNumber s (2 * (u * n + (v + 1)))
 cell-counted s n u v {count} {first} {last} {a} {b} e p q r t =
-    let x : suc (2 * (u * n + v)) ≡ 2 * (u * n + v) + 1 = omega arith in
-    let y : suc (2 * (u * n + v) + 1) ≡ 2 * (u * n + (v + 1)) = omega arith in
-    let one : first ≡ triangleNumber s (2 * (u * n + v) + 1) =
-    q ∙ ap (λ (k : ℕ). oneMore k a) e ∙ ap (oneMore (triangleNumber s (2 * (u * n + v)))) p ∙ sym (number-step s (2 * (u * n + v))) ∙ ap (triangleNumber s) x in
-    t ∙ ap (λ (k : ℕ). oneMore k b) one ∙ ap (oneMore (triangleNumber s (2 * (u * n + v) + 1))) r ∙ sym (number-step s (2 * (u * n + v) + 1)) ∙ ap (triangleNumber s) y
+    let k : 2 * (u * n + (v + 1)) ≡ 2 * (u * n + v) + 1 + 1 = omega arith in
+    rw (t, r, q, p, e, k, number-step s (2 * (u * n + v) + 1), number-step s (2 * (u * n + v)))
 
 -- The slots of the rims, as cells
 
