@@ -28,8 +28,7 @@ use Rattle.mesh.specs.declared.MeshCounts.{MeshCounts}
 use Rattle.mesh.specs.declared.Triangulation.the-variants.{Triangulated, Refused}
 use Rattle.mesh.specs.Mesh.{triangleNumbers, pairNumbers, roomFits, meshCheck, handedOver, afterCheck, triangulateGrid, Filled, Hands}
 use Rattle.mesh.specs.Corners.{Maps, Bounded}
-use Rattle.mesh.specs.Held.{triangleAt, trianglesIn, pairsIn}
-use Rattle.mesh.proofs.Firsts.{length-firsts}
+use Rattle.mesh.specs.Held.{trianglesIn, pairsIn}
 use Rattle.mesh.specs.Rims.{flips}
 use Rattle.mesh.proofs.Holding.{triangles-held, pairs-held}
 use Rattle.mesh.proofs.Cells.{held-most}
@@ -88,9 +87,6 @@ all-kept s e = e
 
 pub triangles-most : (s : Shape) (count : ℕ) (l : List ℕ) → trianglesIn count l ≡ kept s (2 * (s .M * s .N)) → 3 * count ≤ 6 * (s .M * s .N)
 triangles-most s count l e = omega (arith, held-most s (2 * (s .M * s .N)) count l e)
-
-pub triangles-counted : (count : ℕ) (l : List ℕ) {ts : List Triangle} → trianglesIn count l ≡ ts → count ≡ length ts
-triangles-counted count l e = sym (length-firsts (triangleAt l) count) ∙ ap length e
 
 pub triangles-filled : (s : Shape) (count : ℕ) (l lent : List ℕ) → trianglesIn count l ≡ triangles s → 3 * count ≤ length l → length l ≡ length lent →
     zeroedFrom 0 (3 * count) l ≡ filled 0 (triangleNumbers (triangles s)) lent

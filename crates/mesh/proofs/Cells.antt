@@ -46,13 +46,16 @@ kept-more s k e b a = rw (add-one, a, b, e)
 pub corners-same : {A : Type 0} (f : ℕ → ℕ → ℕ → ℕ → A) {a b c d a′ b′ c′ d′ : ℕ} → a ≡ a′ → b ≡ b′ → c ≡ c′ → d ≡ d′ → f a b c d ≡ f a′ b′ c′ d′
 corners-same f p q r t = cc
 
+pub held-triangles : (count : ℕ) (l : List ℕ) {ts : List Triangle} → trianglesIn count l ≡ ts → count ≡ length ts
+held-triangles count l e = sym (length-firsts (triangleAt l) count) ∙ ap length e
+
 -- a list that holds the triangles of the first k slots holds at most k
 pub held-most : (s : Shape) (k count : ℕ) (l : List ℕ) → trianglesIn count l ≡ kept s k → count ≤ k
-held-most s k count l e = omega (arith, length-firsts (triangleAt l) count, ap length e, kept-at-most s k)
+held-most s k count l e = omega (arith, held-triangles count l e, kept-at-most s k)
 
 pub held-count : (s : Shape) (k count : ℕ) (l : List ℕ) → trianglesIn count l ≡ kept s k → count ≡ triangleNumber s k
 unfolding triangleNumber
-held-count s k count l e = sym (length-firsts (triangleAt l) count) ∙ ap length e
+held-count s k count l e = held-triangles count l e
 
 -- before the first cell
 pub none-held : (s : Shape) (n : ℕ) (l : List ℕ) → trianglesIn 0 l ≡ kept s (2 * (0 * n))

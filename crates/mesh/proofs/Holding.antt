@@ -194,10 +194,10 @@ spot-end f k i p e passed =
     subst (λ (j : ℕ). PassedTo j p (firsts f k)) e passed ∙ rw none
 
 pub spot-known : {r : Spot} {i : ℕ} (p : Pair) (ps : List Pair) → r ≡ Before i → Spotted r p ps → (i ≤ length ps) × (insert p ps ≡ putAt i p ps)
-spot-known p ps e h = subst (λ (x : Spot). Spotted x p ps) e h
+spot-known p ps e h = rw e at h
 
 pub there-known : {r : Spot} (p : Pair) (ps : List Pair) → r ≡ There → Spotted r p ps → insert p ps ≡ ps
-there-known p ps e h = subst (λ (x : Spot). Spotted x p ps) e h
+there-known p ps e h = rw e at h
 
 -- One more number, at place i, moved two places on
 module _ (l l₀ : List ℕ) (i end : ℕ) (room : end + 2 ≤ length l) (within : i < end)

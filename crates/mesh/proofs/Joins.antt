@@ -22,18 +22,18 @@ use Rattle.mesh.specs.Corners.{Maps, Joins, placed, joinOf}
 
 pub join-last : {seam : Seam} {m : CyclicMapping} (last line step : ℕ) → seam ≡ Joined m → line ≡ last → placed 0 (cyclic.inverse m step) ≡ joinOf seam last line step
 unfolding joinOf
-join-last {seam} {m} last line step e h = sym (ap (λ (s : Seam). joinOf s last line step) e ∙ rw (eq-eqb line last h))
+join-last last line step e h = rw (e, eq-eqb line last h)
 
 pub join-other : {seam : Seam} {m : CyclicMapping} (last line step : ℕ) → seam ≡ Joined m → (line ≡ last → ⊥) → placed line step ≡ joinOf seam last line step
 unfolding joinOf
-join-other {seam} {m} last line step e h = sym (ap (λ (s : Seam). joinOf s last line step) e ∙ rw (ne-eqb line last h))
+join-other last line step e h = rw (e, ne-eqb line last h)
 
 pub join-none : {seam : Seam} (last line step : ℕ) → seam ≡ Unjoined → placed line step ≡ joinOf seam last line step
 unfolding joinOf
-join-none {seam} last line step e = sym (ap (λ (s : Seam). joinOf s last line step) e)
+join-none last line step e = rw e
 
 pub joins-as : {seam : Seam} {m : CyclicMapping} (step : ℕ) → seam ≡ Joined m → Joins seam step → cyclic.HasIndex m step
-joins-as step e h = subst (λ (s : Seam). Joins s step) e h
+joins-as step e h = rw e at h
 
 -- a seam of lines of so many steps takes each of them
 pub maps-joins : (seam : Seam) (steps step : ℕ) → Maps seam steps → steps ≤ 255 → step ≤ steps → Joins seam step
@@ -52,12 +52,12 @@ join-bounds (Joined m) steps last line step h most l = go (eqb line last)
 
 pub join-within : (seam : Seam) (steps last line step : ℕ) {p : Place} → p ≡ joinOf seam last line step → Maps seam steps → steps ≤ 255 → step ≤ steps →
     (p .line ≤ line) × (p .step ≤ steps)
-join-within seam steps last line step e h most l = subst (λ (q : Place). (q .line ≤ line) × (q .step ≤ steps)) (sym e) (join-bounds seam steps last line step h most l)
+join-within seam steps last line step e h most l = rw e (join-bounds seam steps last line step h most l)
 
 -- The two rules
 
 pub inverse-is : (m : CyclicMapping) (steps j : ℕ) → cyclic.stepsOf m ≡ steps → inverse (ofMapping m) steps j ≡ cyclic.inverse m j
-inverse-is m steps j e = ap (λ (n : ℕ). inverse (ofMapping m) n j) (sym e) ∙ inverse-of m j
+inverse-is m steps j e = rw (← e) (inverse-of m j)
 
 -- 01's rule, of points that are given by their lines and steps
 rule-is : (f : ℕ → ℕ → Point) (seam : Seam) (steps last line step : ℕ) → Maps seam steps →
@@ -83,10 +83,10 @@ module _ (m n : ℕ) (su sv : Seam) (u-maps : Maps su n) (v-maps : Maps sv m) wh
 
   pub corner-other : (row u v : ℕ) {p : Place} → (row + 1 ≡ n → ⊥) → p ≡ joinOf su m u v → pointNumber n (p .line) (p .step) ≡ corner (surfaceWith m n su sv) row u v
   unfolding corner cornerBy
-  corner-other row u v h e = ap (λ (p : Place). pointNumber n (p .line) (p .step)) e ∙ sym (rw (ne-eqb (row + 1) n h, u-rule u v))
+  corner-other row u v h e = rw (e, ne-eqb (row + 1) n h, u-rule u v)
 
   pub corner-last : (row u v : ℕ) {p q : Place} → row + 1 ≡ n → p ≡ joinOf su m u v → q ≡ joinOf sv n (p .step) (p .line) → pointNumber n (q .step) (q .line) ≡ corner (surfaceWith m n su sv) row u v
   unfolding corner cornerBy
   corner-last row u v {p} {q} h e f =
-      let first : uRule (surfaceWith m n su sv) (at u v) ≡ at (p .line) (p .step) = u-rule u v ∙ ap (λ (x : Place). at (x .line) (x .step)) (sym e) in
-      ap (λ (x : Place). pointNumber n (x .step) (x .line)) f ∙ sym (rw (eq-eqb (row + 1) n h, first, v-rule (p .line) (p .step)))
+      let first : uRule (surfaceWith m n su sv) (at u v) ≡ at (p .line) (p .step) = rw e (u-rule u v) in
+      rw (f, eq-eqb (row + 1) n h, first, v-rule (p .line) (p .step))

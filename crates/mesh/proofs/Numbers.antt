@@ -49,7 +49,7 @@ cell-counted s n u v {count} {first} {last} {a} {b} e p q r t =
 -- The slots of the rims, as cells
 
 pub steps-along : {axis x : Axis} {i : ℕ} (s : Shape) → axis ≡ x → i < stepsOf axis s → i < stepsOf x s
-steps-along {i = i} s e h = subst (λ (a : Axis). i < stepsOf a s) e h
+steps-along s e h = rw e at h
 
 module _ (m n : ℕ) (su sv : Seam) (i : ℕ) where
   pub low-u : 2 * (0 * n + i) ≡ lowU (surfaceWith m n su sv) i
@@ -72,7 +72,4 @@ module _ (m n : ℕ) (su sv : Seam) (i : ℕ) where
 
 pub step-is : (m : CyclicMapping) (steps i : ℕ) {a b r : ℕ} → cyclic.stepsOf m ≡ steps → a ≡ cyclic.inverse m i → b ≡ cyclic.inverse m (i + 1) → r ≡ wrapEnds steps a b → r ≡ stepOn (ofMapping m) steps i
 unfolding stepOn
-step-is m steps i {a} {b} {r} e p q h =
-    h
-    ∙ ap (λ (x : ℕ). wrapEnds steps x b) (p ∙ sym (inverse-is m steps i e))
-    ∙ ap (wrapEnds steps _) (q ∙ sym (inverse-is m steps (i + 1) e))
+step-is m steps i e p q h = rw (h, p, q, inverse-is m steps i e, inverse-is m steps (i + 1) e)

@@ -6,9 +6,10 @@ use borrow.Author.Needs.{needs}
 use Rattle.surface.specs.Surface.{triangles, flipped}
 use Rattle.mesh.specs.Corners.{shapeOf}
 use Rattle.mesh.specs.Held.{trianglesIn}
+use Rattle.mesh.proofs.Cells.{held-triangles}
 use Rattle.mesh.proofs.Numbers.{cells-most}
 use Rattle.mesh.proofs.Flips.{held-pairs}
-use Rattle.mesh.proofs.Answers.{all-kept, triangles-most, triangles-filled, triangles-counted, pairs-most, pairs-filled}
+use Rattle.mesh.proofs.Answers.{all-kept, triangles-most, triangles-filled, pairs-most, pairs-filled}
 use Rattle.mesh.proofs.triangulate.Statement.{statement}
 use Rattle.mesh.proofs.triangulate.Tie as tie
 
@@ -54,7 +55,7 @@ returns c =
       pair-list =
           c .before .before .zero-numbers2 .ensures
           ∙ pairs-filled s (p .result) (p .last .1 .1 .0) (a .flipped .now) (p .ensures) (omega (arith, pairs-fit (c .before .before .before .before .before .before .before .before .before .before), p .kept .1 .1 .0, t .pre .1 .1)) (p .kept .1 .1 .0);
-      triangle-count = triangles-counted (b .result) (b .last .1 .0) all;
+      triangle-count = held-triangles (b .result) (b .last .1 .0) all;
       pair-count = held-pairs (p .result) (p .last .1 .1 .0) (p .ensures);
     }
 
