@@ -91,25 +91,27 @@ pub row-first : (s : Shape) (n u : ℕ) → kept s (2 * (u * n)) ≡ kept s (2 *
 row-first s n u = ap (kept s) (omega arith)
 
 module _ (m n : ℕ) (su sv : Seam) (u v : ℕ) (h : v < n) where
+  -- slot i, of half x of the cell
   slot-of : (i x : ℕ) → i % 2 ≡ x → i / 2 ≡ u * n + v → slot (surfaceWith m n su sv) i ≡ halfOf (surfaceWith m n su sv) falling x u v
   unfolding slot
   slot-of i x e d = rw (e, d, digits-div u h, digits-mod u h)
 
-  pub slot-first : slot (surfaceWith m n su sv) (2 * (u * n + v)) ≡ firstOf (cellOf (surfaceWith m n su sv) u v)
+  -- the cell's triangles are those of its two slots
+  pub slot-first : {cell : Cell} → cell ≡ cellOf (surfaceWith m n su sv) u v → firstOf cell ≡ slot (surfaceWith m n su sv) (2 * (u * n + v))
   unfolding halfOf
-  slot-first = slot-of (2 * (u * n + v)) 0 (omega arith) (omega arith)
+  slot-first c = ap firstOf c ∙ sym (slot-of (2 * (u * n + v)) 0 (omega arith) (omega arith))
 
-  pub slot-second : slot (surfaceWith m n su sv) (2 * (u * n + v) + 1) ≡ secondOf (cellOf (surfaceWith m n su sv) u v)
+  pub slot-second : {cell : Cell} → cell ≡ cellOf (surfaceWith m n su sv) u v → secondOf cell ≡ slot (surfaceWith m n su sv) (2 * (u * n + v) + 1)
   unfolding halfOf
-  slot-second = slot-of (2 * (u * n + v) + 1) 1 (omega arith) (omega arith)
+  slot-second c = ap secondOf c ∙ sym (slot-of (2 * (u * n + v) + 1) 1 (omega arith) (omega arith))
 
   -- what the cell's triangles are added to, and give
   pub cell-first : {cell : Cell} {before after : List Triangle} → cell ≡ cellOf (surfaceWith m n su sv) u v → before ≡ kept (surfaceWith m n su sv) (2 * (u * n + v)) →
       after ≡ before ++ addedBy (firstOf cell) → after ≡ kept (surfaceWith m n su sv) (2 * (u * n + v) + 1)
-  cell-first c b a = kept-more (surfaceWith m n su sv) (2 * (u * n + v)) (ap firstOf c ∙ sym slot-first) b a
+  cell-first c b a = kept-more (surfaceWith m n su sv) (2 * (u * n + v)) (slot-first c) b a
 
   pub cell-second : {cell : Cell} {before after : List Triangle} → cell ≡ cellOf (surfaceWith m n su sv) u v → before ≡ kept (surfaceWith m n su sv) (2 * (u * n + v) + 1) →
       after ≡ before ++ addedBy (secondOf cell) → after ≡ kept (surfaceWith m n su sv) (2 * (u * n + (v + 1)))
   cell-second c b a =
       let e : 2 * (u * n + v) + 1 + 1 ≡ 2 * (u * n + (v + 1)) = omega arith in
-      kept-more (surfaceWith m n su sv) (2 * (u * n + v) + 1) (ap secondOf c ∙ sym slot-second) b a ∙ ap (kept (surfaceWith m n su sv)) e
+      kept-more (surfaceWith m n su sv) (2 * (u * n + v) + 1) (slot-second c) b a ∙ ap (kept (surfaceWith m n su sv)) e

@@ -22,7 +22,7 @@ use Rattle.mesh.specs.declared.flipped.Axis.{Axis}
 use Rattle.mesh.specs.declared.flipped.Axis.the-variants.{U, «V»}
 use Rattle.mesh.specs.Corners.{shapeOf, Bounded}
 use Rattle.mesh.specs.Held.{pairAt, pairsIn}
-use Rattle.mesh.specs.Rims.{oneMore, stepsOf, lowOf, highOf, Starts, Rims, flipStep, flipSteps, flips}
+use Rattle.mesh.specs.Rims.{stepsOf, lowOf, highOf, Starts, Rims, flipStep, flipSteps, flips}
 use Rattle.mesh.proofs.Firsts.{length-firsts}
 use Rattle.mesh.proofs.Numbers.{number-step, low-u, low-v, high-u, high-v}
 

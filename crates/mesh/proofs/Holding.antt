@@ -14,10 +14,8 @@ use borrow.Author.Tests.{ltb-false, eqb-true, eqb-false, lt-ltb, le-ltb, eq-eqb}
 use Rattle.float.proofs.Tests.{and-both}
 use Rattle.surface.proofs.Steps.{lt-or-le}
 use Rattle.surface.specs.Surface.{Triangle, tri, Pair, insert, pair}
-use Rattle.mesh.specs.declared.pairs.Spot.{Spot}
-use Rattle.mesh.specs.declared.pairs.Spot.the-variants.{Before, There}
 use Rattle.mesh.specs.Mesh.{triangleNumbers, pairNumbers}
-use Rattle.mesh.specs.Held.{firsts, triangleAt, trianglesIn, pairAt, pairsIn, putAt, Spotted}
+use Rattle.mesh.specs.Held.{firsts, triangleAt, trianglesIn, pairAt, pairsIn, putAt}
 use Rattle.mesh.proofs.Firsts.{length-firsts, firsts-same, getD-firsts, firsts-put}
 
 -- Triangles
@@ -192,12 +190,6 @@ pub spot-end : (f : ℕ → Pair) (k i : ℕ) (p : Pair) → i ≡ k → PassedT
 spot-end f k i p e passed =
     let none = drop-of-length-le (firsts f k) {i = k} (omega (arith, length-firsts f k)) in
     subst (λ (j : ℕ). PassedTo j p (firsts f k)) e passed ∙ rw none
-
-pub spot-known : {r : Spot} {i : ℕ} (p : Pair) (ps : List Pair) → r ≡ Before i → Spotted r p ps → (i ≤ length ps) × (insert p ps ≡ putAt i p ps)
-spot-known p ps e h = rw e at h
-
-pub there-known : {r : Spot} (p : Pair) (ps : List Pair) → r ≡ There → Spotted r p ps → insert p ps ≡ ps
-there-known p ps e h = rw e at h
 
 -- One more number, at place i, moved two places on
 module _ (l l₀ : List ℕ) (i end : ℕ) (room : end + 2 ≤ length l) (within : i < end)

@@ -1,6 +1,6 @@
 -- The corner rule by the code's steps: one rule for either seam gives 01's two, and stays within the grid. Assumes nothing.
 use Prim.Native.Nat.{ℕ, _+_, _≤_}
-use mathlib.Core.Path.{_≡_, refl, sym, ap, subst, _∙_}
+use mathlib.Core.Path.{_≡_, refl}
 use mathlib.Core.Bool.{Bool, true, false, _&&_, cond}
 use native.Mathlib.Omega.{arith}
 use lib.Dec.{eqb}
@@ -31,9 +31,6 @@ join-other last line step e h = rw (e, ne-eqb line last h)
 pub join-none : {seam : Seam} (last line step : ℕ) → seam ≡ Unjoined → placed line step ≡ joinOf seam last line step
 unfolding joinOf
 join-none last line step e = rw e
-
-pub joins-as : {seam : Seam} {m : CyclicMapping} (step : ℕ) → seam ≡ Joined m → Joins seam step → cyclic.HasIndex m step
-joins-as step e h = rw e at h
 
 -- a seam of lines of so many steps takes each of them
 pub maps-joins : (seam : Seam) (steps step : ℕ) → Maps seam steps → steps ≤ 255 → step ≤ steps → Joins seam step

@@ -1,6 +1,6 @@
 -- Numbers of triangles: how a slot adds to the count, which slots the rims have, and the step of one rim on another. Assumes nothing.
-use Prim.Native.Nat.{ℕ, suc, _+_, _-_, _*_, _≤_, _<_}
-use mathlib.Core.Path.{_≡_, refl, sym, ap, subst, _∙_}
+use Prim.Native.Nat.{ℕ, _+_, _-_, _*_, _≤_}
+use mathlib.Core.Path.{_≡_, refl}
 use mathlib.Core.Bool.{Bool, true, false, cond}
 use mathlib.Core.List.{[], _∷_}
 use native.Mathlib.Nat.{zero-mul, mul-le-mul}
@@ -12,8 +12,7 @@ use Rattle.cyclic.specs.declared.seam.Seam.{Seam}
 use Rattle.cyclic.specs.Mapping as cyclic
 use Rattle.surface.specs.Surface.{Shape, proper, slot, kept, triangleNumber, wrapEnds, stepOn, lowU, highU, lowV, highV}
 use Rattle.surface.specs.Found.{ofMapping, surfaceWith}
-use Rattle.mesh.specs.declared.flipped.Axis.{Axis}
-use Rattle.mesh.specs.Rims.{oneMore, stepsOf}
+use Rattle.mesh.specs.Rims.{oneMore}
 use Rattle.surface.proofs.Triangles.{kept-at-most}
 use Rattle.mesh.proofs.Joins.{inverse-is}
 
@@ -47,9 +46,6 @@ cell-counted s n u v {count} {first} {last} {a} {b} e p q r t =
     rw (t, r, q, p, e, k, number-step s (2 * (u * n + v) + 1), number-step s (2 * (u * n + v)))
 
 -- The slots of the rims, as cells
-
-pub steps-along : {axis x : Axis} {i : ℕ} (s : Shape) → axis ≡ x → i < stepsOf axis s → i < stepsOf x s
-steps-along s e h = rw e at h
 
 module _ (m n : ℕ) (su sv : Seam) (i : ℕ) where
   pub low-u : 2 * (0 * n + i) ≡ lowU (surfaceWith m n su sv) i

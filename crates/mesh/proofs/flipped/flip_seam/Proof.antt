@@ -1,9 +1,7 @@
 -- `mesh::flipped::flip_seam` meets its contract: nothing, or all steps of a reversed seam. Assumes nothing.
-use mathlib.Core.Path.{sym, subst, _∙_}
-use Rattle.cyclic.specs.declared.seam.Seam.{Seam}
-use Rattle.mesh.specs.Corners.{shapeOf, Maps}
+use mathlib.Core.Path.{sym, _∙_}
+use Rattle.mesh.specs.Corners.{shapeOf}
 use Rattle.mesh.specs.Held.{pairsIn}
-use Rattle.mesh.specs.Rims.{stepsOf}
 use Rattle.mesh.proofs.Flips.{seam-none, seam-forward, seam-reverse}
 use borrow.Author.Needs.{needs}
 use Rattle.mesh.proofs.flipped.flip_seam.Statement.{statement}
@@ -13,7 +11,7 @@ process-flipped-requires : tie.Need-process-flipped-requires
 process-flipped-requires c κs =
     let t = c .before .before .before .before .before .before .before .before .before in
     let a = t .args in
-    ((t .pre .0 .0, subst (λ (x : Seam). Maps x (stepsOf (a .axis) (shapeOf (a .surface)))) (c .before .before .before .before .seam .given .1) (t .pre .0 .1)), t .pre .1)
+    ((t .pre .0 .0, rw (c .before .before .before .before .seam .given .1) at (t .pre .0 .1)), t .pre .1)
 
 returns : tie.Need-returns
 returns c =

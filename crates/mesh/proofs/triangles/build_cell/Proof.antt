@@ -1,7 +1,6 @@
 -- `mesh::triangles::build_cell` meets its contract: the cell's two slots are the next two, and each adds its triangle if it is proper. Assumes nothing.
 use Prim.Native.Nat.{_+_, _*_}
 use native.Mathlib.Omega.{arith}
-use Rattle.surface.specs.Surface.{kept}
 use Rattle.mesh.specs.Corners.{shapeOf}
 use Rattle.mesh.proofs.Cells.{held-most, cell-below, cell-first, cell-second}
 use borrow.Author.Needs.{needs}
