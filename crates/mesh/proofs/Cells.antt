@@ -11,14 +11,13 @@ use lib.Arith.{digits-div, digits-mod, digits-lt}
 use lib.ListN.{length, getD, set}
 use lib.Seq.{getD-set-same, getD-set-other}
 use Rattle.surface.proofs.Steps.{lt-or-le}
-use Rattle.cyclic.specs.declared.seam.Seam.{Seam}
 use Rattle.surface.specs.Surface.{Shape, Triangle, tri, proper, falling, halfOf, slot, kept, triangleNumber}
-use Rattle.surface.specs.Found.{surfaceWith}
 use Rattle.surface.proofs.Triangles.{kept-at-most}
 use Rattle.mesh.specs.declared.corner.Cell.{Cell}
+use Rattle.mesh.specs.declared.corner.Surface.{Surface}
 use Rattle.mesh.specs.Held.{firsts, triangleAt, trianglesIn}
 use Rattle.mesh.proofs.Firsts.{length-firsts}
-use Rattle.mesh.specs.Corners.{cellOf}
+use Rattle.mesh.specs.Corners.{shapeOf, cellOf}
 
 -- "the cell emits (i00,i10,i01), then (i10,i11,i01)"
 abbrev pub firstOf : Cell → Triangle
@@ -90,28 +89,28 @@ row-next s n u v e = ap (kept s) (omega (arith, add-mul u 1 n))
 pub row-first : (s : Shape) (n u : ℕ) → kept s (2 * (u * n)) ≡ kept s (2 * (u * n + 0))
 row-first s n u = ap (kept s) (omega arith)
 
-module _ (m n : ℕ) (su sv : Seam) (u v : ℕ) (h : v < n) where
+module _ (surface : Surface) (u v : ℕ) (h : v < surface .n) where
   -- slot i, of half x of the cell
-  slot-of : (i x : ℕ) → i % 2 ≡ x → i / 2 ≡ u * n + v → slot (surfaceWith m n su sv) i ≡ halfOf (surfaceWith m n su sv) falling x u v
+  slot-of : (i x : ℕ) → i % 2 ≡ x → i / 2 ≡ u * surface .n + v → slot (shapeOf surface) i ≡ halfOf (shapeOf surface) falling x u v
   unfolding slot
   slot-of i x e d = rw (e, d, digits-div u h, digits-mod u h)
 
   -- the cell's triangles are those of its two slots
-  pub slot-first : {cell : Cell} → cell ≡ cellOf (surfaceWith m n su sv) u v → firstOf cell ≡ slot (surfaceWith m n su sv) (2 * (u * n + v))
+  pub slot-first : {cell : Cell} → cell ≡ cellOf (shapeOf surface) u v → firstOf cell ≡ slot (shapeOf surface) (2 * (u * surface .n + v))
   unfolding halfOf
-  slot-first c = ap firstOf c ∙ sym (slot-of (2 * (u * n + v)) 0 (omega arith) (omega arith))
+  slot-first c = ap firstOf c ∙ sym (slot-of (2 * (u * surface .n + v)) 0 (omega arith) (omega arith))
 
-  pub slot-second : {cell : Cell} → cell ≡ cellOf (surfaceWith m n su sv) u v → secondOf cell ≡ slot (surfaceWith m n su sv) (2 * (u * n + v) + 1)
+  pub slot-second : {cell : Cell} → cell ≡ cellOf (shapeOf surface) u v → secondOf cell ≡ slot (shapeOf surface) (2 * (u * surface .n + v) + 1)
   unfolding halfOf
-  slot-second c = ap secondOf c ∙ sym (slot-of (2 * (u * n + v) + 1) 1 (omega arith) (omega arith))
+  slot-second c = ap secondOf c ∙ sym (slot-of (2 * (u * surface .n + v) + 1) 1 (omega arith) (omega arith))
 
   -- what the cell's triangles are added to, and give
-  pub cell-first : {cell : Cell} {before after : List Triangle} → cell ≡ cellOf (surfaceWith m n su sv) u v → before ≡ kept (surfaceWith m n su sv) (2 * (u * n + v)) →
-      after ≡ before ++ addedBy (firstOf cell) → after ≡ kept (surfaceWith m n su sv) (2 * (u * n + v) + 1)
-  cell-first c b a = kept-more (surfaceWith m n su sv) (2 * (u * n + v)) (slot-first c) b a
+  pub cell-first : {cell : Cell} {before after : List Triangle} → cell ≡ cellOf (shapeOf surface) u v → before ≡ kept (shapeOf surface) (2 * (u * surface .n + v)) →
+      after ≡ before ++ addedBy (firstOf cell) → after ≡ kept (shapeOf surface) (2 * (u * surface .n + v) + 1)
+  cell-first c b a = kept-more (shapeOf surface) (2 * (u * surface .n + v)) (slot-first c) b a
 
-  pub cell-second : {cell : Cell} {before after : List Triangle} → cell ≡ cellOf (surfaceWith m n su sv) u v → before ≡ kept (surfaceWith m n su sv) (2 * (u * n + v) + 1) →
-      after ≡ before ++ addedBy (secondOf cell) → after ≡ kept (surfaceWith m n su sv) (2 * (u * n + (v + 1)))
+  pub cell-second : {cell : Cell} {before after : List Triangle} → cell ≡ cellOf (shapeOf surface) u v → before ≡ kept (shapeOf surface) (2 * (u * surface .n + v) + 1) →
+      after ≡ before ++ addedBy (secondOf cell) → after ≡ kept (shapeOf surface) (2 * (u * surface .n + (v + 1)))
   cell-second c b a =
-      let e : 2 * (u * n + v) + 1 + 1 ≡ 2 * (u * n + (v + 1)) = omega arith in
-      kept-more (surfaceWith m n su sv) (2 * (u * n + v) + 1) (slot-second c) b a ∙ ap (kept (surfaceWith m n su sv)) e
+      let e : 2 * (u * surface .n + v) + 1 + 1 ≡ 2 * (u * surface .n + (v + 1)) = omega arith in
+      kept-more (shapeOf surface) (2 * (u * surface .n + v) + 1) (slot-second c) b a ∙ ap (kept (shapeOf surface)) e

@@ -135,12 +135,12 @@ module _ (surface : Surface) (b : Bounded surface) where
       record {
         low-room = p;
         high-room = q;
-        before = λ i k. l i (omega arith) ∙ ap (triangleNumber s) (low-u (surface .m) (surface .n) (surface .u) (surface .v) i);
+        before = λ i k. l i (omega arith) ∙ ap (triangleNumber s) (low-u surface i);
         after = λ i k. h (i + 1) (omega arith) ∙ ap (triangleNumber s) (next i);
       }
     where
       next : (i : ℕ) → 2 * ((surface .m - 1) * surface .n + (i + 1)) ≡ highU (shapeOf surface) i + 1
-      next i = omega (arith, high-u (surface .m) (surface .n) (surface .u) (surface .v) i)
+      next i = omega (arith, high-u surface i)
 
   pub rims-v : (starts : List ℕ) → Starts surface starts → Rims «V» (shapeOf surface) starts starts
   rims-v starts t =
@@ -153,10 +153,10 @@ module _ (surface : Surface) (b : Bounded surface) where
       }
     where
       first : (i : ℕ) → 2 * (i * surface .n) ≡ lowV (shapeOf surface) i
-      first i = omega (arith, low-v (surface .m) (surface .n) (surface .u) (surface .v) i)
+      first i = omega (arith, low-v surface i)
 
       next : (i : ℕ) → 2 * ((i + 1) * surface .n) ≡ highV (shapeOf surface) i + 1
-      next i = omega (arith, add-mul i 1 (surface .n), high-v (surface .m) (surface .n) (surface .u) (surface .v) i, b .n-least)
+      next i = omega (arith, add-mul i 1 (surface .n), high-v surface i, b .n-least)
 
 pub flipped-is : (s : Shape) → flips «V» s (s .sv) (flips U s (s .su) []) ≡ flipped s
 unfolding flipped

@@ -14,9 +14,10 @@ use Rattle.cyclic.specs.Mapping as cyclic
 use Rattle.cyclic.proofs.Mappings.{inverse-within}
 use Rattle.surface.specs.Surface.{joined, inverse, Point, at, uRule, vRule, corner, cornerBy}
 use Rattle.surface.proofs.Joinings.{inverse-of}
-use Rattle.surface.specs.Found.{ofMapping, seamOf, surfaceWith}
+use Rattle.surface.specs.Found.{ofMapping, seamOf}
 use Rattle.mesh.specs.declared.corner.Place.{Place}
-use Rattle.mesh.specs.Corners.{Maps, Joins, placed, joinOf}
+use Rattle.mesh.specs.declared.corner.Surface.{Surface}
+use Rattle.mesh.specs.Corners.{shapeOf, Maps, Joins, Bounded, placed, joinOf}
 
 -- The cases of one rule
 
@@ -71,19 +72,21 @@ rule-is f (Joined m) steps last line step h = rw (found m, inverse-is m steps st
     go true = refl
     go false = refl
 
-module _ (m n : ℕ) (su sv : Seam) (u-maps : Maps su n) (v-maps : Maps sv m) where
-  u-rule : (u v : ℕ) → uRule (surfaceWith m n su sv) (at u v) ≡ at (joinOf su m u v .line) (joinOf su m u v .step)
-  u-rule u v = rule-is at su n m u v u-maps
+module _ (s : Surface) (b : Bounded s) where
+  u-rule : (u v : ℕ) → uRule (shapeOf s) (at u v) ≡ at (joinOf (s .u) (s .m) u v .line) (joinOf (s .u) (s .m) u v .step)
+  u-rule u v = rule-is at (s .u) (s .n) (s .m) u v (b .u-maps)
 
-  v-rule : (u v : ℕ) → vRule (surfaceWith m n su sv) (at u v) ≡ at (joinOf sv n v u .step) (joinOf sv n v u .line)
-  v-rule u v = rule-is (λ line step. at step line) sv m n v u v-maps
+  v-rule : (u v : ℕ) → vRule (shapeOf s) (at u v) ≡ at (joinOf (s .v) (s .n) v u .step) (joinOf (s .v) (s .n) v u .line)
+  v-rule u v = rule-is (λ line step. at step line) (s .v) (s .m) (s .n) v u (b .v-maps)
 
-  pub corner-other : (row u v : ℕ) {p : Place} → (row + 1 ≡ n → ⊥) → p ≡ joinOf su m u v → pointNumber n (p .line) (p .step) ≡ corner (surfaceWith m n su sv) row u v
+  pub corner-other : (row u v : ℕ) {p : Place} → (row + 1 ≡ s .n → ⊥) → p ≡ joinOf (s .u) (s .m) u v →
+      pointNumber (s .n) (p .line) (p .step) ≡ corner (shapeOf s) row u v
   unfolding corner cornerBy
-  corner-other row u v h e = rw (e, ne-eqb (row + 1) n h, u-rule u v)
+  corner-other row u v h e = rw (e, ne-eqb (row + 1) (s .n) h, u-rule u v)
 
-  pub corner-last : (row u v : ℕ) {p q : Place} → row + 1 ≡ n → p ≡ joinOf su m u v → q ≡ joinOf sv n (p .step) (p .line) → pointNumber n (q .step) (q .line) ≡ corner (surfaceWith m n su sv) row u v
+  pub corner-last : (row u v : ℕ) {p q : Place} → row + 1 ≡ s .n → p ≡ joinOf (s .u) (s .m) u v → q ≡ joinOf (s .v) (s .n) (p .step) (p .line) →
+      pointNumber (s .n) (q .step) (q .line) ≡ corner (shapeOf s) row u v
   unfolding corner cornerBy
-  corner-last row u v {p} {q} h e f =
-      let first : uRule (surfaceWith m n su sv) (at u v) ≡ at (p .line) (p .step) = rw e (u-rule u v) in
-      rw (f, eq-eqb (row + 1) n h, first, v-rule (p .line) (p .step))
+  corner-last row u v {p} h e f =
+      let first : uRule (shapeOf s) (at u v) ≡ at (p .line) (p .step) = rw e (u-rule u v) in
+      rw (f, eq-eqb (row + 1) (s .n) h, first, v-rule (p .line) (p .step))

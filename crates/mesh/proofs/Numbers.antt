@@ -8,10 +8,11 @@ use native.Mathlib.Numerals.{add-one}
 use native.Mathlib.Omega.{arith}
 use lib.ListN.{length, length-append}
 use Rattle.cyclic.specs.declared.mapping.CyclicMapping.{CyclicMapping}
-use Rattle.cyclic.specs.declared.seam.Seam.{Seam}
 use Rattle.cyclic.specs.Mapping as cyclic
 use Rattle.surface.specs.Surface.{Shape, proper, slot, kept, triangleNumber, wrapEnds, stepOn, lowU, highU, lowV, highV}
-use Rattle.surface.specs.Found.{ofMapping, surfaceWith}
+use Rattle.surface.specs.Found.{ofMapping}
+use Rattle.mesh.specs.declared.corner.Surface.{Surface}
+use Rattle.mesh.specs.Corners.{shapeOf}
 use Rattle.mesh.specs.Rims.{oneMore}
 use Rattle.surface.proofs.Triangles.{kept-at-most}
 use Rattle.mesh.proofs.Joins.{inverse-is}
@@ -47,20 +48,20 @@ cell-counted s n u v {count} {first} {last} {a} {b} e p q r t =
 
 -- The slots of the rims, as cells
 
-module _ (m n : ℕ) (su sv : Seam) (i : ℕ) where
-  pub low-u : 2 * (0 * n + i) ≡ lowU (surfaceWith m n su sv) i
+module _ (surface : Surface) (i : ℕ) where
+  pub low-u : 2 * (0 * surface .n + i) ≡ lowU (shapeOf surface) i
   unfolding lowU
-  low-u = omega (arith, zero-mul n)
+  low-u = omega (arith, zero-mul (surface .n))
 
-  pub low-v : 2 * (i * n + 0) ≡ lowV (surfaceWith m n su sv) i
+  pub low-v : 2 * (i * surface .n + 0) ≡ lowV (shapeOf surface) i
   unfolding lowV
   low-v = omega arith
 
-  pub high-u : 2 * ((m - 1) * n + i) + 1 ≡ highU (surfaceWith m n su sv) i
+  pub high-u : 2 * ((surface .m - 1) * surface .n + i) + 1 ≡ highU (shapeOf surface) i
   unfolding highU
   high-u = refl
 
-  pub high-v : 2 * (i * n + (n - 1)) + 1 ≡ highV (surfaceWith m n su sv) i
+  pub high-v : 2 * (i * surface .n + (surface .n - 1)) + 1 ≡ highV (shapeOf surface) i
   unfolding highV
   high-v = refl
 

@@ -30,7 +30,7 @@ returns c =
     let a = c .before .before .before .before .args in
     let b = c .before .before .before .before .pre .0 in
     c .point-number .ensures
-    ∙ corner-last (a .surface .m) (a .surface .n) (a .surface .u) (a .surface .v) (b .u-maps) (b .v-maps) (a .row) (a .u) (a .v) (c .before .before .if1 .taken) (c .before .before .before .join .ensures) (c .before .join2 .ensures)
+    ∙ corner-last (a .surface) b (a .row) (a .u) (a .v) (c .before .before .if1 .taken) (c .before .before .before .join .ensures) (c .before .join2 .ensures)
 
 point-number-requires-2 : tie.Need-point-number-requires-2
 point-number-requires-2 c κs =
@@ -44,7 +44,7 @@ returns-2 c =
     let a = c .before .before .before .args in
     let b = c .before .before .before .pre .0 in
     c .point-number2 .ensures
-    ∙ corner-other (a .surface .m) (a .surface .n) (a .surface .u) (a .surface .v) (b .u-maps) (b .v-maps) (a .row) (a .u) (a .v) (c .before .if1 .left) (c .before .before .join .ensures)
+    ∙ corner-other (a .surface) b (a .row) (a .u) (a .v) (c .before .if1 .left) (c .before .before .join .ensures)
 
 pub corner-spec : {M : Type 1} → statement M
 corner-spec =

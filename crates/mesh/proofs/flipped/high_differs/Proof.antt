@@ -18,12 +18,12 @@ second-differs-requires-2 c κs =
 returns : tie.Need-returns
 returns c =
     let a = c .before .before .before .before .args in
-    rw (c .before .before .enum-told .given .1, ← high-u (a .surface .m) (a .surface .n) (a .surface .u) (a .surface .v) (a .i)) (c .second-differs .ensures)
+    rw (c .before .before .enum-told .given .1, ← high-u (a .surface) (a .i)) (c .second-differs .ensures)
 
 returns-2 : tie.Need-returns-2
 returns-2 c =
     let a = c .before .before .before .before .args in
-    rw (c .before .before .enum-told2 .given .1, ← high-v (a .surface .m) (a .surface .n) (a .surface .u) (a .surface .v) (a .i)) (c .second-differs2 .ensures)
+    rw (c .before .before .enum-told2 .given .1, ← high-v (a .surface) (a .i)) (c .second-differs2 .ensures)
 
 pub high-differs-spec : {M : Type 1} → statement M
 high-differs-spec =

@@ -17,12 +17,12 @@ first-differs-requires-2 c κs =
 returns : tie.Need-returns
 returns c =
     let a = c .before .before .before .args in
-    rw (c .before .enum-told .given .1, ← low-u (a .surface .m) (a .surface .n) (a .surface .u) (a .surface .v) (a .i)) (c .first-differs .ensures)
+    rw (c .before .enum-told .given .1, ← low-u (a .surface) (a .i)) (c .first-differs .ensures)
 
 returns-2 : tie.Need-returns-2
 returns-2 c =
     let a = c .before .before .before .args in
-    rw (c .before .enum-told2 .given .1, ← low-v (a .surface .m) (a .surface .n) (a .surface .u) (a .surface .v) (a .i)) (c .first-differs2 .ensures)
+    rw (c .before .enum-told2 .given .1, ← low-v (a .surface) (a .i)) (c .first-differs2 .ensures)
 
 pub low-differs-spec : {M : Type 1} → statement M
 low-differs-spec =

@@ -21,7 +21,7 @@ add-triangle-requires-2 c κs =
     let t = d .before .before .before .before in
     let a = t .args in
     let q = t .pre in
-    let e = cell-first (a .surface .m) (a .surface .n) (a .surface .u) (a .surface .v) (a .u) (a .v) (q .0 .2) (d .before .before .cell-corners .ensures) (q .1 .1) (d .add-triangle .ensures) in
+    let e = cell-first (a .surface) (a .u) (a .v) (q .0 .2) (d .before .before .cell-corners .ensures) (q .1 .1) (d .add-triangle .ensures) in
     let h = held-most (shapeOf (a .surface)) (2 * (a .u * a .surface .n + a .v) + 1) (d .add-triangle .result) (d .add-triangle .last .0) e in
     omega (arith, d .add-triangle .kept .0, cell-below {m = a .surface .m} {n = a .surface .n} {u = a .u} {v = a .v} (q .0 .1) (q .0 .2))
 
@@ -32,8 +32,8 @@ returns c =
     let t = d .before .before .before .before in
     let a = t .args in
     let q = t .pre in
-    let e = cell-first (a .surface .m) (a .surface .n) (a .surface .u) (a .surface .v) (a .u) (a .v) (q .0 .2) (d .before .before .cell-corners .ensures) (q .1 .1) (d .add-triangle .ensures) in
-    cell-second (a .surface .m) (a .surface .n) (a .surface .u) (a .surface .v) (a .u) (a .v) (q .0 .2) (d .before .before .cell-corners .ensures) e (f .add-triangle2 .ensures)
+    let e = cell-first (a .surface) (a .u) (a .v) (q .0 .2) (d .before .before .cell-corners .ensures) (q .1 .1) (d .add-triangle .ensures) in
+    cell-second (a .surface) (a .u) (a .v) (q .0 .2) (d .before .before .cell-corners .ensures) e (f .add-triangle2 .ensures)
 
 pub build-cell-spec : {M : Type 1} → statement M
 build-cell-spec =

@@ -62,7 +62,7 @@ returns c =
     let a = t .args in
     let e : a .count + 2 ≡ a .count + 1 + 1 = omega arith in
     ap (λ (k : ℕ). trianglesIn k (z .last .0)) e
-    ∙ inner-cell (a .surface .m) (a .surface .n) (a .surface .u) (a .surface .v) (a .u) (a .v) (t .pre .0 .1) (t .pre .0 .2) (p .ensures) (t .pre .1 .1) (w .ensures) (z .ensures)
+    ∙ inner-cell (a .surface) (a .u) (a .v) (t .pre .0 .1) (t .pre .0 .2) (p .ensures) (t .pre .1 .1) (w .ensures) (z .ensures)
 
 pub build-inner-cell-spec : {M : Type 1} → statement M
 build-inner-cell-spec =
