@@ -9,7 +9,6 @@ use native.Mathlib.Numerals.{add-one}
 use lib.Dec.{ltb}
 use lib.ListN.{length, getD}
 use borrow.Author.Tests.{lt-ltb, le-ltb}
-use Rattle.float.proofs.Tests.{and-both}
 use Rattle.cyclic.specs.declared.mapping.CyclicMapping.{CyclicMapping}
 use Rattle.cyclic.specs.declared.mapping.CyclicMapping.the-variants.{Forward, Reverse}
 use Rattle.cyclic.specs.declared.seam.Seam.{Seam as Found}
@@ -47,21 +46,14 @@ ordered-down a b h =
     rw (l, r)
 
 module _ (axis : Axis) (s : Shape) (m : Seam) (i : ℕ) (ps : List Pair) {on : ℕ} (here : on ≡ stepOn m (stepsOf axis s) i) where
+  -- no step of the low rim lies on step i of the high rim
   pub no-step : stepsOf axis s ≤ on → ps ≡ flipStep axis s m i ps
-  no-step h = sym (rw (sym here, le-ltb on (stepsOf axis s) h))
+  no-step h = rw (← here, le-ltb on (stepsOf axis s) h)
 
-  module _ (there : on < stepsOf axis s) {a b : Bool} (low : a ≡ proper (slot s (lowOf axis s on))) (high : b ≡ proper (slot s (highOf axis s i))) where
-    tested : proper (slot s (lowOf axis s on)) && proper (slot s (highOf axis s i)) ≡ a && b
-    tested = rw (low, high)
-
-    pub not-both : a && b ≡ false → ps ≡ flipStep axis s m i ps
-    not-both e = sym (rw (sym here, lt-ltb on (stepsOf axis s) there, tested, e))
-
-    pub put-both : a && b ≡ true → insert (ordered (triangleNumber s (lowOf axis s on)) (triangleNumber s (highOf axis s i))) ps ≡ flipStep axis s m i ps
-    put-both e = sym (rw (sym here, lt-ltb on (stepsOf axis s) there, tested, e))
-
-    pub high-proper : a && b ≡ true → proper (slot s (highOf axis s i)) ≡ true
-    high-proper e = sym high ∙ and-both a b e .1
+  -- one does: their triangles are a pair if both are there
+  pub step-pair : {a b : Bool} → on < stepsOf axis s → a ≡ proper (slot s (lowOf axis s on)) → b ≡ proper (slot s (highOf axis s i)) →
+      flipStep axis s m i ps ≡ cond (a && b) (insert (ordered (triangleNumber s (lowOf axis s on)) (triangleNumber s (highOf axis s i))) ps) ps
+  step-pair h low high = rw (← here, lt-ltb on (stepsOf axis s) h, low, high)
 
 -- Steps one after another
 

@@ -87,6 +87,4 @@ module _ (s : Surface) (b : Bounded s) where
   pub corner-last : (row u v : ℕ) {p q : Place} → row + 1 ≡ s .n → p ≡ joinOf (s .u) (s .m) u v → q ≡ joinOf (s .v) (s .n) (p .step) (p .line) →
       pointNumber (s .n) (q .step) (q .line) ≡ corner (shapeOf s) row u v
   unfolding corner cornerBy
-  corner-last row u v {p} h e f =
-      let first : uRule (shapeOf s) (at u v) ≡ at (p .line) (p .step) = rw e (u-rule u v) in
-      rw (f, eq-eqb (row + 1) (s .n) h, first, v-rule (p .line) (p .step))
+  corner-last row u v h e f = rw (f, e, eq-eqb (row + 1) (s .n) h, u-rule u v, v-rule)
