@@ -12,7 +12,7 @@ use borrow.Author.Tests.{lt-ltb, le-ltb}
 use Rattle.cyclic.specs.declared.mapping.CyclicMapping.{CyclicMapping}
 use Rattle.cyclic.specs.declared.mapping.CyclicMapping.the-variants.{Forward, Reverse}
 use Rattle.cyclic.specs.declared.seam.Seam.{Seam as Found}
-use Rattle.cyclic.specs.declared.seam.Seam.the-variants.{Joined, Unjoined}
+use Rattle.cyclic.specs.declared.seam.Seam.the-variants.{Joined}
 use Rattle.cyclic.specs.Mapping as cyclic
 use Rattle.surface.specs.Surface.{Seam, Shape, Pair, ordered, insert, proper, slot, triangleNumber, stepOn, reversed, process, flipped, highU, lowV, highV, pair}
 use Rattle.surface.specs.Found.{ofMapping, seamOf}
@@ -100,20 +100,13 @@ held-pairs count l e = sym (length-firsts (pairAt l) count) ∙ ap length e
 
 -- One seam
 
-pub reverse-is : (m : CyclicMapping) → cyclic.isReverse m ≡ reversed (ofMapping m)
-reverse-is (Forward o n) = refl
-reverse-is (Reverse o n) = refl
-
-module _ (axis : Axis) (s : Shape) (ps : List Pair) {seam : Found} where
-  pub seam-none : seam ≡ Unjoined → ps ≡ flips axis s (seamOf seam) ps
-  seam-none e = sym (ap (λ (x : Found). flips axis s (seamOf x) ps) e)
-
-  module _ {m : CyclicMapping} (e : seam ≡ Joined m) where
-    pub seam-forward : cyclic.isReverse m ≡ false → ps ≡ flips axis s (seamOf seam) ps
-    seam-forward f = sym (ap (λ (x : Found). flips axis s (seamOf x) ps) e ∙ rw (sym (reverse-is m) ∙ f))
-
-    pub seam-reverse : cyclic.isReverse m ≡ true → flipSteps axis s (ofMapping m) (stepsOf axis s) ps ≡ flips axis s (seamOf seam) ps
-    seam-reverse f = sym (ap (λ (x : Found). flips axis s (seamOf x) ps) e ∙ rw (sym (reverse-is m) ∙ f))
+-- what a found seam's test says of it
+pub seam-told : {seam : Found} {m : CyclicMapping} {r t : Bool} → seam ≡ Joined m → r ≡ cyclic.isReverse m → r ≡ t → reversed (seamOf seam) ≡ t
+seam-told {m = m} e i h = rw (e, ← reverse-is m, ← i, h)
+  where
+    reverse-is : (k : CyclicMapping) → cyclic.isReverse k ≡ reversed (ofMapping k)
+    reverse-is (Forward o n) = refl
+    reverse-is (Reverse o n) = refl
 
 -- The counts along the rims
 

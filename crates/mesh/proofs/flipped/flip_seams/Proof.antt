@@ -1,11 +1,10 @@
 -- `mesh::flipped::flip_seams` meets its contract: the u seam's pairs, and the v seam's put into them. Assumes nothing.
-use mathlib.Core.Path.{_≡_, ap, _∙_}
-use mathlib.Core.List.{List, []}
+use mathlib.Core.Path.{_≡_, _∙_}
+use mathlib.Core.List.{[]}
 use native.Mathlib.Omega.{arith}
 use borrow.Author.Needs.{needs}
-use Rattle.surface.specs.Surface.{Pair}
 use Rattle.surface.specs.Found.{seamOf}
-use Rattle.mesh.specs.declared.flipped.Axis.the-variants.{U, «V»}
+use Rattle.mesh.specs.declared.flipped.Axis.the-variants.{U}
 use Rattle.mesh.specs.Corners.{shapeOf}
 use Rattle.mesh.specs.Held.{firsts, pairsIn}
 use Rattle.mesh.specs.Rims.{flips}
@@ -40,9 +39,7 @@ returns : tie.Need-returns
 returns c =
     let a = c .before .before .before .before .before .before .before .before .before .before .before .before .args in
     let s = shapeOf (a .surface) in
-    c .before .before .flip-seam2 .ensures
-    ∙ ap (λ (ps : List Pair). flips «V» s (seamOf (a .surface .v)) ps) (first (c .before .before .before .before .before .before))
-    ∙ flipped-is s
+    rw (first (c .before .before .before .before .before .before)) at (c .before .before .flip-seam2 .ensures) ∙ flipped-is s
 
 pub flip-seams-spec : {M : Type 1} → statement M
 flip-seams-spec = tie.close (tie.spec flip-seam-requires flip-seam-requires-2 (λ c. search needs) returns)

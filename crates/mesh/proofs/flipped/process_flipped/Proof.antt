@@ -1,15 +1,13 @@
 -- `mesh::flipped::process_flipped` meets its contract: after i steps the list holds what `process` gives for them. Assumes nothing.
-use Prim.Native.Nat.{ℕ, _-_, _≤_}
-use mathlib.Core.Path.{_≡_, refl, ap, _∙_}
-use mathlib.Core.List.{List}
+use Prim.Native.Nat.{_-_, _≤_}
+use mathlib.Core.Path.{_≡_, refl, _∙_}
 use native.Mathlib.Omega.{arith}
 use lib.ListN.{length}
 use borrow.Author.Needs.{needs}
-use Rattle.surface.specs.Surface.{Pair}
 use Rattle.surface.specs.Found.{ofMapping}
 use Rattle.mesh.specs.Corners.{shapeOf}
 use Rattle.mesh.specs.Held.{pairsIn, pairAt}
-use Rattle.mesh.specs.Rims.{stepsOf, flipStep, flipSteps}
+use Rattle.mesh.specs.Rims.{stepsOf, flipSteps}
 use Rattle.mesh.proofs.Firsts.{length-firsts}
 use Rattle.mesh.proofs.Flips.{flips-none, flips-more, flips-most, held-pairs}
 use Rattle.mesh.proofs.flipped.process_flipped.Statement.{statement}
@@ -53,9 +51,7 @@ loop-again c =
     let s = shapeOf (a .surface) in
     let m = ofMapping (a .mapping) in (
       omega arith,
-      f .ensures
-          ∙ ap (λ (ps : List Pair). flipStep (a .axis) s m (w .i) ps) (w .inv .1)
-          ∙ flips-more (a .axis) s m (w .i) (pairsIn (a .start) (a .flipped .now)),
+      f .ensures ∙ rw (w .inv .1) (flips-more (a .axis) s m (w .i) (pairsIn (a .start) (a .flipped .now))),
       omega (arith, f .kept .1 .1 .1 .1 .1 .1 .0),
     )
 
@@ -64,7 +60,7 @@ returns c =
     let w = c .before .loop in
     let a = c .before .before .before .before .before .before .args in
     let e : w .i ≡ stepsOf (a .axis) (shapeOf (a .surface)) = omega (arith, c .before .before .rim-steps .ensures) in
-    w .inv .1 ∙ ap (λ (n : ℕ). flipSteps (a .axis) (shapeOf (a .surface)) (ofMapping (a .mapping)) n (pairsIn (a .start) (a .flipped .now))) e
+    rw e at (w .inv .1)
 
 pub process-flipped-spec : {M : Type 1} → statement M
 process-flipped-spec =
