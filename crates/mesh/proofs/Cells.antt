@@ -41,10 +41,6 @@ kept-more : (s : Shape) (k : ℕ) {t : Triangle} {before after : List Triangle} 
 unfolding kept
 kept-more s k e b a = rw (add-one, a, b, e)
 
--- a cell from its four corners
-pub corners-same : {A : Type 0} (f : ℕ → ℕ → ℕ → ℕ → A) {a b c d a′ b′ c′ d′ : ℕ} → a ≡ a′ → b ≡ b′ → c ≡ c′ → d ≡ d′ → f a b c d ≡ f a′ b′ c′ d′
-corners-same f p q r t = cc
-
 pub held-triangles : (count : ℕ) (l : List ℕ) {ts : List Triangle} → trianglesIn count l ≡ ts → count ≡ length ts
 held-triangles count l e = sym (length-firsts (triangleAt l) count) ∙ ap length e
 
@@ -65,7 +61,7 @@ none-held s n l = rw (zero-mul n)
 pub value-first : (f : ℕ → ℕ) (l : List ℕ) (x : ℕ) → 0 < length l → x ≡ f 0 → (i : ℕ) → i ≤ 0 → getD (set l 0 x) i 0 ≡ f i
 value-first f l x h z i q =
     let e : i ≡ 0 = omega arith in
-    ap (λ (j : ℕ). getD (set l 0 x) j 0) e ∙ getD-set-same l 0 x 0 h ∙ z ∙ ap f (sym e)
+    rw (e, getD-set-same l 0 x 0 h) z
 
 -- one more value of f written into a list that has those up to u
 pub values-more : (f : ℕ → ℕ) (l : List ℕ) (u x : ℕ) → u + 1 < length l → ((i : ℕ) → i ≤ u → getD l i 0 ≡ f i) → x ≡ f (u + 1) →
@@ -73,8 +69,7 @@ pub values-more : (f : ℕ → ℕ) (l : List ℕ) (u x : ℕ) → u + 1 < lengt
 values-more f l u x h known e i q =
     ⊎-elim
     (λ m. getD-set-other l (u + 1) i x 0 (λ z. omega arith) ∙ known i (omega arith))
-    (λ m. let z : i ≡ u + 1 = omega arith in
-    ap (λ (j : ℕ). getD (set l (u + 1) x) j 0) z ∙ getD-set-same l (u + 1) x 0 h ∙ e ∙ ap f (sym z))
+    (λ m. let z : i ≡ u + 1 = omega arith in rw (z, getD-set-same l (u + 1) x 0 h) e)
     (lt-or-le i (u + 1))
 
 -- Cell (u, v)

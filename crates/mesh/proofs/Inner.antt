@@ -13,7 +13,7 @@ use Rattle.surface.proofs.Demand.{proper-of}
 use Rattle.mesh.specs.declared.corner.Cell.{Cell}
 use Rattle.mesh.specs.declared.corner.Surface.{Surface}
 use Rattle.mesh.specs.Corners.{shapeOf, cellOf}
-use Rattle.mesh.proofs.Cells.{firstOf, secondOf, corners-same, added-one, cell-first, cell-second}
+use Rattle.mesh.proofs.Cells.{firstOf, secondOf, added-one, cell-first, cell-second}
 
 -- a cell of a grid of n v steps, whose corner (u, v) has the number i
 abbrev plainCell : ℕ → ℕ → Cell
@@ -27,11 +27,11 @@ module _ (surface : Surface) where
   module _ (u v : ℕ) (p : u + 1 < surface .m) (q : v + 1 < surface .n) where
     plain-cell : cellOf (shapeOf surface) u v ≡ plainCell (surface .n) (pointNumber (surface .n) u v)
     plain-cell =
-        corners-same (λ (a b c d : ℕ). record { i00 = a; i10 = b; i01 = c; i11 = d })
-        (plain-corner v u v (omega arith) q)
-        (plain-corner v (u + 1) v p q ∙ omega (arith, add-mul u 1 (surface .n + 1)))
-        (plain-corner v u (v + 1) (omega arith) q ∙ omega arith)
-        (plain-corner v (u + 1) (v + 1) p q ∙ omega (arith, add-mul u 1 (surface .n + 1)))
+        let n = surface .n in
+        let i10 : pointNumber n (u + 1) v ≡ pointNumber n u v + n + 1 = omega (arith, add-mul u 1 (n + 1)) in
+        let i01 : pointNumber n u (v + 1) ≡ pointNumber n u v + 1 = omega arith in
+        let i11 : pointNumber n (u + 1) (v + 1) ≡ pointNumber n u v + n + 1 + 1 = omega (arith, add-mul u 1 (n + 1)) in
+        rw (plain-corner v u v (omega arith) q, plain-corner v (u + 1) v p q, plain-corner v u (v + 1) (omega arith) q, plain-corner v (u + 1) (v + 1) p q, i10, i01, i11)
 
     -- the cell's two triangles, put after those before it
     pub inner-cell : {i : ℕ} {ts after both : List Triangle} → i ≡ pointNumber (surface .n) u v → ts ≡ kept (shapeOf surface) (2 * (u * surface .n + v)) →
