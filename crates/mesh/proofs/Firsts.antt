@@ -38,7 +38,7 @@ module _ {A : Type 0} where
   unfolding firsts
   firsts-put f g zero i p h low here high =
       let z : i ≡ 0 = omega arith in
-      rw z (ap (λ (x : A). x ∷ []) (ap g (sym z) ∙ here))
+      rw (z, rw z at here)
   firsts-put f g (suc k) i p h low here high =
       ⊎-elim (λ l. inside l (firsts-put f g k i p (omega arith) low here (λ j q r. high j q (omega arith)))) end (lt-or-le i (suc k))
     where

@@ -1,7 +1,7 @@
 -- What a step of a reversed seam puts down, from what the code finds there, and how many pairs there can be. Assumes nothing.
 use Prim.Native.Nat.{ℕ, zero, suc, _+_, _-_, _*_, _≤_, _<_, min, max}
 use mathlib.Core.Path.{_≡_, refl, sym, ap, _∙_}
-use mathlib.Core.Bool.{Bool, true, false, _&&_, cond}
+use mathlib.Core.Bool.{Bool, true, _&&_, cond}
 use mathlib.Core.List.{List, [], _∷_}
 use native.Mathlib.Nat.{add-mul}
 use native.Mathlib.Omega.{arith}
@@ -9,12 +9,13 @@ use native.Mathlib.Numerals.{add-one}
 use lib.Dec.{ltb}
 use lib.ListN.{length, getD}
 use borrow.Author.Tests.{lt-ltb, le-ltb}
+use Rattle.float.proofs.Tests.{cond-keeps}
 use Rattle.cyclic.specs.declared.mapping.CyclicMapping.{CyclicMapping}
 use Rattle.cyclic.specs.declared.mapping.CyclicMapping.the-variants.{Forward, Reverse}
 use Rattle.cyclic.specs.declared.seam.Seam.{Seam as Found}
 use Rattle.cyclic.specs.declared.seam.Seam.the-variants.{Joined}
 use Rattle.cyclic.specs.Mapping as cyclic
-use Rattle.surface.specs.Surface.{Seam, Shape, Pair, ordered, insert, proper, slot, triangleNumber, stepOn, reversed, process, flipped, highU, lowV, highV, pair}
+use Rattle.surface.specs.Surface.{Seam, Shape, Pair, ordered, insert, proper, slot, triangleNumber, stepOn, reversed, process, flipped, pair}
 use Rattle.surface.specs.Found.{ofMapping, seamOf}
 use Rattle.mesh.specs.declared.corner.Surface.{Surface}
 use Rattle.mesh.specs.declared.flipped.Axis.{Axis}
@@ -66,8 +67,7 @@ unfolding process
 flips-more axis s m i ps = sym (ap (λ (n : ℕ). flipSteps axis s m n ps) (add-one i))
 
 cond-most : (b : Bool) (x y : List Pair) (n : ℕ) → length x ≤ n → length y ≤ n → length (cond b x y) ≤ n
-cond-most true x y n p q = p
-cond-most false x y n p q = q
+cond-most b x y n = cond-keeps (λ (ps : List Pair). length ps ≤ n) b x y
 
 insert-most : (p : Pair) (ps : List Pair) → length (insert p ps) ≤ suc (length ps)
 insert-most p [] = omega arith
@@ -110,38 +110,26 @@ seam-told {m = m} e i h = rw (e, ← reverse-is m, ← i, h)
 
 -- The counts along the rims
 
-module _ (surface : Surface) (b : Bounded surface) where
-  pub rims-u : (low high : List ℕ) → surface .n < length low → surface .n < length high →
-      ((i : ℕ) → i ≤ surface .n → getD low i 0 ≡ triangleNumber (shapeOf surface) (2 * (0 * surface .n + i))) →
-      ((i : ℕ) → i ≤ surface .n → getD high i 0 ≡ triangleNumber (shapeOf surface) (2 * ((surface .m - 1) * surface .n + i))) →
-      Rims U (shapeOf surface) low high
-  rims-u low high p q l h =
-      let s = shapeOf surface in
-      record {
-        low-room = p;
-        high-room = q;
-        before = λ i k. l i (omega arith) ∙ ap (triangleNumber s) (low-u surface i);
-        after = λ i k. h (i + 1) (omega arith) ∙ ap (triangleNumber s) (next i);
-      }
-    where
-      next : (i : ℕ) → 2 * ((surface .m - 1) * surface .n + (i + 1)) ≡ highU (shapeOf surface) i + 1
-      next i = omega (arith, high-u surface i)
+pub rims-u : (surface : Surface) (low high : List ℕ) → surface .n < length low → surface .n < length high →
+    ((i : ℕ) → i ≤ surface .n → getD low i 0 ≡ triangleNumber (shapeOf surface) (2 * (0 * surface .n + i))) →
+    ((i : ℕ) → i ≤ surface .n → getD high i 0 ≡ triangleNumber (shapeOf surface) (2 * ((surface .m - 1) * surface .n + i))) →
+    Rims U (shapeOf surface) low high
+rims-u surface low high p q l h =
+    record {
+      low-room = p;
+      high-room = q;
+      before = λ i k. l i (omega arith) ∙ ap (triangleNumber (shapeOf surface)) (low-u surface i);
+      after = λ i k. h (i + 1) (omega arith) ∙ ap (triangleNumber (shapeOf surface)) (omega (arith, high-u surface i));
+    }
 
-  pub rims-v : (starts : List ℕ) → Starts surface starts → Rims «V» (shapeOf surface) starts starts
-  rims-v starts t =
-      let s = shapeOf surface in
-      record {
-        low-room = t .room;
-        high-room = t .room;
-        before = λ i k. t .at i (omega arith) ∙ ap (triangleNumber s) (first i);
-        after = λ i k. t .at (i + 1) (omega arith) ∙ ap (triangleNumber s) (next i);
-      }
-    where
-      first : (i : ℕ) → 2 * (i * surface .n) ≡ lowV (shapeOf surface) i
-      first i = omega (arith, low-v surface i)
-
-      next : (i : ℕ) → 2 * ((i + 1) * surface .n) ≡ highV (shapeOf surface) i + 1
-      next i = omega (arith, add-mul i 1 (surface .n), high-v surface i, b .n-least)
+pub rims-v : (surface : Surface) → Bounded surface → (starts : List ℕ) → Starts surface starts → Rims «V» (shapeOf surface) starts starts
+rims-v surface b starts t =
+    record {
+      low-room = t .room;
+      high-room = t .room;
+      before = λ i k. t .at i (omega arith) ∙ ap (triangleNumber (shapeOf surface)) (omega (arith, low-v surface i));
+      after = λ i k. t .at (i + 1) (omega arith) ∙ ap (triangleNumber (shapeOf surface)) (omega (arith, add-mul i 1 (surface .n), high-v surface i, b .n-least));
+    }
 
 pub flipped-is : (s : Shape) → flips «V» s (s .sv) (flips U s (s .su) []) ≡ flipped s
 unfolding flipped

@@ -5,6 +5,7 @@ use mathlib.Core.Bool.{Bool, true, false, _&&_, cond}
 use native.Mathlib.Omega.{arith}
 use lib.Dec.{eqb}
 use borrow.Author.Tests.{eq-eqb, ne-eqb}
+use Rattle.float.proofs.Tests.{cond-keeps}
 use Rattle.grid.specs.Grid.{pointNumber}
 use Rattle.cyclic.specs.declared.mapping.CyclicMapping.{CyclicMapping}
 use Rattle.cyclic.specs.declared.mapping.CyclicMapping.the-variants.{Forward, Reverse}
@@ -42,11 +43,10 @@ join-bounds : (seam : Seam) (steps last line step : ℕ) → Maps seam steps →
     (joinOf seam last line step .line ≤ line) × (joinOf seam last line step .step ≤ steps)
 unfolding joinOf
 join-bounds Unjoined steps last line step h most l = (omega arith, l)
-join-bounds (Joined m) steps last line step h most l = go (eqb line last)
-  where
-    go : (b : Bool) → (cond b (placed 0 (cyclic.inverse m step)) (placed line step) .line ≤ line) × (cond b (placed 0 (cyclic.inverse m step)) (placed line step) .step ≤ steps)
-    go true = (omega arith, omega (arith, inverse-within m step (maps-joins (Joined m) steps step h most l)))
-    go false = (omega arith, l)
+join-bounds (Joined m) steps last line step h most l =
+    cond-keeps (λ (p : Place). (p .line ≤ line) × (p .step ≤ steps)) (eqb line last) (placed 0 (cyclic.inverse m step)) (placed line step)
+    (omega arith, omega (arith, inverse-within m step (maps-joins (Joined m) steps step h most l)))
+    (omega arith, l)
 
 pub join-within : (seam : Seam) (steps last line step : ℕ) {p : Place} → p ≡ joinOf seam last line step → Maps seam steps → steps ≤ 255 → step ≤ steps →
     (p .line ≤ line) × (p .step ≤ steps)
@@ -58,8 +58,8 @@ pub inverse-is : (m : CyclicMapping) (steps j : ℕ) → cyclic.stepsOf m ≡ st
 inverse-is m steps j e = rw (← e) (inverse-of m j)
 
 -- 01's rule, of points that are given by their lines and steps
-rule-is : (f : ℕ → ℕ → Point) (seam : Seam) (steps last line step : ℕ) → Maps seam steps →
-    cond (joined (seamOf seam) && eqb line last) (f 0 (inverse (seamOf seam) steps step)) (f line step) ≡ f (joinOf seam last line step .line) (joinOf seam last line step .step)
+rule-is : (f : Place → Point) (seam : Seam) (steps last line step : ℕ) → Maps seam steps →
+    cond (joined (seamOf seam) && eqb line last) (f (placed 0 (inverse (seamOf seam) steps step))) (f (placed line step)) ≡ f (joinOf seam last line step)
 unfolding joinOf
 rule-is f Unjoined steps last line step h = refl
 rule-is f (Joined m) steps last line step h = rw (found m, inverse-is m steps step (h .0)) (go (eqb line last))
@@ -68,16 +68,16 @@ rule-is f (Joined m) steps last line step h = rw (found m, inverse-is m steps st
     found (Forward o n) = refl
     found (Reverse o n) = refl
 
-    go : (b : Bool) → cond b (f 0 (cyclic.inverse m step)) (f line step) ≡ f (cond b (placed 0 (cyclic.inverse m step)) (placed line step) .line) (cond b (placed 0 (cyclic.inverse m step)) (placed line step) .step)
+    go : (b : Bool) → cond b (f (placed 0 (cyclic.inverse m step))) (f (placed line step)) ≡ f (cond b (placed 0 (cyclic.inverse m step)) (placed line step))
     go true = refl
     go false = refl
 
 module _ (s : Surface) (b : Bounded s) where
   u-rule : (u v : ℕ) → uRule (shapeOf s) (at u v) ≡ at (joinOf (s .u) (s .m) u v .line) (joinOf (s .u) (s .m) u v .step)
-  u-rule u v = rule-is at (s .u) (s .n) (s .m) u v (b .u-maps)
+  u-rule u v = rule-is (λ (p : Place). at (p .line) (p .step)) (s .u) (s .n) (s .m) u v (b .u-maps)
 
   v-rule : (u v : ℕ) → vRule (shapeOf s) (at u v) ≡ at (joinOf (s .v) (s .n) v u .step) (joinOf (s .v) (s .n) v u .line)
-  v-rule u v = rule-is (λ line step. at step line) (s .v) (s .m) (s .n) v u (b .v-maps)
+  v-rule u v = rule-is (λ (p : Place). at (p .step) (p .line)) (s .v) (s .m) (s .n) v u (b .v-maps)
 
   pub corner-other : (row u v : ℕ) {p : Place} → (row + 1 ≡ s .n → ⊥) → p ≡ joinOf (s .u) (s .m) u v →
       pointNumber (s .n) (p .line) (p .step) ≡ corner (shapeOf s) row u v

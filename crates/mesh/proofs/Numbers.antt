@@ -67,6 +67,7 @@ module _ (surface : Surface) (i : ℕ) where
 
 -- The step of one rim on another
 
-pub step-is : (m : CyclicMapping) (steps i : ℕ) {a b r : ℕ} → cyclic.stepsOf m ≡ steps → a ≡ cyclic.inverse m i → b ≡ cyclic.inverse m (i + 1) → r ≡ wrapEnds steps a b → r ≡ stepOn (ofMapping m) steps i
+pub step-is : (m : CyclicMapping) (steps i : ℕ) {a b r : ℕ} → cyclic.stepsOf m ≡ steps → a ≡ cyclic.inverse m i → b ≡ cyclic.inverse m (i + 1) →
+    r ≡ wrapEnds steps a b → r ≡ stepOn (ofMapping m) steps i
 unfolding stepOn
 step-is m steps i e p q h = rw (h, p, q, inverse-is m steps i e, inverse-is m steps (i + 1) e)

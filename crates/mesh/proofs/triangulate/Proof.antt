@@ -13,14 +13,14 @@ use Rattle.mesh.proofs.Answers.{all-kept, triangles-most, triangles-fil
 use Rattle.mesh.proofs.triangulate.Statement.{statement}
 use Rattle.mesh.proofs.triangulate.Tie as tie
 
--- the list as the triangles leave it, and the start
+-- the start, from where the triangles are built
 abbrev started : tie.After-build-triangles → tie.Start
 started e = e .before .before .before .before .before
 
 triangles-fit : (e : tie.After-build-triangles) → let s = started e .args .surface in 3 * e .build-triangles .result ≤ 6 * (s .m * s .n)
 triangles-fit e = triangles-most (shapeOf (started e .args .surface)) (e .build-triangles .result) (e .build-triangles .last .1 .0) (e .build-triangles .ensures .0)
 
--- the pairs come after the triangles
+-- where the triangles are built, from where the pairs are found
 abbrev built : tie.After-find-flipped → tie.After-build-triangles
 built e = e .before .before .before .before .before .before
 

@@ -33,7 +33,11 @@ returns c =
     let t = c .before .before .before .before .before .before .before .before .before .before .before .before .before .before in
     let l = c .before .before .before .before .before .before .before .count-row in
     let h = c .before .before .count-row2 in
-    rims-u (t .args .surface) (t .pre .0 .0) (l .last .1 .1 .1 .0) (h .last .1 .1 .1 .0) (omega (arith, l .kept .1 .1 .1 .0, t .pre .0 .1)) (omega (arith, h .kept .1 .1 .1 .0, t .pre .0 .2)) (l .ensures) (h .ensures)
+    rims-u (t .args .surface) (l .last .1 .1 .1 .0) (h .last .1 .1 .1 .0)
+    (omega (arith, l .kept .1 .1 .1 .0, t .pre .0 .1))
+    (omega (arith, h .kept .1 .1 .1 .0, t .pre .0 .2))
+    (l .ensures)
+    (h .ensures)
 
 pub count-rims-spec : {M : Type 1} → statement M
 count-rims-spec =

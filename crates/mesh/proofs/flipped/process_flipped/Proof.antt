@@ -39,7 +39,7 @@ flip-step-requires c κs =
       (t .pre .0 .0, t .pre .0 .1, omega (arith, c .before .loop-test .taken, r .ensures)),
       (
         t .pre .1 .0,
-        omega (arith, k, flips-most (a .axis) s (ofMapping (a .mapping)) (w .i) ps, length-firsts (pairAt (a .flipped .now)) (a .start), c .before .loop-test .taken, r .ensures, t .pre .1 .1, w .inv .2),
+        omega (arith, flips-most (a .axis) s (ofMapping (a .mapping)) (w .i) ps, length-firsts (pairAt (a .flipped .now)) (a .start)),
       ),
     )
 

@@ -1,7 +1,8 @@
 -- `mesh::flipped::step_on` meets its contract: the step between the inverse images of the two ends. Assumes nothing.
-use Prim.Native.Nat.{_+_}
+use Prim.Native.Nat.{ℕ, _+_, _≤_}
 use native.Mathlib.Omega.{arith}
 use Rattle.cyclic.specs.declared.seam.Seam.the-variants.{Joined}
+use Rattle.cyclic.specs.Mapping.{HasIndex}
 use Rattle.cyclic.proofs.Mappings.{inverse-within}
 use Rattle.mesh.proofs.Joins.{maps-joins}
 use Rattle.mesh.proofs.Numbers.{step-is}
@@ -9,21 +10,21 @@ use borrow.Author.Needs.{needs}
 use Rattle.mesh.proofs.flipped.step_on.Statement.{statement}
 use Rattle.mesh.proofs.flipped.step_on.Tie as tie
 
+-- the mapping takes every index of its rows
+index : (t : tie.Start) (j : ℕ) → j ≤ t .args .steps → HasIndex (t .args .mapping) j
+index t j h = maps-joins (Joined (t .args .mapping)) (t .args .steps) j (t .pre .0) (omega arith) h
+
 inverse-requires : tie.Need-inverse-requires
-inverse-requires c κs = maps-joins (Joined (c .args .mapping)) (c .args .steps) (c .args .i) (c .pre .0) (omega arith) (omega arith)
+inverse-requires c κs = index c (c .args .i) (omega arith)
 
 inverse-requires-2 : tie.Need-inverse-requires-2
-inverse-requires-2 c κs =
-    let t = c .before in
-    maps-joins (Joined (t .args .mapping)) (t .args .steps) (t .args .i + 1) (t .pre .0) (omega arith) (omega arith)
+inverse-requires-2 c κs = index (c .before) (c .before .args .i + 1) (omega arith)
 
 wrap-ends-requires : tie.Need-wrap-ends-requires
 wrap-ends-requires c κs =
     let t = c .before .before in
     let a = t .args in
-    let p = inverse-within (a .mapping) (a .i) (maps-joins (Joined (a .mapping)) (a .steps) (a .i) (t .pre .0) (omega arith) (omega arith)) in
-    let q = inverse-within (a .mapping) (a .i + 1) (maps-joins (Joined (a .mapping)) (a .steps) (a .i + 1) (t .pre .0) (omega arith) (omega arith)) in
-    omega (arith, c .before .inverse .ensures, c .inverse2 .ensures, t .pre .0 .0, t .pre .1)
+    omega (arith, inverse-within (a .mapping) (a .i) (index t (a .i) (omega arith)), inverse-within (a .mapping) (a .i + 1) (index t (a .i + 1) (omega arith)), t .pre .0 .0)
 
 returns : tie.Need-returns
 returns c =
