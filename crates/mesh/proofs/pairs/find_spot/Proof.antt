@@ -21,26 +21,26 @@ loop-holds c = (omega arith, refl)
 returns : tie.Need-returns Inv-loop μ-loop
 returns c =
     let a = c .before .before .before .before .before .args in
-    let i = c .before .before .before .before .loop in
-    (omega (arith, length-firsts (pairAt (a .list .now)) (a .count)), spot-before (pairAt (a .list .now)) (a .count) (i .i) (pair (a .low) (a .high)) (omega arith) (i .inv .1) (c .if1 .taken))
+    let w = c .before .before .before .before .loop in
+    (omega (arith, length-firsts (pairAt (a .list .now)) (a .count)), spot-before (pairAt (a .list .now)) (a .count) (w .i) (pair (a .low) (a .high)) (omega arith) (w .inv .1) (c .if1 .taken))
 
 returns-2 : tie.Need-returns-2 Inv-loop μ-loop
 returns-2 c =
     let a = c .before .before .before .before .before .before .args in
-    let i = c .before .before .before .before .before .loop in
-    spot-there (pairAt (a .list .now)) (a .count) (i .i) (pair (a .low) (a .high)) (omega arith) (i .inv .1) (c .if2 .taken)
+    let w = c .before .before .before .before .before .loop in
+    spot-there (pairAt (a .list .now)) (a .count) (w .i) (pair (a .low) (a .high)) (omega arith) (w .inv .1) (c .if2 .taken)
 
 loop-again : tie.Need-loop-again Inv-loop μ-loop
 loop-again c =
     let a = c .before .before .before .before .before .before .args in
-    let i = c .before .before .before .before .before .loop in
-    (omega arith, spot-on (pairAt (a .list .now)) (a .count) (i .i) (pair (a .low) (a .high)) (omega arith) (i .inv .1) (c .before .if1 .left) (c .if2 .left))
+    let w = c .before .before .before .before .before .loop in
+    (omega arith, spot-on (pairAt (a .list .now)) (a .count) (w .i) (pair (a .low) (a .high)) (omega arith) (w .inv .1) (c .before .if1 .left) (c .if2 .left))
 
 returns-3 : tie.Need-returns-3 Inv-loop μ-loop
 returns-3 c =
     let a = c .before .before .args in
-    let i = c .before .loop in
-    (omega (arith, length-firsts (pairAt (a .list .now)) (a .count)), spot-end (pairAt (a .list .now)) (a .count) (i .i) (pair (a .low) (a .high)) (omega arith) (i .inv .1))
+    let w = c .before .loop in
+    (omega (arith, length-firsts (pairAt (a .list .now)) (a .count)), spot-end (pairAt (a .list .now)) (a .count) (w .i) (pair (a .low) (a .high)) (omega arith) (w .inv .1))
 
 pub find-spot-spec : {M : Type 1} → statement M
 find-spot-spec =

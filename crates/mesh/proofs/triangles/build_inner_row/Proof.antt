@@ -1,6 +1,6 @@
 -- `mesh::triangles::build_inner_row` meets its contract: after v cells the list holds the triangles of the slots up to cell (u, v). Assumes nothing.
-use Prim.Native.Nat.{ℕ, _+_, _-_, _*_, _≤_}
-use mathlib.Core.Path.{_≡_, refl, ap, _∙_}
+use Prim.Native.Nat.{_+_, _-_, _*_, _≤_}
+use mathlib.Core.Path.{_≡_, refl, _∙_}
 use native.Mathlib.Omega.{arith}
 use lib.ListN.{length}
 use Rattle.surface.specs.Surface.{kept}
@@ -38,7 +38,7 @@ returns c =
     let w = c .before .loop in
     let a = c .before .before .before .before .args in
     let e : w .v ≡ a .surface .n - 1 = omega arith in
-    w .inv .1 ∙ ap (λ (v : ℕ). kept (shapeOf (a .surface)) (2 * (a .u * a .surface .n + v))) e
+    rw e at (w .inv .1)
 
 pub build-inner-row-spec : {M : Type 1} → statement M
 build-inner-row-spec =

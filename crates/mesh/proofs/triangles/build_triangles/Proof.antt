@@ -1,6 +1,6 @@
 -- `mesh::triangles::build_triangles` meets its contract: after u rows the list holds the triangles of their slots, and the starts are known up to u. Assumes nothing.
 use Prim.Native.Nat.{ℕ, _+_, _-_, _*_, _≤_}
-use mathlib.Core.Path.{_≡_, refl, ap, _∙_}
+use mathlib.Core.Path.{_≡_, refl, _∙_}
 use native.Mathlib.Omega.{arith}
 use lib.ListN.{length, getD, length-set}
 use Rattle.surface.specs.Surface.{kept, triangleNumber}
@@ -27,7 +27,8 @@ loop-holds c =
     let a = t .args in
     let s = shapeOf (a .surface) in
     let none = none-held s (a .surface .n) (a .triangles .now) in
-    (omega arith, none, refl, refl, value-first (λ (i : ℕ). triangleNumber s (2 * (i * a .surface .n))) (a .starts .now) 0 (omega arith) (held-count s (2 * (0 * a .surface .n)) 0 (a .triangles .now) none))
+    let zero-first = held-count s (2 * (0 * a .surface .n)) 0 (a .triangles .now) none in
+    (omega arith, none, refl, refl, value-first (λ (i : ℕ). triangleNumber s (2 * (i * a .surface .n))) (a .starts .now) 0 (omega arith) zero-first)
 
 build-row-requires : tie.Need-build-row-requires Inv-loop μ-loop
 build-row-requires c κs =
@@ -65,7 +66,7 @@ returns c =
     let w = c .before .loop in
     let a = c .before .before .before .before .args in
     let e : w .u ≡ a .surface .m = omega arith in
-    (w .inv .1 ∙ ap (λ (u : ℕ). kept (shapeOf (a .surface)) (2 * (u * a .surface .n))) e, record { room = omega (arith, w .inv .3, length-set (a .starts .now) 0 0); at = λ i h. w .inv .4 i (omega arith) })
+    (rw e at (w .inv .1), record { room = omega (arith, w .inv .3, length-set (a .starts .now) 0 0); at = λ i h. w .inv .4 i (omega arith) })
 
 pub build-triangles-spec : {M : Type 1} → statement M
 build-triangles-spec =
