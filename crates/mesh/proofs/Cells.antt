@@ -5,7 +5,7 @@ use mathlib.Core.Logic.{⊎-elim}
 use mathlib.Core.Bool.{true, false, cond}
 use mathlib.Core.List.{List, [], _∷_, _++_, append-nil}
 use native.Mathlib.Omega.{arith}
-use native.Mathlib.Nat.{zero-mul, add-mul}
+use native.Mathlib.Nat.{zero-mul}
 use native.Mathlib.Numerals.{add-one}
 use lib.Arith.{digits-div, digits-mod, digits-lt}
 use lib.ListN.{length, getD, set}
@@ -79,7 +79,7 @@ cell-below p q = omega (arith, digits-lt p q)
 
 -- after the last cell of a row comes the next row
 pub row-next : (s : Shape) (n u v : ℕ) → v ≡ n → kept s (2 * (u * n + v)) ≡ kept s (2 * ((u + 1) * n))
-row-next s n u v e = ap (kept s) (omega (arith, add-mul u 1 n))
+row-next s n u v e = ap (kept s) (omega arith)
 
 pub row-first : (s : Shape) (n u : ℕ) → kept s (2 * (u * n)) ≡ kept s (2 * (u * n + 0))
 row-first s n u = ap (kept s) (omega arith)

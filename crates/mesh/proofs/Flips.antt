@@ -3,7 +3,6 @@ use Prim.Native.Nat.{ℕ, zero, suc, _+_, _-_, _*_, _≤_, _<_, min, max}
 use mathlib.Core.Path.{_≡_, refl, sym, ap, _∙_}
 use mathlib.Core.Bool.{Bool, true, _&&_, cond}
 use mathlib.Core.List.{List, [], _∷_}
-use native.Mathlib.Nat.{add-mul}
 use native.Mathlib.Omega.{arith}
 use native.Mathlib.Numerals.{add-one}
 use lib.Dec.{ltb}
@@ -128,7 +127,7 @@ rims-v surface b starts t =
       low-room = t .room;
       high-room = t .room;
       before = λ i k. t .at i (omega arith) ∙ ap (triangleNumber (shapeOf surface)) (omega (arith, low-v surface i));
-      after = λ i k. t .at (i + 1) (omega arith) ∙ ap (triangleNumber (shapeOf surface)) (omega (arith, add-mul i 1 (surface .n), high-v surface i, b .n-least));
+      after = λ i k. t .at (i + 1) (omega arith) ∙ ap (triangleNumber (shapeOf surface)) (omega (arith, high-v surface i));
     }
 
 pub flipped-is : (s : Shape) → flips «V» s (s .sv) (flips U s (s .su) []) ≡ flipped s

@@ -3,7 +3,6 @@ use Prim.Native.Nat.{ℕ, _+_, _*_, _<_}
 use mathlib.Core.Path.{_≡_, sym, ap, _∙_}
 use mathlib.Core.Bool.{and-false}
 use mathlib.Core.List.{List, [], _∷_, _++_}
-use native.Mathlib.Nat.{add-mul}
 use native.Mathlib.Omega.{arith}
 use borrow.Author.Tests.{ne-eqb}
 use Rattle.grid.specs.Grid.{pointNumber}
@@ -28,9 +27,9 @@ module _ (surface : Surface) where
     plain-cell : cellOf (shapeOf surface) u v ≡ plainCell (surface .n) (pointNumber (surface .n) u v)
     plain-cell =
         let n = surface .n in
-        let i10 : pointNumber n (u + 1) v ≡ pointNumber n u v + n + 1 = omega (arith, add-mul u 1 (n + 1)) in
+        let i10 : pointNumber n (u + 1) v ≡ pointNumber n u v + n + 1 = omega arith in
         let i01 : pointNumber n u (v + 1) ≡ pointNumber n u v + 1 = omega arith in
-        let i11 : pointNumber n (u + 1) (v + 1) ≡ pointNumber n u v + n + 1 + 1 = omega (arith, add-mul u 1 (n + 1)) in
+        let i11 : pointNumber n (u + 1) (v + 1) ≡ pointNumber n u v + n + 1 + 1 = omega arith in
         rw (plain-corner v u v (omega arith) q, plain-corner v (u + 1) v p q, plain-corner v u (v + 1) (omega arith) q, plain-corner v (u + 1) (v + 1) p q, i10, i01, i11)
 
     -- the cell's two triangles, put after those before it

@@ -3,7 +3,7 @@ use Prim.Native.Nat.{ℕ, _+_, _-_, _*_, _≤_}
 use mathlib.Core.Path.{_≡_, refl}
 use mathlib.Core.Bool.{Bool, true, false, cond}
 use mathlib.Core.List.{[], _∷_}
-use native.Mathlib.Nat.{zero-mul, mul-le-mul}
+use native.Mathlib.Nat.{mul-le-mul}
 use native.Mathlib.Numerals.{add-one}
 use native.Mathlib.Omega.{arith}
 use lib.ListN.{length, length-append}
@@ -51,7 +51,7 @@ cell-counted s n u v {count} {first} {last} {a} {b} e p q r t =
 module _ (surface : Surface) (i : ℕ) where
   pub low-u : 2 * (0 * surface .n + i) ≡ lowU (shapeOf surface) i
   unfolding lowU
-  low-u = omega (arith, zero-mul (surface .n))
+  low-u = omega arith
 
   pub low-v : 2 * (i * surface .n + 0) ≡ lowV (shapeOf surface) i
   unfolding lowV

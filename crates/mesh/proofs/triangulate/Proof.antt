@@ -7,7 +7,6 @@ use Rattle.surface.specs.Surface.{triangles}
 use Rattle.mesh.specs.Corners.{shapeOf}
 use Rattle.mesh.specs.Held.{trianglesIn}
 use Rattle.mesh.proofs.Cells.{held-triangles}
-use Rattle.mesh.proofs.Numbers.{cells-most}
 use Rattle.mesh.proofs.Flips.{held-pairs}
 use Rattle.mesh.proofs.Answers.{all-kept, triangles-most, triangles-filled, pairs-most, pairs-filled}
 use Rattle.mesh.proofs.triangulate.Statement.{statement}
@@ -30,7 +29,7 @@ pairs-fit e = pairs-most (shapeOf (started (built e) .args .surface)) (e .find-f
 build-triangles-requires : tie.Need-build-triangles-requires
 build-triangles-requires c κs =
     let t = c .before .before .before .before in
-    ((t .pre .0, omega (arith, t .pre .0 .m-most)), t .pre .1 .0)
+    ((t .pre .0, omega arith), t .pre .1 .0)
 
 find-flipped-requires : tie.Need-find-flipped-requires
 find-flipped-requires c κs =
@@ -43,13 +42,13 @@ mul-zero-numbers c =
     let e = built (c .before .before .before) in
     let t = started e in
     let s = t .args .surface in
-    omega (arith, triangles-fit e, cells-most (s .m) (s .n) (t .pre .0 .m-most) (t .pre .0 .n-most))
+    omega (arith, triangles-fit e)
 
 mul-zero-numbers-2 : tie.Need-mul-zero-numbers-2
 mul-zero-numbers-2 c =
     let e = c .before .before .before .before .before .before .before in
     let t = started (built e) in
-    omega (arith, pairs-fit e, t .pre .0 .m-most, t .pre .0 .n-most)
+    omega (arith, pairs-fit e)
 
 returns : tie.Need-returns
 returns c =
@@ -63,10 +62,10 @@ returns c =
     record {
       triangle-list =
           c .before .before .before .before .before .before .zero-numbers .ensures
-          ∙ triangles-filled s (b .result) (b .last .1 .0) (a .triangles .now) all (omega (arith, triangles-fit (built found), b .kept .1 .0, t .pre .1 .0)) (b .kept .1 .0);
+          ∙ triangles-filled s (b .result) (b .last .1 .0) (a .triangles .now) all (omega (arith, triangles-fit (built found))) (b .kept .1 .0);
       pair-list =
           c .before .before .zero-numbers2 .ensures
-          ∙ pairs-filled s (p .result) (p .last .1 .1 .0) (a .flipped .now) (p .ensures) (omega (arith, pairs-fit found, p .kept .1 .1 .0, t .pre .1 .1)) (p .kept .1 .1 .0);
+          ∙ pairs-filled s (p .result) (p .last .1 .1 .0) (a .flipped .now) (p .ensures) (omega (arith, pairs-fit found)) (p .kept .1 .1 .0);
       triangle-count = held-triangles (b .result) (b .last .1 .0) all;
       pair-count = held-pairs (p .result) (p .last .1 .1 .0) (p .ensures);
     }

@@ -25,7 +25,7 @@ one-more-requires c κs = omega (arith, bound (c .before))
 one-more-requires-2 : tie.Need-one-more-requires-2
 one-more-requires-2 c κs =
     let f = c .before .before in
-    omega (arith, c .before .one-more .ensures, one-more-most (f .before .args .count) (f .first-differs .result), bound (f .before))
+    omega (arith, one-more-most (f .before .args .count) (f .first-differs .result), bound (f .before))
 
 returns : tie.Need-returns
 returns c =

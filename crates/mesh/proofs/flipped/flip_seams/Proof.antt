@@ -20,11 +20,6 @@ first : (e : tie.After-flip-seam) → pairsIn (e .flip-seam .result) (e .flip-se
 unfolding firsts
 first e = e .flip-seam .ensures
 
-flip-seam-requires : tie.Need-flip-seam-requires
-flip-seam-requires c κs =
-    let t = c .before .before .before .before .before in
-    ((t .pre .0 .0, t .pre .0 .0 .u-maps), (t .pre .0 .1, omega (arith, t .pre .1)))
-
 flip-seam-requires-2 : tie.Need-flip-seam-requires-2
 flip-seam-requires-2 c κs =
     let t = c .before .before .before .before .before .before .before .before .before in
@@ -32,7 +27,7 @@ flip-seam-requires-2 c κs =
     let f = c .before .before .before .flip-seam in
     let k = held-pairs (f .result) (f .last .1 .1 .1 .1 .1 .0) (first (c .before .before .before)) in (
       (t .pre .0 .0, t .pre .0 .0 .v-maps),
-      (rims-v (a .surface) (t .pre .0 .0) (a .starts .now) (t .pre .0 .2), omega (arith, k, seam-most U (shapeOf (a .surface)) (seamOf (a .surface .u)) [], f .kept .1 .1 .1 .1 .1 .0, t .pre .1)),
+      (rims-v (a .surface) (t .pre .0 .0) (a .starts .now) (t .pre .0 .2), omega (arith, seam-most U (shapeOf (a .surface)) (seamOf (a .surface .u)) [])),
     )
 
 returns : tie.Need-returns
@@ -42,4 +37,4 @@ returns c =
     rw (first (c .before .before .before .before .before .before)) at (c .before .before .flip-seam2 .ensures) ∙ flipped-is s
 
 pub flip-seams-spec : {M : Type 1} → statement M
-flip-seams-spec = tie.close (tie.spec flip-seam-requires flip-seam-requires-2 (λ c. search needs) returns)
+flip-seams-spec = tie.close (tie.spec (λ c κs. search needs) flip-seam-requires-2 (λ c. search needs) returns)

@@ -32,27 +32,19 @@ on-is : (e : tie.After-step-on) → let t = e .before .before .before .before .b
 on-is e = rw (← e .before .rim-steps .ensures) (e .step-on .ensures)
 
 on-there : (e : tie.Else1) → let t = e .before .before .before .before .before .before in e .before .step-on .result < stepsOf (t .args .axis) (shape t)
-on-there e = omega (arith, e .if1 .left, e .before .before .rim-steps .ensures)
+on-there e = omega arith
 
 step-on-requires : tie.Need-step-on-requires
 step-on-requires c κs =
     let t = c .before .before .before .before in
     let e = c .rim-steps .ensures in
-    (rw e (t .pre .0 .1), omega (arith, steps-most (t .args .axis) (t .args .surface) (t .pre .0 .0)), omega (arith, t .pre .0 .2))
+    (rw e (t .pre .0 .1), omega (arith, steps-most (t .args .axis) (t .args .surface) (t .pre .0 .0)), omega arith)
 
 returns : tie.Need-returns
 returns c =
     let t = c .before .before .before .before .before .before in
     let a = t .args in
-    no-step (a .axis) (shape t) (ofMapping (a .mapping)) (a .i) (pairs t) (on-is (c .before)) (omega (arith, c .if1 .taken, c .before .before .rim-steps .ensures))
-
-low-differs-requires : tie.Need-low-differs-requires
-low-differs-requires c κs = (c .before .before .before .before .before .before .pre .0 .0, on-there c)
-
-high-differs-requires : tie.Need-high-differs-requires
-high-differs-requires c κs =
-    let t = c .before .before .before .before .before .before .before in
-    (t .pre .0 .0, t .pre .0 .2)
+    no-step (a .axis) (shape t) (ofMapping (a .mapping)) (a .i) (pairs t) (on-is (c .before)) (omega arith)
 
 -- Where a step of the low rim lies there
 
@@ -129,8 +121,8 @@ flip-step-spec =
     (λ c κs. search needs)
     step-on-requires
     returns
-    low-differs-requires
-    high-differs-requires
+    (λ c κs. search needs)
+    (λ c κs. search needs)
     returns-2
     (λ c. search needs)
     (λ c. search needs)

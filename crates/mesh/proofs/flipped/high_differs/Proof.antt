@@ -8,12 +8,12 @@ use Rattle.mesh.proofs.flipped.high_differs.Tie as tie
 second-differs-requires : tie.Need-second-differs-requires
 second-differs-requires c κs =
     let t = c .before .before .before in
-    (t .pre .0, omega (arith, t .pre .0 .m-least), rw (c .before .enum-told .given .1) at (t .pre .1))
+    (t .pre .0, omega arith, rw (c .before .enum-told .given .1) at (t .pre .1))
 
 second-differs-requires-2 : tie.Need-second-differs-requires-2
 second-differs-requires-2 c κs =
     let t = c .before .before .before in
-    (t .pre .0, rw (c .before .enum-told2 .given .1) at (t .pre .1), omega (arith, t .pre .0 .n-least))
+    (t .pre .0, rw (c .before .enum-told2 .given .1) at (t .pre .1), omega arith)
 
 returns : tie.Need-returns
 returns c =

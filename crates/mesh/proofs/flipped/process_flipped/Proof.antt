@@ -36,7 +36,7 @@ flip-step-requires c κs =
     let s = shapeOf (a .surface) in
     let ps = pairsIn (a .start) (a .flipped .now) in
     let k = held-pairs (w .count) (w .flipped) (w .inv .1) in (
-      (t .pre .0 .0, t .pre .0 .1, omega (arith, c .before .loop-test .taken, r .ensures)),
+      (t .pre .0 .0, t .pre .0 .1, omega arith),
       (
         t .pre .1 .0,
         omega (arith, flips-most (a .axis) s (ofMapping (a .mapping)) (w .i) ps, length-firsts (pairAt (a .flipped .now)) (a .start)),
@@ -52,14 +52,14 @@ loop-again c =
     let m = ofMapping (a .mapping) in (
       omega arith,
       f .ensures ∙ rw (w .inv .1) (flips-more (a .axis) s m (w .i) (pairsIn (a .start) (a .flipped .now))),
-      omega (arith, f .kept .1 .1 .1 .1 .1 .1 .0),
+      omega arith,
     )
 
 returns : tie.Need-returns Inv-loop μ-loop
 returns c =
     let w = c .before .loop in
     let a = c .before .before .before .before .before .before .args in
-    let e : w .i ≡ stepsOf (a .axis) (shapeOf (a .surface)) = omega (arith, c .before .before .rim-steps .ensures) in
+    let e : w .i ≡ stepsOf (a .axis) (shapeOf (a .surface)) = omega arith in
     rw e at (w .inv .1)
 
 pub process-flipped-spec : {M : Type 1} → statement M

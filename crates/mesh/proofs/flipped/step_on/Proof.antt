@@ -14,17 +14,11 @@ use Rattle.mesh.proofs.flipped.step_on.Tie as tie
 index : (t : tie.Start) (j : ℕ) → j ≤ t .args .steps → HasIndex (t .args .mapping) j
 index t j h = maps-joins (Joined (t .args .mapping)) (t .args .steps) j (t .pre .0) (omega arith) h
 
-inverse-requires : tie.Need-inverse-requires
-inverse-requires c κs = index c (c .args .i) (omega arith)
-
-inverse-requires-2 : tie.Need-inverse-requires-2
-inverse-requires-2 c κs = index (c .before) (c .before .args .i + 1) (omega arith)
-
 wrap-ends-requires : tie.Need-wrap-ends-requires
 wrap-ends-requires c κs =
     let t = c .before .before in
     let a = t .args in
-    omega (arith, inverse-within (a .mapping) (a .i) (index t (a .i) (omega arith)), inverse-within (a .mapping) (a .i + 1) (index t (a .i + 1) (omega arith)), t .pre .0 .0)
+    omega (arith, inverse-within (a .mapping) (a .i) (index t (a .i) (omega arith)), inverse-within (a .mapping) (a .i + 1) (index t (a .i + 1) (omega arith)))
 
 returns : tie.Need-returns
 returns c =
@@ -33,4 +27,4 @@ returns c =
 
 pub step-on-spec : {M : Type 1} → statement M
 step-on-spec =
-    tie.close (tie.spec inverse-requires (λ c. search needs) inverse-requires-2 wrap-ends-requires returns)
+    tie.close (tie.spec (λ c κs. search needs) (λ c. search needs) (λ c κs. search needs) wrap-ends-requires returns)

@@ -1,11 +1,11 @@
 -- `mesh::pairs::find_spot` meets its contract: the pairs before i all stand before (low, high), so that inserting it leaves them as they are. Assumes nothing.
 use Prim.Native.Nat.{_≤_, _-_}
-use mathlib.Core.Path.{refl}
 use native.Mathlib.Omega.{arith}
 use Rattle.surface.specs.Surface.{pair}
 use Rattle.mesh.specs.Held.{pairAt, pairsIn}
 use Rattle.mesh.proofs.Firsts.{length-firsts}
 use Rattle.mesh.proofs.Holding.{PassedTo, spot-before, spot-there, spot-on, spot-end}
+use borrow.Author.Needs.{needs}
 use Rattle.mesh.proofs.pairs.find_spot.Statement.{statement}
 use Rattle.mesh.proofs.pairs.find_spot.Tie as tie
 
@@ -14,9 +14,6 @@ Inv-loop list count low high i₀ i = (i ≤ count) × PassedTo i (pair low high
 
 abbrev μ-loop : tie.MeasureT-loop
 μ-loop list count low high i₀ i = count - i
-
-loop-holds : tie.Need-loop-holds Inv-loop μ-loop
-loop-holds c = (omega arith, refl)
 
 returns : tie.Need-returns Inv-loop μ-loop
 returns c =
@@ -48,7 +45,7 @@ find-spot-spec =
     (tie.spec
     Inv-loop
     μ-loop
-    loop-holds
+    (λ c. search needs)
     (λ c. omega arith)
     (λ c. omega arith)
     (λ c. omega arith)

@@ -1,9 +1,10 @@
 -- `mesh::pairs::open_gap` meets its contract: what is below i stands where it did, what is from i on two places further. Assumes nothing.
 use Prim.Native.Nat.{ℕ, _+_, _-_, _≤_, _<_}
-use mathlib.Core.Path.{_≡_, refl}
+use mathlib.Core.Path.{_≡_}
 use native.Mathlib.Omega.{arith}
 use lib.ListN.{length, getD, length-set}
 use Rattle.mesh.proofs.Holding.{gap-below, gap-moved}
+use borrow.Author.Needs.{needs}
 use Rattle.mesh.proofs.pairs.open_gap.Statement.{statement}
 use Rattle.mesh.proofs.pairs.open_gap.Tie as tie
 
@@ -15,9 +16,6 @@ Inv-loop list₀ start end i₀ list i =
 
 abbrev μ-loop : tie.MeasureT-loop
 μ-loop list₀ start end i₀ list i = i
-
-loop-holds : tie.Need-loop-holds Inv-loop μ-loop
-loop-holds c = (omega arith, omega arith, refl, λ k h. refl, λ k h q. absurd (omega arith))
 
 loop-again : tie.Need-loop-again Inv-loop μ-loop
 loop-again c =
@@ -33,9 +31,6 @@ loop-again c =
       gap-moved (w .list) (a .list .now) (w .i - 1) (a .end) (omega arith) (omega arith) below moved,
     )
 
-same-length : tie.Need-same-length Inv-loop μ-loop
-same-length c = c .before .loop .inv .2
-
 returns : tie.Need-returns Inv-loop μ-loop
 returns c =
     let w = c .before .loop in
@@ -48,7 +43,7 @@ open-gap-spec =
     (tie.spec
     Inv-loop
     μ-loop
-    loop-holds
+    (λ c. search needs)
     (λ c. omega arith)
     (λ c. omega arith)
     (λ c. omega arith)
@@ -57,5 +52,5 @@ open-gap-spec =
     (λ c. omega arith)
     (λ c. omega arith)
     loop-again
-    same-length
+    (λ c. search needs)
     returns)

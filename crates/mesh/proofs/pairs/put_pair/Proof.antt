@@ -14,7 +14,7 @@ returns c =
     let t = c .before .before .before .before .before in
     let a = t .args in
     let g = c .before .before .open-gap in
-    pair-put (g .last .0) (a .list .now) (a .count) (a .i) (a .low) (a .high) (t .pre .0) (omega (arith, g .kept .0, t .pre)) (g .ensures .0) (g .ensures .1)
+    pair-put (g .last .0) (a .list .now) (a .count) (a .i) (a .low) (a .high) (t .pre .0) (omega arith) (g .ensures .0) (g .ensures .1)
 
 pub put-pair-spec : {M : Type 1} → statement M
 put-pair-spec =

@@ -32,7 +32,7 @@ add-triangle-requires-2 c κs =
     let t = e .before .before .before .before in
     let a = t .args in
     let h = held-most (shapeOf (a .surface)) (2 * (a .u * a .surface .n + a .v) + 1) (e .add-triangle .result) (e .add-triangle .last .0) (first-kept e) in
-    omega (arith, e .add-triangle .kept .0, cell-below (t .pre .0 .1) (t .pre .0 .2))
+    omega (arith, cell-below (t .pre .0 .1) (t .pre .0 .2))
 
 returns : tie.Need-returns
 returns c =

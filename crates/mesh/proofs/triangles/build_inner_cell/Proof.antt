@@ -15,7 +15,7 @@ use Rattle.mesh.proofs.triangles.build_inner_cell.Tie as tie
 small : (e : tie.After-point-number) → e .point-number .result < 65536
 small e =
     let a = e .before .before .args in
-    omega (arith, e .point-number .ensures, point-below (a .surface .m) (a .surface .n) (a .u) (a .v) (omega arith) (omega arith), points-most (a .surface .m) (a .surface .n) (omega arith) (omega arith))
+    omega (arith, point-below (a .surface .m) (a .surface .n) (a .u) (a .v) (omega arith) (omega arith), points-most (a .surface .m) (a .surface .n) (omega arith) (omega arith))
 
 -- both triangles fit
 room : (t : tie.Start) → 3 * t .args .count + 6 ≤ length (t .args .triangles .now)
@@ -47,7 +47,7 @@ add-write-triangle-4 c = omega (arith, small (c .before .before .before .before 
 
 write-triangle-requires-2 : tie.Need-write-triangle-requires-2
 write-triangle-requires-2 c κs =
-    omega (arith, c .before .before .before .write-triangle .kept .0, room (c .before .before .before .before .before .before .before))
+    omega (arith, room (c .before .before .before .before .before .before .before))
 
 add-result : tie.Need-add-result
 add-result c = omega (arith, room (c .before .before .before .before .before .before .before .before .before .before))

@@ -7,6 +7,7 @@ use Rattle.surface.specs.Surface.{kept}
 use Rattle.mesh.specs.Corners.{shapeOf}
 use Rattle.mesh.specs.Held.{trianglesIn}
 use Rattle.mesh.proofs.Cells.{row-first}
+use borrow.Author.Needs.{needs}
 use Rattle.mesh.proofs.triangles.build_inner_row.Statement.{statement}
 use Rattle.mesh.proofs.triangles.build_inner_row.Tie as tie
 
@@ -28,11 +29,6 @@ build-inner-cell-requires c κs =
     let t = c .before .before .before .before .before in
     ((t .pre .0 .0, t .pre .0 .1, omega arith), (omega arith, w .inv .1))
 
-loop-again : tie.Need-loop-again Inv-loop μ-loop
-loop-again c =
-    let b = c .before .before .build-inner-cell in
-    (omega arith, b .ensures, omega (arith, b .kept .1 .1 .1 .0))
-
 returns : tie.Need-returns Inv-loop μ-loop
 returns c =
     let w = c .before .loop in
@@ -51,6 +47,6 @@ build-inner-row-spec =
     build-inner-cell-requires
     (λ c. omega arith)
     (λ c. omega arith)
-    loop-again
+    (λ c. search needs)
     (λ c. omega arith)
     returns)
