@@ -1,16 +1,13 @@
 -- The triangles of a cell among all: which slots are its, and what is kept after them. Assumes nothing.
 use Prim.Native.Nat.{ℕ, _+_, _*_, _/_, _%_, _≤_, _<_}
 use mathlib.Core.Path.{_≡_, sym, ap, _∙_}
-use mathlib.Core.Logic.{⊎-elim}
 use mathlib.Core.Bool.{true, false, cond}
 use mathlib.Core.List.{List, [], _∷_, _++_, append-nil}
 use native.Mathlib.Omega.{arith}
 use native.Mathlib.Nat.{zero-mul}
 use native.Mathlib.Numerals.{add-one}
 use lib.Arith.{digits-div, digits-mod, digits-lt}
-use lib.ListN.{length, getD, set}
-use lib.Seq.{getD-set-same, getD-set-other}
-use Rattle.surface.proofs.Steps.{lt-or-le}
+use lib.ListN.{length}
 use Rattle.surface.specs.Surface.{Shape, Triangle, tri, proper, falling, halfOf, slot, kept, triangleNumber}
 use Rattle.surface.proofs.Triangles.{kept-at-most}
 use Rattle.mesh.specs.declared.corner.Cell.{Cell}
@@ -56,21 +53,6 @@ held-count s k count l e = held-triangles count l e
 pub none-held : (s : Shape) (n : ℕ) (l : List ℕ) → trianglesIn 0 l ≡ kept s (2 * (0 * n))
 unfolding firsts kept
 none-held s n l = rw (zero-mul n)
-
--- the first value of f written into a list
-pub value-first : (f : ℕ → ℕ) (l : List ℕ) (x : ℕ) → 0 < length l → x ≡ f 0 → (i : ℕ) → i ≤ 0 → getD (set l 0 x) i 0 ≡ f i
-value-first f l x h z i q =
-    let e : i ≡ 0 = omega arith in
-    rw (e, getD-set-same l 0 x 0 h) z
-
--- one more value of f written into a list that has those up to u
-pub values-more : (f : ℕ → ℕ) (l : List ℕ) (u x : ℕ) → u + 1 < length l → ((i : ℕ) → i ≤ u → getD l i 0 ≡ f i) → x ≡ f (u + 1) →
-    (i : ℕ) → i ≤ u + 1 → getD (set l (u + 1) x) i 0 ≡ f i
-values-more f l u x h known e i q =
-    ⊎-elim
-    (λ m. getD-set-other l (u + 1) i x 0 (λ z. omega arith) ∙ known i (omega arith))
-    (λ m. let z : i ≡ u + 1 = omega arith in rw (z, getD-set-same l (u + 1) x 0 h) e)
-    (lt-or-le i (u + 1))
 
 -- Cell (u, v)
 

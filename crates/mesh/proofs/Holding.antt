@@ -169,20 +169,20 @@ spot-end f k i p e passed =
     let none = drop-of-length-le (firsts f k) {i = k} (omega (arith, length-firsts f k)) in
     rw e at passed ∙ rw none
 
--- One more number, at place i, moved two places on
-module _ (l l₀ : List ℕ) (i end : ℕ) (room : end + 2 ≤ length l) (within : i < end)
-    (below : (k : ℕ) → k < i + 1 → getD l k 0 ≡ getD l₀ k 0)
-    (moved : (k : ℕ) → i + 1 ≤ k → k < end → getD l (k + 2) 0 ≡ getD l₀ k 0) where
-  pub gap-below : (k : ℕ) → k < i → getD (set l (i + 2) (getD l i 0)) k 0 ≡ getD l₀ k 0
-  gap-below k h = getD-set-other l (i + 2) k (getD l i 0) 0 (λ e. omega arith) ∙ below k (omega arith)
+-- One more number, at place i, moved two places on: those below it stand where they did, those from it on two places further
 
-  pub gap-moved : (k : ℕ) → i ≤ k → k < end → getD (set l (i + 2) (getD l i 0)) (k + 2) 0 ≡ getD l₀ k 0
-  gap-moved k h q =
-      ⊎-elim
-      (λ m. getD-set-other l (i + 2) (k + 2) (getD l i 0) 0 (λ e. omega arith) ∙ moved k (omega arith) q)
-      (λ m. let e : k ≡ i = omega arith in
-      rw (e, getD-set-same l (i + 2) (getD l i 0) 0 (omega arith)) (below i (omega arith)))
-      (lt-or-le i k)
+pub gap-below : (l l₀ : List ℕ) (i : ℕ) → ((k : ℕ) → k < i + 1 → getD l k 0 ≡ getD l₀ k 0) →
+    (k : ℕ) → k < i → getD (set l (i + 2) (getD l i 0)) k 0 ≡ getD l₀ k 0
+gap-below l l₀ i below k h = getD-set-other l (i + 2) k (getD l i 0) 0 (λ e. omega arith) ∙ below k (omega arith)
+
+pub gap-moved : (l l₀ : List ℕ) (i end : ℕ) → end + 2 ≤ length l → getD l i 0 ≡ getD l₀ i 0 →
+    ((k : ℕ) → i + 1 ≤ k → k < end → getD l (k + 2) 0 ≡ getD l₀ k 0) →
+    (k : ℕ) → i ≤ k → k < end → getD (set l (i + 2) (getD l i 0)) (k + 2) 0 ≡ getD l₀ k 0
+gap-moved l l₀ i end room here moved k h q =
+    ⊎-elim
+    (λ m. getD-set-other l (i + 2) (k + 2) (getD l i 0) 0 (λ e. omega arith) ∙ moved k (omega arith) q)
+    (λ m. let e : k ≡ i = omega arith in rw (e, getD-set-same l (i + 2) (getD l i 0) 0 (omega arith)) here)
+    (lt-or-le i k)
 
 -- A pair written into the gap before index i
 module _ (l l₀ : List ℕ) (k i low high : ℕ) (within : i ≤ k) (room : 2 * k + 2 ≤ length l)

@@ -13,15 +13,10 @@ add-search-rows : tie.Need-add-search-rows
 add-search-rows c = omega (arith, shaped (c .before) .steps .n-most)
 
 mul-search-rows : tie.Need-mul-search-rows
-mul-search-rows c =
-    let a = c .before .args in
-    let s = shaped (c .before) in
-    let z = s .steps in
-    omega arith
+mul-search-rows c = omega (arith, shaped (c .before))
 
 search-rows-requires : tie.Need-search-rows-requires
 search-rows-requires c κs =
-    let a = c .before .args in
     let s = shaped (c .before) in
     let z = s .steps in
     record {
@@ -36,7 +31,6 @@ add-search-rows-2 c = omega (arith, shaped (c .before .before) .steps .n-most)
 
 search-rows-requires-2 : tie.Need-search-rows-requires-2
 search-rows-requires-2 c κs =
-    let a = c .before .before .args in
     let s = shaped (c .before .before) in
     let z = s .steps in
     record {

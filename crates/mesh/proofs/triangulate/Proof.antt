@@ -39,16 +39,11 @@ find-flipped-requires c κs =
 
 mul-zero-numbers : tie.Need-mul-zero-numbers
 mul-zero-numbers c =
-    let e = built (c .before .before .before) in
-    let t = started e in
-    let s = t .args .surface in
-    omega (arith, triangles-fit e)
+    omega (arith, triangles-fit (built (c .before .before .before)))
 
 mul-zero-numbers-2 : tie.Need-mul-zero-numbers-2
 mul-zero-numbers-2 c =
-    let e = c .before .before .before .before .before .before .before in
-    let t = started (built e) in
-    omega (arith, pairs-fit e)
+    omega (arith, pairs-fit (c .before .before .before .before .before .before .before))
 
 returns : tie.Need-returns
 returns c =

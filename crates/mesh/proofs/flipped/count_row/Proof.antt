@@ -5,7 +5,7 @@ use native.Mathlib.Omega.{arith}
 use lib.ListN.{length, getD, length-set}
 use Rattle.surface.specs.Surface.{triangleNumber}
 use Rattle.mesh.specs.Corners.{shapeOf}
-use Rattle.mesh.proofs.Cells.{value-first, values-more}
+use Rattle.mesh.proofs.Firsts.{value-first, values-more}
 use borrow.Author.Needs.{needs}
 use Rattle.mesh.proofs.flipped.count_row.Statement.{statement}
 use Rattle.mesh.proofs.flipped.count_row.Tie as tie

@@ -30,7 +30,6 @@ loop-holds c =
 flip-step-requires : tie.Need-flip-step-requires Inv-loop μ-loop
 flip-step-requires c κs =
     let w = c .before .before .loop in
-    let r = c .before .before .before .rim-steps in
     let t = c .before .before .before .before .before .before .before in
     let a = t .args in
     let s = shapeOf (a .surface) in

@@ -21,20 +21,18 @@ loop-again : tie.Need-loop-again Inv-loop μ-loop
 loop-again c =
     let a = c .before .before .before .args in
     let w = c .before .before .loop in
-    let j : w .i - 1 + 1 ≡ w .i = omega arith in
     let below : (k : ℕ) → k < w .i - 1 + 1 → getD (w .list) k 0 ≡ getD (a .list .now) k 0 = λ k h. w .inv .3 k (omega arith) in
     let moved : (k : ℕ) → w .i - 1 + 1 ≤ k → k < a .end → getD (w .list) (k + 2) 0 ≡ getD (a .list .now) k 0 = λ k h q. w .inv .4 k (omega arith) q in (
       omega arith,
       omega arith,
       simp length-set (w .inv .2),
-      gap-below (w .list) (a .list .now) (w .i - 1) (a .end) (omega arith) (omega arith) below moved,
-      gap-moved (w .list) (a .list .now) (w .i - 1) (a .end) (omega arith) (omega arith) below moved,
+      gap-below (w .list) (a .list .now) (w .i - 1) below,
+      gap-moved (w .list) (a .list .now) (w .i - 1) (a .end) (omega arith) (below (w .i - 1) (omega arith)) moved,
     )
 
 returns : tie.Need-returns Inv-loop μ-loop
 returns c =
     let w = c .before .loop in
-    let e : w .i ≡ c .before .before .args .start = omega arith in
     (λ k h. w .inv .3 k (omega arith), λ k h q. w .inv .4 k (omega arith) q)
 
 pub open-gap-spec : {M : Type 1} → statement M

@@ -6,7 +6,8 @@ use lib.ListN.{length, getD, length-set}
 use Rattle.surface.specs.Surface.{kept, triangleNumber}
 use Rattle.mesh.specs.Corners.{shapeOf}
 use Rattle.mesh.specs.Held.{trianglesIn}
-use Rattle.mesh.proofs.Cells.{none-held, value-first, held-count, values-more}
+use Rattle.mesh.proofs.Firsts.{value-first, values-more}
+use Rattle.mesh.proofs.Cells.{none-held, held-count}
 use borrow.Author.Needs.{needs}
 use Rattle.mesh.proofs.triangles.build_triangles.Statement.{statement}
 use Rattle.mesh.proofs.triangles.build_triangles.Tie as tie
@@ -33,7 +34,6 @@ loop-holds c =
 
 slice-write-starts-2 : tie.Need-slice-write-starts-2 Inv-loop μ-loop
 slice-write-starts-2 c =
-    let w = c .before .before .before .before .before .loop in
     omega (arith, length-set (c .before .before .before .before .before .before .before .before .args .starts .now) 0 0)
 
 loop-again : tie.Need-loop-again Inv-loop μ-loop
