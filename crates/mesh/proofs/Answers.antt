@@ -42,6 +42,7 @@ pub mesh-checked : (g : List Float) (m n : ℕ) (t f : List ℕ) {room c : Check
 unfolding meshCheck
 mesh-checked g m n t f er ec = ec ∙ ap (gridCheck g m n) er ∙ steps-twice g m n (unless (roomFits m n t f) Room Passed)
 
+-- what is known where no refusal applies
 pub record Admitted (g : List Float) (m n : ℕ) (t f : List ℕ) : Type 0 where
   pub accepted : Accepted g m n
   pub triangle-room : 6 * (m * n) ≤ length t
@@ -76,11 +77,13 @@ found-bounded g m n {u} {v} h p q =
 
 -- Filled lists
 
+-- a list whose contents stand in front, with zero written past them
 list-filled : (k : ℕ) (contents l lent : List ℕ) → k ≤ length l → contents ≡ take k l → length l ≡ length lent → zeroedFrom 0 k l ≡ filled 0 contents lent
 list-filled k contents l lent h e q =
     let n : length contents ≡ k = ap length e ∙ length-take-le k l h in
     rw (← n) (zeroed-filled 0 contents l lent q (rw n (sym e)))
 
+-- what all slots emit are the surface's triangles
 pub all-kept : (s : Shape) {ts : List Triangle} → ts ≡ kept s (2 * (s .M * s .N)) → ts ≡ triangles s
 unfolding triangles slots
 all-kept s e = e

@@ -12,9 +12,9 @@ use Rattle.surface.specs.Surface.{Shape, Triangle, tri, proper, falling, halfOf
 use Rattle.surface.proofs.Triangles.{kept-at-most}
 use Rattle.mesh.specs.declared.corner.Cell.{Cell}
 use Rattle.mesh.specs.declared.corner.Surface.{Surface}
+use Rattle.mesh.specs.Corners.{shapeOf, cellOf}
 use Rattle.mesh.specs.Held.{firsts, triangleAt, trianglesIn}
 use Rattle.mesh.proofs.Firsts.{length-firsts}
-use Rattle.mesh.specs.Corners.{shapeOf, cellOf}
 
 -- "the cell emits (i00,i10,i01), then (i10,i11,i01)"
 abbrev pub firstOf : Cell → Triangle
@@ -38,6 +38,7 @@ kept-more : (s : Shape) (k : ℕ) {t : Triangle} {before after : List Triangle} 
 unfolding kept
 kept-more s k e b a = rw (add-one, a, b, e)
 
+-- the count is the number of triangles that the list holds
 pub held-triangles : (count : ℕ) (l : List ℕ) {ts : List Triangle} → trianglesIn count l ≡ ts → count ≡ length ts
 held-triangles count l e = sym (length-firsts (triangleAt l) count) ∙ ap length e
 
@@ -45,6 +46,7 @@ held-triangles count l e = sym (length-firsts (triangleAt l) count) ∙ ap lengt
 pub held-most : (s : Shape) (k count : ℕ) (l : List ℕ) → trianglesIn count l ≡ kept s k → count ≤ k
 held-most s k count l e = omega (arith, held-triangles count l e, kept-at-most s k)
 
+-- the number of the next slot's triangle is the count of those before it
 pub held-count : (s : Shape) (k count : ℕ) (l : List ℕ) → trianglesIn count l ≡ kept s k → count ≡ triangleNumber s k
 unfolding triangleNumber
 held-count s k count l e = held-triangles count l e
@@ -56,6 +58,7 @@ none-held s n l = rw (zero-mul n)
 
 -- Cell (u, v)
 
+-- it is one of m·n cells
 pub cell-below : {m n u v : ℕ} → u < m → v < n → u * n + v + 1 ≤ m * n
 cell-below p q = omega (arith, digits-lt p q)
 

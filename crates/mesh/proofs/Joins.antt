@@ -39,6 +39,7 @@ pub maps-joins : (seam : Seam) (steps step : ℕ) → Maps seam steps → steps 
 maps-joins Unjoined steps step h most l = tt
 maps-joins (Joined m) steps step h most l = (omega arith, omega arith, omega arith)
 
+-- a joined point stays on the lines and the steps of the grid
 join-bounds : (seam : Seam) (steps last line step : ℕ) → Maps seam steps → steps ≤ 255 → step ≤ steps →
     (joinOf seam last line step .line ≤ line) × (joinOf seam last line step .step ≤ steps)
 unfolding joinOf

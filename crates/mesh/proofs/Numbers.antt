@@ -11,10 +11,10 @@ use Rattle.cyclic.specs.declared.mapping.CyclicMapping.{CyclicMapping}
 use Rattle.cyclic.specs.Mapping as cyclic
 use Rattle.surface.specs.Surface.{Shape, proper, slot, kept, triangleNumber, wrapEnds, stepOn, lowU, highU, lowV, highV}
 use Rattle.surface.specs.Found.{ofMapping}
+use Rattle.surface.proofs.Triangles.{kept-at-most}
 use Rattle.mesh.specs.declared.corner.Surface.{Surface}
 use Rattle.mesh.specs.Corners.{shapeOf}
 use Rattle.mesh.specs.Rims.{oneMore}
-use Rattle.surface.proofs.Triangles.{kept-at-most}
 use Rattle.mesh.proofs.Joins.{inverse-is}
 
 -- a slot is counted if its triangle is proper

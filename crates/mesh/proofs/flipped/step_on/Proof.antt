@@ -2,7 +2,7 @@
 use Prim.Native.Nat.{ℕ, _+_, _≤_}
 use native.Mathlib.Omega.{arith}
 use Rattle.cyclic.specs.declared.seam.Seam.the-variants.{Joined}
-use Rattle.cyclic.specs.Mapping.{HasIndex}
+use Rattle.cyclic.specs.Mapping.{stepsOf, inverse}
 use Rattle.cyclic.proofs.Mappings.{inverse-within}
 use Rattle.mesh.proofs.Joins.{maps-joins}
 use Rattle.mesh.proofs.Numbers.{step-is}
@@ -10,15 +10,14 @@ use borrow.Author.Needs.{needs}
 use Rattle.mesh.proofs.flipped.step_on.Statement.{statement}
 use Rattle.mesh.proofs.flipped.step_on.Tie as tie
 
--- the mapping takes every index of its rows
-index : (t : tie.Start) (j : ℕ) → j ≤ t .args .steps → HasIndex (t .args .mapping) j
-index t j h = maps-joins (Joined (t .args .mapping)) (t .args .steps) j (t .pre .0) (omega arith) h
+-- an index of the row has its inverse image on the row
+within : (t : tie.Start) (j : ℕ) → j ≤ t .args .steps → inverse (t .args .mapping) j ≤ stepsOf (t .args .mapping)
+within t j h = inverse-within (t .args .mapping) j (maps-joins (Joined (t .args .mapping)) (t .args .steps) j (t .pre .0) (omega arith) h)
 
 wrap-ends-requires : tie.Need-wrap-ends-requires
 wrap-ends-requires c κs =
     let t = c .before .before in
-    let a = t .args in
-    omega (arith, inverse-within (a .mapping) (a .i) (index t (a .i) (omega arith)), inverse-within (a .mapping) (a .i + 1) (index t (a .i + 1) (omega arith)))
+    omega (arith, within t (t .args .i) (omega arith), within t (t .args .i + 1) (omega arith))
 
 returns : tie.Need-returns
 returns c =
