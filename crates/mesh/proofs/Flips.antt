@@ -25,6 +25,7 @@ use Rattle.mesh.specs.Rims.{stepsOf, lowOf, highOf, Starts, Rims, flipSt
 use Rattle.mesh.proofs.Firsts.{length-firsts}
 use Rattle.mesh.proofs.Numbers.{number-step, low-u, low-v, high-u, high-v}
 
+-- a rim has at most 255 steps
 pub steps-most : (axis : Axis) (surface : Surface) → Bounded surface → stepsOf axis (shapeOf surface) ≤ 255
 steps-most U surface b = b .n-most
 steps-most «V» surface b = b .m-most
@@ -63,7 +64,7 @@ flips-none axis s m ps = refl
 
 pub flips-more : (axis : Axis) (s : Shape) (m : Seam) (i : ℕ) (ps : List Pair) → flipStep axis s m i (flipSteps axis s m i ps) ≡ flipSteps axis s m (i + 1) ps
 unfolding process
-flips-more axis s m i ps = sym (ap (λ (n : ℕ). flipSteps axis s m n ps) (add-one i))
+flips-more axis s m i ps = rw (add-one i)
 
 cond-most : (b : Bool) (x y : List Pair) (n : ℕ) → length x ≤ n → length y ≤ n → length (cond b x y) ≤ n
 cond-most b x y n = cond-keeps (λ (ps : List Pair). length ps ≤ n) b x y
@@ -94,6 +95,7 @@ flips-most axis s m (suc n) ps = omega (arith, step-most axis s m n (flipSteps a
 pub seam-most : (axis : Axis) (s : Shape) (m : Seam) (ps : List Pair) → length (flips axis s m ps) ≤ length ps + stepsOf axis s
 seam-most axis s m ps = cond-most (reversed m) _ _ _ (flips-most axis s m (stepsOf axis s) ps) (omega arith)
 
+-- the count is the number of pairs that the list holds
 pub held-pairs : (count : ℕ) (l : List ℕ) {ps : List Pair} → pairsIn count l ≡ ps → count ≡ length ps
 held-pairs count l e = sym (length-firsts (pairAt l) count) ∙ ap length e
 
@@ -109,6 +111,7 @@ seam-told {m = m} e i h = rw (e, ← reverse-is m, ← i, h)
 
 -- The counts along the rims
 
+-- along u, the counts before each cell of the first u and of the last
 pub rims-u : (surface : Surface) (low high : List ℕ) → surface .n < length low → surface .n < length high →
     ((i : ℕ) → i ≤ surface .n → getD low i 0 ≡ triangleNumber (shapeOf surface) (2 * (0 * surface .n + i))) →
     ((i : ℕ) → i ≤ surface .n → getD high i 0 ≡ triangleNumber (shapeOf surface) (2 * ((surface .m - 1) * surface .n + i))) →
@@ -121,6 +124,7 @@ rims-u surface low high p q l h =
       after = λ i k. h (i + 1) (omega arith) ∙ ap (triangleNumber (shapeOf surface)) (omega (arith, high-u surface i));
     }
 
+-- along v, the counts before each u: its first cell is on the low rim, its last on the high one
 pub rims-v : (surface : Surface) → Bounded surface → (starts : List ℕ) → Starts surface starts → Rims «V» (shapeOf surface) starts starts
 rims-v surface b starts t =
     record {

@@ -40,6 +40,7 @@ unfolding triangleNumbers
 triangles-last [] t = refl
 triangles-last (x ∷ ts) t = rw (triangles-last ts t)
 
+-- the numbers of the first k triangles are the first 3·k numbers
 pub triangles-held : (k : ℕ) (l : List ℕ) → 3 * k ≤ length l → triangleNumbers (trianglesIn k l) ≡ take (3 * k) l
 unfolding firsts triangleNumbers
 triangles-held zero l h = refl
@@ -87,6 +88,7 @@ unfolding pairNumbers
 pairs-last [] p = refl
 pairs-last (x ∷ ps) p = rw (pairs-last ps p)
 
+-- the numbers of the first k pairs are the first 2·k numbers
 pub pairs-held : (k : ℕ) (l : List ℕ) → 2 * k ≤ length l → pairNumbers (pairsIn k l) ≡ take (2 * k) l
 unfolding firsts pairNumbers
 pairs-held zero l h = refl

@@ -21,11 +21,7 @@ returns c =
     let t = c .before .before .before .before .before .before .before .before .before .before .before .before .before .before in
     let l = c .before .before .before .before .before .before .before .count-row in
     let h = c .before .before .count-row2 in
-    rims-u (t .args .surface) (l .last .1 .1 .1 .0) (h .last .1 .1 .1 .0)
-    (omega arith)
-    (omega arith)
-    (l .ensures)
-    (h .ensures)
+    rims-u (t .args .surface) (l .last .1 .1 .1 .0) (h .last .1 .1 .1 .0) (omega arith) (omega arith) (l .ensures) (h .ensures)
 
 pub count-rims-spec : {M : Type 1} → statement M
 count-rims-spec =
