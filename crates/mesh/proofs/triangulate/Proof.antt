@@ -31,12 +31,6 @@ build-triangles-requires c κs =
     let t = c .before .before .before .before in
     ((t .pre .0, omega arith), t .pre .1 .0)
 
-find-flipped-requires : tie.Need-find-flipped-requires
-find-flipped-requires c κs =
-    let e = c .before .before .before .before .before in
-    let t = started e in
-    ((t .pre .0, e .build-triangles .ensures .1), t .pre .1 .1)
-
 mul-zero-numbers : tie.Need-mul-zero-numbers
 mul-zero-numbers c =
     omega (arith, triangles-fit (built (c .before .before .before)))
@@ -72,7 +66,7 @@ triangulate-spec =
     (λ c. search needs)
     build-triangles-requires
     (λ c. search needs)
-    find-flipped-requires
+    (λ c κs. search needs)
     mul-zero-numbers
     (λ c κs. search needs)
     mul-zero-numbers-2
