@@ -1,6 +1,6 @@
 -- The open call's answer and lists: its refusals in order, what is known where none applies, and the lists that are handed over. Assumes nothing.
 use Prim.Native.Nat.{ℕ, _+_, _*_, _≤_}
-use mathlib.Core.Path.{_≡_, refl, sym, ap, subst, _∙_}
+use mathlib.Core.Path.{_≡_, refl, sym, ap, _∙_}
 use mathlib.Core.List.{List, []}
 use native.Mathlib.Omega.{arith}
 use lib.Dec.{leb}
@@ -12,7 +12,7 @@ use Rattle.refusal.specs.declared.Check.{Check}
 use Rattle.refusal.specs.declared.Check.the-variants.{Passed, Failed}
 use Rattle.refusal.specs.declared.Refusal.{Refusal}
 use Rattle.refusal.specs.declared.Refusal.the-variants.{Steps, Room}
-use Rattle.refusal.specs.Refusals.{ok, unless}
+use Rattle.refusal.specs.Refusals.{unless}
 use Rattle.lent.specs.Lent.{filled, zeroedFrom}
 use Rattle.lent.proofs.Laws.{zeroed-filled}
 use Rattle.grid.specs.Grid.{stepsFit, gridCheck, Accepted}
@@ -26,10 +26,9 @@ use Rattle.surface.proofs.Joinings.{OfRow, u-of-row, v-of-row}
 use Rattle.mesh.specs.declared.flipped.Axis.the-variants.{U, «V»}
 use Rattle.mesh.specs.declared.MeshCounts.{MeshCounts}
 use Rattle.mesh.specs.declared.Triangulation.the-variants.{Triangulated, Refused}
-use Rattle.mesh.specs.Mesh.{triangleNumbers, pairNumbers, roomFits, meshCheck, handedOver, afterCheck, triangulateGrid, Filled, Hands}
+use Rattle.mesh.specs.Mesh.{triangleNumbers, pairNumbers, roomFits, meshCheck, triangulateGrid, Filled, Hands}
 use Rattle.mesh.specs.Corners.{Maps, Bounded}
-use Rattle.mesh.specs.Held.{triangleAt, trianglesIn, pairsIn}
-use Rattle.mesh.proofs.Firsts.{length-firsts}
+use Rattle.mesh.specs.Held.{trianglesIn, pairsIn}
 use Rattle.mesh.specs.Rims.{flips}
 use Rattle.mesh.proofs.Holding.{triangles-held, pairs-held}
 use Rattle.mesh.proofs.Cells.{held-most}
@@ -43,6 +42,7 @@ pub mesh-checked : (g : List Float) (m n : ℕ) (t f : List ℕ) {room c : Check
 unfolding meshCheck
 mesh-checked g m n t f er ec = ec ∙ ap (gridCheck g m n) er ∙ steps-twice g m n (unless (roomFits m n t f) Room Passed)
 
+-- what is known where no refusal applies
 pub record Admitted (g : List Float) (m n : ℕ) (t f : List ℕ) : Type 0 where
   pub accepted : Accepted g m n
   pub triangle-room : 6 * (m * n) ≤ length t
@@ -71,26 +71,25 @@ found-bounded g m n {u} {v} h p q =
       m-most = s .m-most;
       n-least = s .n-least;
       n-most = s .n-most;
-      u-maps = subst (λ (x : SeamSearch). Maps (x .seam) n) (sym p) (maps-row n (uSearch g m n .seam) (u-of-row g m n (s .n-least)));
-      v-maps = subst (λ (x : SeamSearch). Maps (x .seam) m) (sym q) (maps-row m (vSearch g m n .seam) (v-of-row g m n (s .m-least)));
+      u-maps = rw p (maps-row n (uSearch g m n .seam) (u-of-row g m n (s .n-least)));
+      v-maps = rw q (maps-row m (vSearch g m n .seam) (v-of-row g m n (s .m-least)));
     }
 
 -- Filled lists
 
+-- a list whose contents stand in front, with zero written past them
 list-filled : (k : ℕ) (contents l lent : List ℕ) → k ≤ length l → contents ≡ take k l → length l ≡ length lent → zeroedFrom 0 k l ≡ filled 0 contents lent
 list-filled k contents l lent h e q =
     let n : length contents ≡ k = ap length e ∙ length-take-le k l h in
-    ap (λ (j : ℕ). zeroedFrom 0 j l) (sym n) ∙ zeroed-filled 0 contents l lent q (ap (λ (j : ℕ). take j l) n ∙ sym e)
+    rw (← n) (zeroed-filled 0 contents l lent q (rw n (sym e)))
 
+-- what all slots emit are the surface's triangles
 pub all-kept : (s : Shape) {ts : List Triangle} → ts ≡ kept s (2 * (s .M * s .N)) → ts ≡ triangles s
 unfolding triangles slots
 all-kept s e = e
 
 pub triangles-most : (s : Shape) (count : ℕ) (l : List ℕ) → trianglesIn count l ≡ kept s (2 * (s .M * s .N)) → 3 * count ≤ 6 * (s .M * s .N)
 triangles-most s count l e = omega (arith, held-most s (2 * (s .M * s .N)) count l e)
-
-pub triangles-counted : (count : ℕ) (l : List ℕ) {ts : List Triangle} → trianglesIn count l ≡ ts → count ≡ length ts
-triangles-counted count l e = sym (length-firsts (triangleAt l) count) ∙ ap length e
 
 pub triangles-filled : (s : Shape) (count : ℕ) (l lent : List ℕ) → trianglesIn count l ≡ triangles s → 3 * count ≤ length l → length l ≡ length lent →
     zeroedFrom 0 (3 * count) l ≡ filled 0 (triangleNumbers (triangles s)) lent
@@ -109,23 +108,12 @@ pairs-filled s count l lent e h q = list-filled (2 * count) (pairNumbers (flippe
 
 pub refused-hands : (g : List Float) (m n : ℕ) (t f : List ℕ) {c : Check} {k : Refusal} → c ≡ meshCheck g m n t f → c ≡ Failed k → Hands (triangulateGrid g m n t f) (Refused k) t f
 unfolding triangulateGrid
-refused-hands g m n t f {c} {k} p e =
-    subst (λ (x : Check). Hands (afterCheck x t f (handedOver g m n t f)) (Refused k) t f) (sym e ∙ p) (record { answer = refl; triangles = refl; flipped = refl })
+refused-hands g m n t f p e = rw (← p, e) (record { answer = refl; triangles = refl; flipped = refl })
 
 pub passed-hands : (g : List Float) (m n : ℕ) (t f t′ f′ : List ℕ) {c : Check} {u v : SeamSearch} {r : MeshCounts} → c ≡ meshCheck g m n t f → c ≡ Passed →
     u ≡ uSearch g m n → v ≡ vSearch g m n → Filled (surfaceWith m n (u .seam) (v .seam)) r t t′ f f′ →
     Hands (triangulateGrid g m n t f) (Triangulated u v (r .triangles) (r .pairs)) t′ f′
 unfolding triangulateGrid
-passed-hands g m n t f t′ f′ {c} {u} {v} {r} p e a b w =
-    let here : Filled (surfaceWith m n (uSearch g m n .seam) (vSearch g m n .seam)) r t t′ f f′ =
-    subst (λ (x : SeamSearch). Filled (surfaceWith m n (uSearch g m n .seam) (x .seam)) r t t′ f f′) b
-    (subst (λ (x : SeamSearch). Filled (surfaceWith m n (x .seam) (v .seam)) r t t′ f f′) a w) in
-    subst (λ (x : Check). Hands (afterCheck x t f (handedOver g m n t f)) (Triangulated u v (r .triangles) (r .pairs)) t′ f′) (sym e ∙ p)
-    (record {
-      answer = answered (λ (x y : SeamSearch) (i j : ℕ). ok (record { u = x; v = y; triangles = i; pairs = j })) a b (here .triangle-count) (here .pair-count);
-      triangles = here .triangle-list;
-      flipped = here .pair-list;
-    })
-  where
-    answered : {A : Type 0} (h : SeamSearch → SeamSearch → ℕ → ℕ → A) {x x′ y y′ : SeamSearch} {i i′ j j′ : ℕ} → x ≡ x′ → y ≡ y′ → i ≡ i′ → j ≡ j′ → h x y i j ≡ h x′ y′ i′ j′
-    answered h p q r s = cc
+passed-hands g m n t f t′ f′ p e a b w =
+    let here = rw (a, b) at w in
+    rw (← p, e) (record { answer = rw (a, b, here .triangle-count, here .pair-count); triangles = here .triangle-list; flipped = here .pair-list })

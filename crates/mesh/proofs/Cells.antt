@@ -1,23 +1,20 @@
 -- The triangles of a cell among all: which slots are its, and what is kept after them. Assumes nothing.
-use Prim.Native.Nat.{ℕ, suc, _+_, _*_, _/_, _%_, _≤_, _<_}
+use Prim.Native.Nat.{ℕ, _+_, _*_, _/_, _%_, _≤_, _<_}
 use mathlib.Core.Path.{_≡_, sym, ap, _∙_}
-use mathlib.Core.Logic.{⊎-elim}
 use mathlib.Core.Bool.{true, false, cond}
 use mathlib.Core.List.{List, [], _∷_, _++_, append-nil}
 use native.Mathlib.Omega.{arith}
-use native.Mathlib.Nat.{zero-mul, add-mul}
+use native.Mathlib.Nat.{zero-mul}
+use native.Mathlib.Numerals.{add-one}
 use lib.Arith.{digits-div, digits-mod, digits-lt}
-use lib.ListN.{length, getD, set}
-use lib.Seq.{getD-set-same, getD-set-other}
-use Rattle.surface.proofs.Steps.{lt-or-le}
-use Rattle.cyclic.specs.declared.seam.Seam.{Seam}
+use lib.ListN.{length}
 use Rattle.surface.specs.Surface.{Shape, Triangle, tri, proper, falling, halfOf, slot, kept, triangleNumber}
-use Rattle.surface.specs.Found.{surfaceWith}
 use Rattle.surface.proofs.Triangles.{kept-at-most}
 use Rattle.mesh.specs.declared.corner.Cell.{Cell}
+use Rattle.mesh.specs.declared.corner.Surface.{Surface}
+use Rattle.mesh.specs.Corners.{shapeOf, cellOf}
 use Rattle.mesh.specs.Held.{firsts, triangleAt, trianglesIn}
 use Rattle.mesh.proofs.Firsts.{length-firsts}
-use Rattle.mesh.specs.Corners.{cellOf}
 
 -- "the cell emits (i00,i10,i01), then (i10,i11,i01)"
 abbrev pub firstOf : Cell → Triangle
@@ -36,83 +33,64 @@ added-none ts t e = rw e (sym (append-nil ts))
 pub added-one : (ts : List Triangle) (t : Triangle) → proper t ≡ true → ts ++ (t ∷ []) ≡ ts ++ addedBy t
 added-one ts t e = rw e
 
--- a cell from its four corners
-pub corners-same : {A : Type 0} (f : ℕ → ℕ → ℕ → ℕ → A) {a b c d a′ b′ c′ d′ : ℕ} → a ≡ a′ → b ≡ b′ → c ≡ c′ → d ≡ d′ → f a b c d ≡ f a′ b′ c′ d′
-corners-same f p q r t = cc
+-- one slot more
+kept-more : (s : Shape) (k : ℕ) {t : Triangle} {before after : List Triangle} → t ≡ slot s k → before ≡ kept s k → after ≡ before ++ addedBy t → after ≡ kept s (k + 1)
+unfolding kept
+kept-more s k e b a = rw (add-one, a, b, e)
+
+-- the count is the number of triangles that the list holds
+pub held-triangles : (count : ℕ) (l : List ℕ) {ts : List Triangle} → trianglesIn count l ≡ ts → count ≡ length ts
+held-triangles count l e = sym (length-firsts (triangleAt l) count) ∙ ap length e
 
 -- a list that holds the triangles of the first k slots holds at most k
 pub held-most : (s : Shape) (k count : ℕ) (l : List ℕ) → trianglesIn count l ≡ kept s k → count ≤ k
-held-most s k count l e = omega (arith, length-firsts (triangleAt l) count, ap length e, kept-at-most s k)
+held-most s k count l e = omega (arith, held-triangles count l e, kept-at-most s k)
 
+-- the number of the next slot's triangle is the count of those before it
 pub held-count : (s : Shape) (k count : ℕ) (l : List ℕ) → trianglesIn count l ≡ kept s k → count ≡ triangleNumber s k
 unfolding triangleNumber
-held-count s k count l e = sym (length-firsts (triangleAt l) count) ∙ ap length e
+held-count s k count l e = held-triangles count l e
 
 -- before the first cell
 pub none-held : (s : Shape) (n : ℕ) (l : List ℕ) → trianglesIn 0 l ≡ kept s (2 * (0 * n))
 unfolding firsts kept
 none-held s n l = rw (zero-mul n)
 
--- the first value of f written into a list
-pub value-first : (f : ℕ → ℕ) (l : List ℕ) (x : ℕ) → 0 < length l → x ≡ f 0 → (i : ℕ) → i ≤ 0 → getD (set l 0 x) i 0 ≡ f i
-value-first f l x h z i q =
-    let e : i ≡ 0 = omega arith in
-    ap (λ (j : ℕ). getD (set l 0 x) j 0) e ∙ getD-set-same l 0 x 0 h ∙ z ∙ ap f (sym e)
-
--- one more value of f written into a list that has those up to u
-pub values-more : (f : ℕ → ℕ) (l : List ℕ) (u x : ℕ) → u + 1 < length l → ((i : ℕ) → i ≤ u → getD l i 0 ≡ f i) → x ≡ f (u + 1) →
-    (i : ℕ) → i ≤ u + 1 → getD (set l (u + 1) x) i 0 ≡ f i
-values-more f l u x h known e i q =
-    ⊎-elim
-    (λ m. getD-set-other l (u + 1) i x 0 (λ z. omega arith) ∙ known i (omega arith))
-    (λ m. let z : i ≡ u + 1 = omega arith in
-    ap (λ (j : ℕ). getD (set l (u + 1) x) j 0) z ∙ getD-set-same l (u + 1) x 0 h ∙ e ∙ ap f (sym z))
-    (lt-or-le i (u + 1))
-
 -- Cell (u, v)
 
+-- it is one of m·n cells
 pub cell-below : {m n u v : ℕ} → u < m → v < n → u * n + v + 1 ≤ m * n
 cell-below p q = omega (arith, digits-lt p q)
 
 -- after the last cell of a row comes the next row
 pub row-next : (s : Shape) (n u v : ℕ) → v ≡ n → kept s (2 * (u * n + v)) ≡ kept s (2 * ((u + 1) * n))
-row-next s n u v e = ap (kept s) (omega (arith, add-mul u 1 n))
+row-next s n u v e = ap (kept s) (omega arith)
 
 pub row-first : (s : Shape) (n u : ℕ) → kept s (2 * (u * n)) ≡ kept s (2 * (u * n + 0))
 row-first s n u = ap (kept s) (omega arith)
 
-module _ (m n : ℕ) (su sv : Seam) (u v : ℕ) (h : v < n) where
-  slot-of : (i x : ℕ) → i % 2 ≡ x → i / 2 ≡ u * n + v → slot (surfaceWith m n su sv) i ≡ halfOf (surfaceWith m n su sv) falling x u v
+module _ (surface : Surface) (u v : ℕ) (h : v < surface .n) where
+  -- slot i, of half x of the cell
+  slot-of : (i x : ℕ) → i % 2 ≡ x → i / 2 ≡ u * surface .n + v → slot (shapeOf surface) i ≡ halfOf (shapeOf surface) falling x u v
   unfolding slot
   slot-of i x e d = rw (e, d, digits-div u h, digits-mod u h)
 
-  pub slot-first : slot (surfaceWith m n su sv) (2 * (u * n + v)) ≡ firstOf (cellOf (surfaceWith m n su sv) u v)
+  -- the cell's triangles are those of its two slots
+  pub slot-first : {cell : Cell} → cell ≡ cellOf (shapeOf surface) u v → firstOf cell ≡ slot (shapeOf surface) (2 * (u * surface .n + v))
   unfolding halfOf
-  slot-first = slot-of (2 * (u * n + v)) 0 (omega arith) (omega arith)
+  slot-first c = ap firstOf c ∙ sym (slot-of (2 * (u * surface .n + v)) 0 (omega arith) (omega arith))
 
-  pub slot-second : slot (surfaceWith m n su sv) (2 * (u * n + v) + 1) ≡ secondOf (cellOf (surfaceWith m n su sv) u v)
+  pub slot-second : {cell : Cell} → cell ≡ cellOf (shapeOf surface) u v → secondOf cell ≡ slot (shapeOf surface) (2 * (u * surface .n + v) + 1)
   unfolding halfOf
-  slot-second = slot-of (2 * (u * n + v) + 1) 1 (omega arith) (omega arith)
+  slot-second c = ap secondOf c ∙ sym (slot-of (2 * (u * surface .n + v) + 1) 1 (omega arith) (omega arith))
 
   -- what the cell's triangles are added to, and give
-  pub cell-first : {cell : Cell} {before after : List Triangle} → cell ≡ cellOf (surfaceWith m n su sv) u v → before ≡ kept (surfaceWith m n su sv) (2 * (u * n + v)) →
-      after ≡ before ++ addedBy (firstOf cell) → after ≡ kept (surfaceWith m n su sv) (2 * (u * n + v) + 1)
-  unfolding kept
-  cell-first {cell} {before} {after} c b a =
-      let e : 2 * (u * n + v) + 1 ≡ suc (2 * (u * n + v)) = omega arith in
-      a
-      ∙ ap (λ (ts : List Triangle). ts ++ addedBy (firstOf cell)) b
-      ∙ ap (λ (x : Cell). kept (surfaceWith m n su sv) (2 * (u * n + v)) ++ addedBy (firstOf x)) c
-      ∙ ap (λ (t : Triangle). kept (surfaceWith m n su sv) (2 * (u * n + v)) ++ addedBy t) (sym slot-first)
-      ∙ ap (kept (surfaceWith m n su sv)) (sym e)
+  pub cell-first : {cell : Cell} {before after : List Triangle} → cell ≡ cellOf (shapeOf surface) u v → before ≡ kept (shapeOf surface) (2 * (u * surface .n + v)) →
+      after ≡ before ++ addedBy (firstOf cell) → after ≡ kept (shapeOf surface) (2 * (u * surface .n + v) + 1)
+  cell-first c b a = kept-more (shapeOf surface) (2 * (u * surface .n + v)) (slot-first c) b a
 
-  pub cell-second : {cell : Cell} {before after : List Triangle} → cell ≡ cellOf (surfaceWith m n su sv) u v → before ≡ kept (surfaceWith m n su sv) (2 * (u * n + v) + 1) →
-      after ≡ before ++ addedBy (secondOf cell) → after ≡ kept (surfaceWith m n su sv) (2 * (u * n + (v + 1)))
-  unfolding kept
-  cell-second {cell} {before} {after} c b a =
-      let e : 2 * (u * n + (v + 1)) ≡ suc (2 * (u * n + v) + 1) = omega arith in
-      a
-      ∙ ap (λ (ts : List Triangle). ts ++ addedBy (secondOf cell)) b
-      ∙ ap (λ (x : Cell). kept (surfaceWith m n su sv) (2 * (u * n + v) + 1) ++ addedBy (secondOf x)) c
-      ∙ ap (λ (t : Triangle). kept (surfaceWith m n su sv) (2 * (u * n + v) + 1) ++ addedBy t) (sym slot-second)
-      ∙ ap (kept (surfaceWith m n su sv)) (sym e)
+  pub cell-second : {cell : Cell} {before after : List Triangle} → cell ≡ cellOf (shapeOf surface) u v → before ≡ kept (shapeOf surface) (2 * (u * surface .n + v) + 1) →
+      after ≡ before ++ addedBy (secondOf cell) → after ≡ kept (shapeOf surface) (2 * (u * surface .n + (v + 1)))
+  cell-second c b a =
+      let e : 2 * (u * surface .n + v) + 1 + 1 ≡ 2 * (u * surface .n + (v + 1)) = omega arith in
+      kept-more (shapeOf surface) (2 * (u * surface .n + v) + 1) (slot-second c) b a ∙ ap (kept (shapeOf surface)) e

@@ -1,11 +1,11 @@
--- The first values of a function as a list: its length, its values, and what it is after a value is put in. Over any values. Assumes nothing.
+-- The first values of a function as a list: its length, its values, and what it is after a value is put in; and as a list that they are written into one by one. Assumes nothing.
 use Prim.Native.Nat.{ℕ, zero, suc, _+_, _≤_, _<_}
 use mathlib.Core.Path.{_≡_, refl, sym, ap, _∙_}
-use mathlib.Core.Logic.{_⊎_, ⊎-elim}
-use mathlib.Core.List.{[], _∷_, _++_, append-assoc}
+use mathlib.Core.Logic.{⊎-elim}
+use mathlib.Core.List.{List, [], _∷_, _++_, append-assoc}
 use native.Mathlib.Omega.{arith}
-use lib.ListN.{length, getD, take, drop, length-append, drop-of-length-le, List·getD-append}
-use lib.Seq.{take-all, take-append-le, drop-append-le, getD-at}
+use lib.ListN.{length, getD, take, drop, set, length-append, drop-of-length-le, List·getD-append}
+use lib.Seq.{take-all, take-append-le, drop-append-le, getD-at, getD-set-same, getD-set-other}
 use Rattle.surface.proofs.Steps.{lt-or-le}
 use Rattle.mesh.specs.Held.{firsts}
 
@@ -38,7 +38,7 @@ module _ {A : Type 0} where
   unfolding firsts
   firsts-put f g zero i p h low here high =
       let z : i ≡ 0 = omega arith in
-      rw z (ap (λ (x : A). x ∷ []) (ap g (sym z) ∙ here))
+      rw (z, rw z at here)
   firsts-put f g (suc k) i p h low here high =
       ⊎-elim (λ l. inside l (firsts-put f g k i p (omega arith) low here (λ j q r. high j q (omega arith)))) end (lt-or-le i (suc k))
     where
@@ -59,3 +59,18 @@ module _ {A : Type 0} where
           let back = drop-append-le i (firsts f k) (f k ∷ []) (omega arith) in
           let last = high k (omega arith) (omega arith) in
           rw (front, back, init, last, append-assoc)
+
+-- the first value of f written into a list
+pub value-first : (f : ℕ → ℕ) (l : List ℕ) (x : ℕ) → 0 < length l → x ≡ f 0 → (i : ℕ) → i ≤ 0 → getD (set l 0 x) i 0 ≡ f i
+value-first f l x h z i q =
+    let e : i ≡ 0 = omega arith in
+    rw (e, getD-set-same l 0 x 0 h) z
+
+-- one more value of f written into a list that has those up to u
+pub values-more : (f : ℕ → ℕ) (l : List ℕ) (u x : ℕ) → u + 1 < length l → ((i : ℕ) → i ≤ u → getD l i 0 ≡ f i) → x ≡ f (u + 1) →
+    (i : ℕ) → i ≤ u + 1 → getD (set l (u + 1) x) i 0 ≡ f i
+values-more f l u x h known e i q =
+    ⊎-elim
+    (λ m. getD-set-other l (u + 1) i x 0 (λ z. omega arith) ∙ known i (omega arith))
+    (λ m. let z : i ≡ u + 1 = omega arith in rw (z, getD-set-same l (u + 1) x 0 h) e)
+    (lt-or-le i (u + 1))

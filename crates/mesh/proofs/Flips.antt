@@ -1,39 +1,38 @@
 -- What a step of a reversed seam puts down, from what the code finds there, and how many pairs there can be. Assumes nothing.
 use Prim.Native.Nat.{ℕ, zero, suc, _+_, _-_, _*_, _≤_, _<_, min, max}
 use mathlib.Core.Path.{_≡_, refl, sym, ap, _∙_}
-use mathlib.Core.Bool.{Bool, true, false, _&&_, cond}
+use mathlib.Core.Bool.{Bool, true, _&&_, cond}
 use mathlib.Core.List.{List, [], _∷_}
-use native.Mathlib.Nat.{add-mul}
 use native.Mathlib.Omega.{arith}
 use native.Mathlib.Numerals.{add-one}
 use lib.Dec.{ltb}
 use lib.ListN.{length, getD}
 use borrow.Author.Tests.{lt-ltb, le-ltb}
+use Rattle.float.proofs.Tests.{cond-keeps}
 use Rattle.cyclic.specs.declared.mapping.CyclicMapping.{CyclicMapping}
 use Rattle.cyclic.specs.declared.mapping.CyclicMapping.the-variants.{Forward, Reverse}
 use Rattle.cyclic.specs.declared.seam.Seam.{Seam as Found}
-use Rattle.cyclic.specs.declared.seam.Seam.the-variants.{Joined, Unjoined}
+use Rattle.cyclic.specs.declared.seam.Seam.the-variants.{Joined}
 use Rattle.cyclic.specs.Mapping as cyclic
-use Rattle.surface.specs.Surface.{Seam, Shape, Pair, ordered, insert, proper, slot, triangleNumber, stepOn, reversed, process, flipped, highU, lowV, highV, pair}
+use Rattle.surface.specs.Surface.{Seam, Shape, Pair, ordered, insert, proper, slot, triangleNumber, stepOn, reversed, process, flipped, pair}
 use Rattle.surface.specs.Found.{ofMapping, seamOf}
 use Rattle.mesh.specs.declared.corner.Surface.{Surface}
 use Rattle.mesh.specs.declared.flipped.Axis.{Axis}
 use Rattle.mesh.specs.declared.flipped.Axis.the-variants.{U, «V»}
 use Rattle.mesh.specs.Corners.{shapeOf, Bounded}
 use Rattle.mesh.specs.Held.{pairAt, pairsIn}
-use Rattle.mesh.specs.Rims.{oneMore, stepsOf, lowOf, highOf, Starts, Rims, flipStep, flipSteps, flips}
+use Rattle.mesh.specs.Rims.{stepsOf, lowOf, highOf, Starts, Rims, flipStep, flipSteps, flips}
 use Rattle.mesh.proofs.Firsts.{length-firsts}
 use Rattle.mesh.proofs.Numbers.{number-step, low-u, low-v, high-u, high-v}
 
+-- a rim has at most 255 steps
 pub steps-most : (axis : Axis) (surface : Surface) → Bounded surface → stepsOf axis (shapeOf surface) ≤ 255
 steps-most U surface b = b .n-most
 steps-most «V» surface b = b .m-most
 
 -- the number of a triangle from the count after it
 pub number-before : (s : Shape) (k x : ℕ) → x ≡ triangleNumber s (k + 1) → proper (slot s k) ≡ true → x ≡ triangleNumber s k + 1
-number-before s k x e p =
-    let f : k + 1 ≡ suc k = omega arith in
-    e ∙ ap (triangleNumber s) f ∙ number-step s k ∙ ap (oneMore (triangleNumber s k)) p
+number-before s k x e p = rw (e, number-step, p)
 
 pub ordered-up : (a b : ℕ) → a < b → pair a b ≡ ordered a b
 ordered-up a b h =
@@ -48,26 +47,14 @@ ordered-down a b h =
     rw (l, r)
 
 module _ (axis : Axis) (s : Shape) (m : Seam) (i : ℕ) (ps : List Pair) {on : ℕ} (here : on ≡ stepOn m (stepsOf axis s) i) where
+  -- no step of the low rim lies on step i of the high rim
   pub no-step : stepsOf axis s ≤ on → ps ≡ flipStep axis s m i ps
-  no-step h = sym (rw (sym here, le-ltb on (stepsOf axis s) h))
+  no-step h = rw (← here, le-ltb on (stepsOf axis s) h)
 
-  module _ (there : on < stepsOf axis s) {a b : Bool} (low : a ≡ proper (slot s (lowOf axis s on))) (high : b ≡ proper (slot s (highOf axis s i))) where
-    tested : proper (slot s (lowOf axis s on)) && proper (slot s (highOf axis s i)) ≡ a && b
-    tested = rw (low, high)
-
-    pub not-both : a && b ≡ false → ps ≡ flipStep axis s m i ps
-    not-both e = sym (rw (sym here, lt-ltb on (stepsOf axis s) there, tested, e))
-
-    pub put-both : a && b ≡ true → insert (ordered (triangleNumber s (lowOf axis s on)) (triangleNumber s (highOf axis s i))) ps ≡ flipStep axis s m i ps
-    put-both e = sym (rw (sym here, lt-ltb on (stepsOf axis s) there, tested, e))
-
-    pub high-proper : a && b ≡ true → proper (slot s (highOf axis s i)) ≡ true
-    high-proper e = sym high ∙ and-right a b e
-      where
-        and-right : (x y : Bool) → x && y ≡ true → y ≡ true
-        and-right true y h = h
-        and-right false true h = refl
-        and-right false false h = h
+  -- one does: their triangles are a pair if both are there
+  pub step-pair : {a b : Bool} → on < stepsOf axis s → a ≡ proper (slot s (lowOf axis s on)) → b ≡ proper (slot s (highOf axis s i)) →
+      flipStep axis s m i ps ≡ cond (a && b) (insert (ordered (triangleNumber s (lowOf axis s on)) (triangleNumber s (highOf axis s i))) ps) ps
+  step-pair h low high = rw (← here, lt-ltb on (stepsOf axis s) h, low, high)
 
 -- Steps one after another
 
@@ -77,11 +64,10 @@ flips-none axis s m ps = refl
 
 pub flips-more : (axis : Axis) (s : Shape) (m : Seam) (i : ℕ) (ps : List Pair) → flipStep axis s m i (flipSteps axis s m i ps) ≡ flipSteps axis s m (i + 1) ps
 unfolding process
-flips-more axis s m i ps = sym (ap (λ (n : ℕ). flipSteps axis s m n ps) (add-one i))
+flips-more axis s m i ps = rw (add-one i)
 
 cond-most : (b : Bool) (x y : List Pair) (n : ℕ) → length x ≤ n → length y ≤ n → length (cond b x y) ≤ n
-cond-most true x y n p q = p
-cond-most false x y n p q = q
+cond-most b x y n = cond-keeps (λ (ps : List Pair). length ps ≤ n) b x y
 
 insert-most : (p : Pair) (ps : List Pair) → length (insert p ps) ≤ suc (length ps)
 insert-most p [] = omega arith
@@ -109,60 +95,44 @@ flips-most axis s m (suc n) ps = omega (arith, step-most axis s m n (flipSteps a
 pub seam-most : (axis : Axis) (s : Shape) (m : Seam) (ps : List Pair) → length (flips axis s m ps) ≤ length ps + stepsOf axis s
 seam-most axis s m ps = cond-most (reversed m) _ _ _ (flips-most axis s m (stepsOf axis s) ps) (omega arith)
 
+-- the count is the number of pairs that the list holds
 pub held-pairs : (count : ℕ) (l : List ℕ) {ps : List Pair} → pairsIn count l ≡ ps → count ≡ length ps
 held-pairs count l e = sym (length-firsts (pairAt l) count) ∙ ap length e
 
 -- One seam
 
-pub reverse-is : (m : CyclicMapping) → cyclic.isReverse m ≡ reversed (ofMapping m)
-reverse-is (Forward o n) = refl
-reverse-is (Reverse o n) = refl
-
-module _ (axis : Axis) (s : Shape) (ps : List Pair) {seam : Found} where
-  pub seam-none : seam ≡ Unjoined → ps ≡ flips axis s (seamOf seam) ps
-  seam-none e = sym (ap (λ (x : Found). flips axis s (seamOf x) ps) e)
-
-  module _ {m : CyclicMapping} (e : seam ≡ Joined m) where
-    pub seam-forward : cyclic.isReverse m ≡ false → ps ≡ flips axis s (seamOf seam) ps
-    seam-forward f = sym (ap (λ (x : Found). flips axis s (seamOf x) ps) e ∙ rw (sym (reverse-is m) ∙ f))
-
-    pub seam-reverse : cyclic.isReverse m ≡ true → flipSteps axis s (ofMapping m) (stepsOf axis s) ps ≡ flips axis s (seamOf seam) ps
-    seam-reverse f = sym (ap (λ (x : Found). flips axis s (seamOf x) ps) e ∙ rw (sym (reverse-is m) ∙ f))
+-- what a found seam's test says of it
+pub seam-told : {seam : Found} {m : CyclicMapping} {r t : Bool} → seam ≡ Joined m → r ≡ cyclic.isReverse m → r ≡ t → reversed (seamOf seam) ≡ t
+seam-told {m = m} e i h = rw (e, ← reverse-is m, ← i, h)
+  where
+    reverse-is : (k : CyclicMapping) → cyclic.isReverse k ≡ reversed (ofMapping k)
+    reverse-is (Forward o n) = refl
+    reverse-is (Reverse o n) = refl
 
 -- The counts along the rims
 
-module _ (surface : Surface) (b : Bounded surface) where
-  pub rims-u : (low high : List ℕ) → surface .n < length low → surface .n < length high →
-      ((i : ℕ) → i ≤ surface .n → getD low i 0 ≡ triangleNumber (shapeOf surface) (2 * (0 * surface .n + i))) →
-      ((i : ℕ) → i ≤ surface .n → getD high i 0 ≡ triangleNumber (shapeOf surface) (2 * ((surface .m - 1) * surface .n + i))) →
-      Rims U (shapeOf surface) low high
-  rims-u low high p q l h =
-      let s = shapeOf surface in
-      record {
-        low-room = p;
-        high-room = q;
-        before = λ i k. l i (omega arith) ∙ ap (triangleNumber s) (low-u (surface .m) (surface .n) (surface .u) (surface .v) i);
-        after = λ i k. h (i + 1) (omega arith) ∙ ap (triangleNumber s) (next i);
-      }
-    where
-      next : (i : ℕ) → 2 * ((surface .m - 1) * surface .n + (i + 1)) ≡ highU (shapeOf surface) i + 1
-      next i = omega (arith, high-u (surface .m) (surface .n) (surface .u) (surface .v) i)
+-- along u, the counts before each cell of the first u and of the last
+pub rims-u : (surface : Surface) (low high : List ℕ) → surface .n < length low → surface .n < length high →
+    ((i : ℕ) → i ≤ surface .n → getD low i 0 ≡ triangleNumber (shapeOf surface) (2 * (0 * surface .n + i))) →
+    ((i : ℕ) → i ≤ surface .n → getD high i 0 ≡ triangleNumber (shapeOf surface) (2 * ((surface .m - 1) * surface .n + i))) →
+    Rims U (shapeOf surface) low high
+rims-u surface low high p q l h =
+    record {
+      low-room = p;
+      high-room = q;
+      before = λ i k. l i (omega arith) ∙ ap (triangleNumber (shapeOf surface)) (low-u surface i);
+      after = λ i k. h (i + 1) (omega arith) ∙ ap (triangleNumber (shapeOf surface)) (omega (arith, high-u surface i));
+    }
 
-  pub rims-v : (starts : List ℕ) → Starts surface starts → Rims «V» (shapeOf surface) starts starts
-  rims-v starts t =
-      let s = shapeOf surface in
-      record {
-        low-room = t .room;
-        high-room = t .room;
-        before = λ i k. t .at i (omega arith) ∙ ap (triangleNumber s) (first i);
-        after = λ i k. t .at (i + 1) (omega arith) ∙ ap (triangleNumber s) (next i);
-      }
-    where
-      first : (i : ℕ) → 2 * (i * surface .n) ≡ lowV (shapeOf surface) i
-      first i = omega (arith, low-v (surface .m) (surface .n) (surface .u) (surface .v) i)
-
-      next : (i : ℕ) → 2 * ((i + 1) * surface .n) ≡ highV (shapeOf surface) i + 1
-      next i = omega (arith, add-mul i 1 (surface .n), high-v (surface .m) (surface .n) (surface .u) (surface .v) i, b .n-least)
+-- along v, the counts before each u: its first cell is on the low rim, its last on the high one
+pub rims-v : (surface : Surface) → Bounded surface → (starts : List ℕ) → Starts surface starts → Rims «V» (shapeOf surface) starts starts
+rims-v surface b starts t =
+    record {
+      low-room = t .room;
+      high-room = t .room;
+      before = λ i k. t .at i (omega arith) ∙ ap (triangleNumber (shapeOf surface)) (omega (arith, low-v surface i));
+      after = λ i k. t .at (i + 1) (omega arith) ∙ ap (triangleNumber (shapeOf surface)) (omega (arith, high-v surface i));
+    }
 
 pub flipped-is : (s : Shape) → flips «V» s (s .sv) (flips U s (s .su) []) ≡ flipped s
 unfolding flipped

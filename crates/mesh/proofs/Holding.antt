@@ -1,6 +1,6 @@
 -- What a list of numbers holds, as numbers; a triangle added, a pair put in, and where a pair belongs. Assumes nothing.
 use Prim.Native.Nat.{ℕ, zero, suc, _+_, _*_, _≤_, _<_}
-use mathlib.Core.Path.{_≡_, refl, sym, ap, subst, _∙_}
+use mathlib.Core.Path.{_≡_, refl, sym, _∙_}
 use mathlib.Core.Logic.{_⊎_, inl, inr, ⊎-elim}
 use mathlib.Core.Bool.{Bool, true, false, _&&_, _||_, true≢false}
 use mathlib.Core.List.{List, [], _∷_, _++_, append-assoc}
@@ -14,39 +14,39 @@ use borrow.Author.Tests.{ltb-false, eqb-true, eqb-false, lt-ltb, le-ltb, eq-eqb}
 use Rattle.float.proofs.Tests.{and-both}
 use Rattle.surface.proofs.Steps.{lt-or-le}
 use Rattle.surface.specs.Surface.{Triangle, tri, Pair, insert, pair}
-use Rattle.mesh.specs.declared.pairs.Spot.{Spot}
-use Rattle.mesh.specs.declared.pairs.Spot.the-variants.{Before, There}
 use Rattle.mesh.specs.Mesh.{triangleNumbers, pairNumbers}
-use Rattle.mesh.specs.Held.{firsts, triangleAt, trianglesIn, pairAt, pairsIn, putAt, Spotted}
+use Rattle.mesh.specs.Held.{firsts, triangleAt, trianglesIn, pairAt, pairsIn, putAt}
 use Rattle.mesh.proofs.Firsts.{length-firsts, firsts-same, getD-firsts, firsts-put}
+
+-- One, two and three places further
+
+take-one : (l : List ℕ) (i : ℕ) → i < length l → take (i + 1) l ≡ take i l ++ (getD l i 0 ∷ [])
+take-one l i h = rw (add-one, take-suc l i 0)
+
+take-two : (l : List ℕ) (i : ℕ) → i + 2 ≤ length l → take (i + 2) l ≡ take i l ++ (getD l i 0 ∷ getD l (i + 1) 0 ∷ [])
+take-two l i h =
+    let e : i + 2 ≡ i + 1 + 1 = omega arith in
+    rw (e, take-one l (i + 1) (omega arith), take-one l i (omega arith), append-assoc)
+
+take-three : (l : List ℕ) (i : ℕ) → i + 3 ≤ length l → take (i + 3) l ≡ take i l ++ (getD l i 0 ∷ getD l (i + 1) 0 ∷ getD l (i + 2) 0 ∷ [])
+take-three l i h =
+    let e : i + 3 ≡ i + 2 + 1 = omega arith in
+    rw (e, take-one l (i + 2) (omega arith), take-two l i (omega arith), append-assoc)
 
 -- Triangles
 
 triangles-last : (ts : List Triangle) (t : Triangle) → triangleNumbers (ts ++ (t ∷ [])) ≡ triangleNumbers ts ++ (t .a ∷ t .b ∷ t .c ∷ [])
 unfolding triangleNumbers
 triangles-last [] t = refl
-triangles-last (x ∷ ts) t = ap (λ (l : List ℕ). x .a ∷ x .b ∷ x .c ∷ l) (triangles-last ts t)
+triangles-last (x ∷ ts) t = rw (triangles-last ts t)
 
--- three places further
-take-three : (l : List ℕ) (i : ℕ) → i + 3 ≤ length l → take (i + 3) l ≡ take i l ++ (getD l i 0 ∷ getD l (i + 1) 0 ∷ getD l (i + 2) 0 ∷ [])
-take-three l i h =
-    let e : i + 3 ≡ suc (suc (suc i)) = omega arith in
-    let e₁ : i + 1 ≡ suc i = omega arith in
-    let e₂ : i + 2 ≡ suc (suc i) = omega arith in
-    let p : i < length l = omega arith in
-    let p₁ : suc i < length l = omega arith in
-    let p₂ : suc (suc i) < length l = omega arith in
-    rw (e, e₁, e₂, take-suc l (suc (suc i)) 0 p₂, take-suc l (suc i) 0 p₁, take-suc l i 0 p, append-assoc, append-assoc)
-
+-- the numbers of the first k triangles are the first 3·k numbers
 pub triangles-held : (k : ℕ) (l : List ℕ) → 3 * k ≤ length l → triangleNumbers (trianglesIn k l) ≡ take (3 * k) l
 unfolding firsts triangleNumbers
 triangles-held zero l h = refl
 triangles-held (suc k) l h =
     let e : 3 * suc k ≡ 3 * k + 3 = omega arith in
-    triangles-last (trianglesIn k l) (triangleAt l k)
-    ∙ ap (λ (x : List ℕ). x ++ (getD l (3 * k) 0 ∷ getD l (3 * k + 1) 0 ∷ getD l (3 * k + 2) 0 ∷ [])) (triangles-held k l (omega arith))
-    ∙ sym (take-three l (3 * k) (omega arith))
-    ∙ ap (λ (i : ℕ). take i l) (sym e)
+    rw (e, take-three l (3 * k) (omega arith), triangles-last (trianglesIn k l) (triangleAt l k), triangles-held k l (omega arith))
 
 -- three numbers written from place i on
 abbrev written : List ℕ → ℕ → ℕ → ℕ → ℕ → List ℕ
@@ -75,10 +75,8 @@ pub triangle-added : (k : ℕ) (l : List ℕ) (a b c : ℕ) → 3 * k + 3 ≤ le
 unfolding firsts
 triangle-added k l a b c h =
     let w = written-at l (3 * k) a b c h in
-    let init : trianglesIn k (written l (3 * k) a b c) ≡ trianglesIn k l = firsts-same (triangleAt (written l (3 * k) a b c)) (triangleAt l) k (λ i q. same i q) in
-    ap (λ (n : ℕ). trianglesIn n (written l (3 * k) a b c)) (add-one k)
-    ∙ ap (λ (ts : List Triangle). ts ++ (triangleAt (written l (3 * k) a b c) k ∷ [])) init
-    ∙ rw (w .0, w .1, w .2)
+    let init : trianglesIn k (written l (3 * k) a b c) ≡ trianglesIn k l = firsts-same (triangleAt (written l (3 * k) a b c)) (triangleAt l) k same in
+    rw (add-one k, init, w .0, w .1, w .2)
   where
     same : (i : ℕ) → i < k → triangleAt (written l (3 * k) a b c) i ≡ triangleAt l i
     same i q = rw (written-before l (3 * k) a b c (3 * i) (omega arith), written-before l (3 * k) a b c (3 * i + 1) (omega arith), written-before l (3 * k) a b c (3 * i + 2) (omega arith))
@@ -88,26 +86,15 @@ triangle-added k l a b c h =
 pairs-last : (ps : List Pair) (p : Pair) → pairNumbers (ps ++ (p ∷ [])) ≡ pairNumbers ps ++ (p .low ∷ p .high ∷ [])
 unfolding pairNumbers
 pairs-last [] p = refl
-pairs-last (x ∷ ps) p = ap (λ (l : List ℕ). x .low ∷ x .high ∷ l) (pairs-last ps p)
+pairs-last (x ∷ ps) p = rw (pairs-last ps p)
 
--- two places further
-take-two : (l : List ℕ) (i : ℕ) → i + 2 ≤ length l → take (i + 2) l ≡ take i l ++ (getD l i 0 ∷ getD l (i + 1) 0 ∷ [])
-take-two l i h =
-    let e : i + 2 ≡ suc (suc i) = omega arith in
-    let e₁ : i + 1 ≡ suc i = omega arith in
-    let p : i < length l = omega arith in
-    let p₁ : suc i < length l = omega arith in
-    rw (e, e₁, take-suc l (suc i) 0 p₁, take-suc l i 0 p, append-assoc)
-
+-- the numbers of the first k pairs are the first 2·k numbers
 pub pairs-held : (k : ℕ) (l : List ℕ) → 2 * k ≤ length l → pairNumbers (pairsIn k l) ≡ take (2 * k) l
 unfolding firsts pairNumbers
 pairs-held zero l h = refl
 pairs-held (suc k) l h =
     let e : 2 * suc k ≡ 2 * k + 2 = omega arith in
-    pairs-last (pairsIn k l) (pairAt l k)
-    ∙ ap (λ (x : List ℕ). x ++ (getD l (2 * k) 0 ∷ getD l (2 * k + 1) 0 ∷ [])) (pairs-held k l (omega arith))
-    ∙ sym (take-two l (2 * k) (omega arith))
-    ∙ ap (λ (i : ℕ). take i l) (sym e)
+    rw (e, take-two l (2 * k) (omega arith), pairs-last (pairsIn k l) (pairAt l k), pairs-held k l (omega arith))
 
 -- whether p stands before q, and whether they are one, as the code tests it
 abbrev pub comes : Pair → Pair → Bool
@@ -165,57 +152,39 @@ PassedTo i p ps = insert p ps ≡ take i ps ++ insert p (drop i ps)
 
 module _ (f : ℕ → Pair) (k i : ℕ) (p : Pair) (h : i < k) (passed : PassedTo i p (firsts f k)) where
   here : drop i (firsts f k) ≡ f i ∷ drop (suc i) (firsts f k)
-  here = drop-cons (firsts f k) i (f i) (omega (arith, length-firsts f k)) ∙ ap (λ (q : Pair). q ∷ drop (suc i) (firsts f k)) (getD-firsts f k i (f i) h)
+  here = rw (drop-cons (firsts f k) i (f i) (omega (arith, length-firsts f k)), getD-firsts f k i (f i) h)
 
   so-far : take (suc i) (firsts f k) ≡ take i (firsts f k) ++ (f i ∷ [])
-  so-far = take-suc (firsts f k) i (f i) (omega (arith, length-firsts f k)) ∙ ap (λ (q : Pair). take i (firsts f k) ++ (q ∷ [])) (getD-firsts f k i (f i) h)
+  so-far = rw (take-suc (firsts f k) i (f i) (omega (arith, length-firsts f k)), getD-firsts f k i (f i) h)
 
   pub spot-before : comes p (f i) ≡ true → insert p (firsts f k) ≡ putAt i p (firsts f k)
-  spot-before e =
-      passed ∙ ap (λ (qs : List Pair). take i (firsts f k) ++ qs)
-      (ap (insert p) here ∙ insert-front p (f i) (drop (suc i) (firsts f k)) e ∙ ap (λ (qs : List Pair). p ∷ qs) (sym here))
+  spot-before e = rw (passed, here, insert-front p (f i) (drop (suc i) (firsts f k)) e)
 
   pub spot-there : alike p (f i) ≡ true → insert p (firsts f k) ≡ firsts f k
-  spot-there e =
-      passed ∙ ap (λ (qs : List Pair). take i (firsts f k) ++ qs)
-      (ap (insert p) here ∙ insert-alike p (f i) (drop (suc i) (firsts f k)) e ∙ sym here)
-      ∙ take-append-drop i (firsts f k)
+  spot-there e = rw (passed, here, insert-alike p (f i) (drop (suc i) (firsts f k)) e, ← here) (take-append-drop i (firsts f k))
 
   pub spot-on : comes p (f i) ≡ false → alike p (f i) ≡ false → PassedTo (i + 1) p (firsts f k)
-  spot-on a b =
-      passed ∙ ap (λ (qs : List Pair). take i (firsts f k) ++ qs)
-      (ap (insert p) here ∙ insert-behind p (f i) (drop (suc i) (firsts f k)) a b)
-      ∙ sym (append-snoc (take i (firsts f k)) (f i) (insert p (drop (suc i) (firsts f k))))
-      ∙ rw (add-one, so-far)
+  spot-on a b = rw (add-one, so-far, append-snoc, passed, here, insert-behind p (f i) (drop (suc i) (firsts f k)) a b)
 
 pub spot-end : (f : ℕ → Pair) (k i : ℕ) (p : Pair) → i ≡ k → PassedTo i p (firsts f k) → insert p (firsts f k) ≡ putAt k p (firsts f k)
 spot-end f k i p e passed =
     let none = drop-of-length-le (firsts f k) {i = k} (omega (arith, length-firsts f k)) in
-    subst (λ (j : ℕ). PassedTo j p (firsts f k)) e passed ∙ rw none
+    rw e at passed ∙ rw none
 
-pub spot-known : {r : Spot} {i : ℕ} (p : Pair) (ps : List Pair) → r ≡ Before i → Spotted r p ps → (i ≤ length ps) × (insert p ps ≡ putAt i p ps)
-spot-known p ps e h = subst (λ (x : Spot). Spotted x p ps) e h
+-- One more number, at place i, moved two places on: those below it stand where they did, those from it on two places further
 
-pub there-known : {r : Spot} (p : Pair) (ps : List Pair) → r ≡ There → Spotted r p ps → insert p ps ≡ ps
-there-known p ps e h = subst (λ (x : Spot). Spotted x p ps) e h
+pub gap-below : (l l₀ : List ℕ) (i : ℕ) → ((k : ℕ) → k < i + 1 → getD l k 0 ≡ getD l₀ k 0) →
+    (k : ℕ) → k < i → getD (set l (i + 2) (getD l i 0)) k 0 ≡ getD l₀ k 0
+gap-below l l₀ i below k h = getD-set-other l (i + 2) k (getD l i 0) 0 (λ e. omega arith) ∙ below k (omega arith)
 
--- One more number, at place i, moved two places on
-module _ (l l₀ : List ℕ) (i end : ℕ) (room : end + 2 ≤ length l) (within : i < end)
-    (below : (k : ℕ) → k < i + 1 → getD l k 0 ≡ getD l₀ k 0)
-    (moved : (k : ℕ) → i + 1 ≤ k → k < end → getD l (k + 2) 0 ≡ getD l₀ k 0) where
-  pub gap-below : (k : ℕ) → k < i → getD (set l (i + 2) (getD l i 0)) k 0 ≡ getD l₀ k 0
-  gap-below k h = getD-set-other l (i + 2) k (getD l i 0) 0 (λ e. omega arith) ∙ below k (omega arith)
-
-  pub gap-moved : (k : ℕ) → i ≤ k → k < end → getD (set l (i + 2) (getD l i 0)) (k + 2) 0 ≡ getD l₀ k 0
-  gap-moved k h q =
-      ⊎-elim
-      (λ m. getD-set-other l (i + 2) (k + 2) (getD l i 0) 0 (λ e. omega arith) ∙ moved k (omega arith) q)
-      (λ m. let e : k ≡ i = omega arith in
-      ap (λ (j : ℕ). getD (set l (i + 2) (getD l i 0)) (j + 2) 0) e
-      ∙ getD-set-same l (i + 2) (getD l i 0) 0 (omega arith)
-      ∙ below i (omega arith)
-      ∙ ap (λ (j : ℕ). getD l₀ j 0) (sym e))
-      (lt-or-le i k)
+pub gap-moved : (l l₀ : List ℕ) (i end : ℕ) → end + 2 ≤ length l → getD l i 0 ≡ getD l₀ i 0 →
+    ((k : ℕ) → i + 1 ≤ k → k < end → getD l (k + 2) 0 ≡ getD l₀ k 0) →
+    (k : ℕ) → i ≤ k → k < end → getD (set l (i + 2) (getD l i 0)) (k + 2) 0 ≡ getD l₀ k 0
+gap-moved l l₀ i end room here moved k h q =
+    ⊎-elim
+    (λ m. getD-set-other l (i + 2) (k + 2) (getD l i 0) 0 (λ e. omega arith) ∙ moved k (omega arith) q)
+    (λ m. let e : k ≡ i = omega arith in rw (e, getD-set-same l (i + 2) (getD l i 0) 0 (omega arith)) here)
+    (lt-or-le i k)
 
 -- A pair written into the gap before index i
 module _ (l l₀ : List ℕ) (k i low high : ℕ) (within : i ≤ k) (room : 2 * k + 2 ≤ length l)
@@ -251,4 +220,4 @@ module _ (l l₀ : List ℕ) (k i low high : ℕ) (within : i ≤ k) (room : 2 *
       )
 
   pub pair-put : pairsIn (k + 1) both-written ≡ putAt i (pair low high) (pairsIn k l₀)
-  pair-put = ap (λ (c : ℕ). pairsIn c both-written) (add-one k) ∙ firsts-put (pairAt l₀) (pairAt both-written) k i (pair low high) within before-it itself after-it
+  pair-put = rw (add-one k) (firsts-put (pairAt l₀) (pairAt both-written) k i (pair low high) within before-it itself after-it)

@@ -1,10 +1,11 @@
 -- The corner rule by the code's steps: one rule for either seam gives 01's two, and stays within the grid. Assumes nothing.
 use Prim.Native.Nat.{ℕ, _+_, _≤_}
-use mathlib.Core.Path.{_≡_, refl, sym, ap, subst, _∙_}
+use mathlib.Core.Path.{_≡_, refl}
 use mathlib.Core.Bool.{Bool, true, false, _&&_, cond}
 use native.Mathlib.Omega.{arith}
 use lib.Dec.{eqb}
 use borrow.Author.Tests.{eq-eqb, ne-eqb}
+use Rattle.float.proofs.Tests.{cond-keeps}
 use Rattle.grid.specs.Grid.{pointNumber}
 use Rattle.cyclic.specs.declared.mapping.CyclicMapping.{CyclicMapping}
 use Rattle.cyclic.specs.declared.mapping.CyclicMapping.the-variants.{Forward, Reverse}
@@ -14,54 +15,52 @@ use Rattle.cyclic.specs.Mapping as cyclic
 use Rattle.cyclic.proofs.Mappings.{inverse-within}
 use Rattle.surface.specs.Surface.{joined, inverse, Point, at, uRule, vRule, corner, cornerBy}
 use Rattle.surface.proofs.Joinings.{inverse-of}
-use Rattle.surface.specs.Found.{ofMapping, seamOf, surfaceWith}
+use Rattle.surface.specs.Found.{ofMapping, seamOf}
 use Rattle.mesh.specs.declared.corner.Place.{Place}
-use Rattle.mesh.specs.Corners.{Maps, Joins, placed, joinOf}
+use Rattle.mesh.specs.declared.corner.Surface.{Surface}
+use Rattle.mesh.specs.Corners.{shapeOf, Maps, Joins, Bounded, placed, joinOf}
 
 -- The cases of one rule
 
 pub join-last : {seam : Seam} {m : CyclicMapping} (last line step : ℕ) → seam ≡ Joined m → line ≡ last → placed 0 (cyclic.inverse m step) ≡ joinOf seam last line step
 unfolding joinOf
-join-last {seam} {m} last line step e h = sym (ap (λ (s : Seam). joinOf s last line step) e ∙ rw (eq-eqb line last h))
+join-last last line step e h = rw (e, eq-eqb line last h)
 
 pub join-other : {seam : Seam} {m : CyclicMapping} (last line step : ℕ) → seam ≡ Joined m → (line ≡ last → ⊥) → placed line step ≡ joinOf seam last line step
 unfolding joinOf
-join-other {seam} {m} last line step e h = sym (ap (λ (s : Seam). joinOf s last line step) e ∙ rw (ne-eqb line last h))
+join-other last line step e h = rw (e, ne-eqb line last h)
 
 pub join-none : {seam : Seam} (last line step : ℕ) → seam ≡ Unjoined → placed line step ≡ joinOf seam last line step
 unfolding joinOf
-join-none {seam} last line step e = sym (ap (λ (s : Seam). joinOf s last line step) e)
-
-pub joins-as : {seam : Seam} {m : CyclicMapping} (step : ℕ) → seam ≡ Joined m → Joins seam step → cyclic.HasIndex m step
-joins-as step e h = subst (λ (s : Seam). Joins s step) e h
+join-none last line step e = rw e
 
 -- a seam of lines of so many steps takes each of them
 pub maps-joins : (seam : Seam) (steps step : ℕ) → Maps seam steps → steps ≤ 255 → step ≤ steps → Joins seam step
 maps-joins Unjoined steps step h most l = tt
 maps-joins (Joined m) steps step h most l = (omega arith, omega arith, omega arith)
 
+-- a joined point stays on the lines and the steps of the grid
 join-bounds : (seam : Seam) (steps last line step : ℕ) → Maps seam steps → steps ≤ 255 → step ≤ steps →
     (joinOf seam last line step .line ≤ line) × (joinOf seam last line step .step ≤ steps)
 unfolding joinOf
 join-bounds Unjoined steps last line step h most l = (omega arith, l)
-join-bounds (Joined m) steps last line step h most l = go (eqb line last)
-  where
-    go : (b : Bool) → (cond b (placed 0 (cyclic.inverse m step)) (placed line step) .line ≤ line) × (cond b (placed 0 (cyclic.inverse m step)) (placed line step) .step ≤ steps)
-    go true = (omega arith, omega (arith, inverse-within m step (maps-joins (Joined m) steps step h most l)))
-    go false = (omega arith, l)
+join-bounds (Joined m) steps last line step h most l =
+    cond-keeps (λ (p : Place). (p .line ≤ line) × (p .step ≤ steps)) (eqb line last) (placed 0 (cyclic.inverse m step)) (placed line step)
+    (omega arith, omega (arith, inverse-within m step (maps-joins (Joined m) steps step h most l)))
+    (omega arith, l)
 
 pub join-within : (seam : Seam) (steps last line step : ℕ) {p : Place} → p ≡ joinOf seam last line step → Maps seam steps → steps ≤ 255 → step ≤ steps →
     (p .line ≤ line) × (p .step ≤ steps)
-join-within seam steps last line step e h most l = subst (λ (q : Place). (q .line ≤ line) × (q .step ≤ steps)) (sym e) (join-bounds seam steps last line step h most l)
+join-within seam steps last line step e h most l = rw e (join-bounds seam steps last line step h most l)
 
 -- The two rules
 
 pub inverse-is : (m : CyclicMapping) (steps j : ℕ) → cyclic.stepsOf m ≡ steps → inverse (ofMapping m) steps j ≡ cyclic.inverse m j
-inverse-is m steps j e = ap (λ (n : ℕ). inverse (ofMapping m) n j) (sym e) ∙ inverse-of m j
+inverse-is m steps j e = rw (← e) (inverse-of m j)
 
 -- 01's rule, of points that are given by their lines and steps
-rule-is : (f : ℕ → ℕ → Point) (seam : Seam) (steps last line step : ℕ) → Maps seam steps →
-    cond (joined (seamOf seam) && eqb line last) (f 0 (inverse (seamOf seam) steps step)) (f line step) ≡ f (joinOf seam last line step .line) (joinOf seam last line step .step)
+rule-is : (f : Place → Point) (seam : Seam) (steps last line step : ℕ) → Maps seam steps →
+    cond (joined (seamOf seam) && eqb line last) (f (placed 0 (inverse (seamOf seam) steps step))) (f (placed line step)) ≡ f (joinOf seam last line step)
 unfolding joinOf
 rule-is f Unjoined steps last line step h = refl
 rule-is f (Joined m) steps last line step h = rw (found m, inverse-is m steps step (h .0)) (go (eqb line last))
@@ -70,23 +69,23 @@ rule-is f (Joined m) steps last line step h = rw (found m, inverse-is m steps st
     found (Forward o n) = refl
     found (Reverse o n) = refl
 
-    go : (b : Bool) → cond b (f 0 (cyclic.inverse m step)) (f line step) ≡ f (cond b (placed 0 (cyclic.inverse m step)) (placed line step) .line) (cond b (placed 0 (cyclic.inverse m step)) (placed line step) .step)
+    go : (b : Bool) → cond b (f (placed 0 (cyclic.inverse m step))) (f (placed line step)) ≡ f (cond b (placed 0 (cyclic.inverse m step)) (placed line step))
     go true = refl
     go false = refl
 
-module _ (m n : ℕ) (su sv : Seam) (u-maps : Maps su n) (v-maps : Maps sv m) where
-  u-rule : (u v : ℕ) → uRule (surfaceWith m n su sv) (at u v) ≡ at (joinOf su m u v .line) (joinOf su m u v .step)
-  u-rule u v = rule-is at su n m u v u-maps
+module _ (s : Surface) (b : Bounded s) where
+  u-rule : (u v : ℕ) → uRule (shapeOf s) (at u v) ≡ at (joinOf (s .u) (s .m) u v .line) (joinOf (s .u) (s .m) u v .step)
+  u-rule u v = rule-is (λ (p : Place). at (p .line) (p .step)) (s .u) (s .n) (s .m) u v (b .u-maps)
 
-  v-rule : (u v : ℕ) → vRule (surfaceWith m n su sv) (at u v) ≡ at (joinOf sv n v u .step) (joinOf sv n v u .line)
-  v-rule u v = rule-is (λ line step. at step line) sv m n v u v-maps
+  v-rule : (u v : ℕ) → vRule (shapeOf s) (at u v) ≡ at (joinOf (s .v) (s .n) v u .step) (joinOf (s .v) (s .n) v u .line)
+  v-rule u v = rule-is (λ (p : Place). at (p .step) (p .line)) (s .v) (s .m) (s .n) v u (b .v-maps)
 
-  pub corner-other : (row u v : ℕ) {p : Place} → (row + 1 ≡ n → ⊥) → p ≡ joinOf su m u v → pointNumber n (p .line) (p .step) ≡ corner (surfaceWith m n su sv) row u v
+  pub corner-other : (row u v : ℕ) {p : Place} → (row + 1 ≡ s .n → ⊥) → p ≡ joinOf (s .u) (s .m) u v →
+      pointNumber (s .n) (p .line) (p .step) ≡ corner (shapeOf s) row u v
   unfolding corner cornerBy
-  corner-other row u v h e = ap (λ (p : Place). pointNumber n (p .line) (p .step)) e ∙ sym (rw (ne-eqb (row + 1) n h, u-rule u v))
+  corner-other row u v h e = rw (e, ne-eqb (row + 1) (s .n) h, u-rule u v)
 
-  pub corner-last : (row u v : ℕ) {p q : Place} → row + 1 ≡ n → p ≡ joinOf su m u v → q ≡ joinOf sv n (p .step) (p .line) → pointNumber n (q .step) (q .line) ≡ corner (surfaceWith m n su sv) row u v
+  pub corner-last : (row u v : ℕ) {p q : Place} → row + 1 ≡ s .n → p ≡ joinOf (s .u) (s .m) u v → q ≡ joinOf (s .v) (s .n) (p .step) (p .line) →
+      pointNumber (s .n) (q .step) (q .line) ≡ corner (shapeOf s) row u v
   unfolding corner cornerBy
-  corner-last row u v {p} {q} h e f =
-      let first : uRule (surfaceWith m n su sv) (at u v) ≡ at (p .line) (p .step) = u-rule u v ∙ ap (λ (x : Place). at (x .line) (x .step)) (sym e) in
-      ap (λ (x : Place). pointNumber n (x .step) (x .line)) f ∙ sym (rw (eq-eqb (row + 1) n h, first, v-rule (p .line) (p .step)))
+  corner-last row u v h e f = rw (f, e, eq-eqb (row + 1) (s .n) h, u-rule u v, v-rule)

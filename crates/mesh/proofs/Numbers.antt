@@ -1,24 +1,26 @@
 -- Numbers of triangles: how a slot adds to the count, which slots the rims have, and the step of one rim on another. Assumes nothing.
-use Prim.Native.Nat.{ℕ, suc, _+_, _-_, _*_, _≤_, _<_}
-use mathlib.Core.Path.{_≡_, refl, sym, ap, subst, _∙_}
+use Prim.Native.Nat.{ℕ, _+_, _-_, _*_, _≤_}
+use mathlib.Core.Path.{_≡_, refl}
 use mathlib.Core.Bool.{Bool, true, false, cond}
 use mathlib.Core.List.{[], _∷_}
-use native.Mathlib.Nat.{zero-mul, mul-le-mul}
+use native.Mathlib.Nat.{mul-le-mul}
+use native.Mathlib.Numerals.{add-one}
 use native.Mathlib.Omega.{arith}
 use lib.ListN.{length, length-append}
 use Rattle.cyclic.specs.declared.mapping.CyclicMapping.{CyclicMapping}
-use Rattle.cyclic.specs.declared.seam.Seam.{Seam}
 use Rattle.cyclic.specs.Mapping as cyclic
 use Rattle.surface.specs.Surface.{Shape, proper, slot, kept, triangleNumber, wrapEnds, stepOn, lowU, highU, lowV, highV}
-use Rattle.surface.specs.Found.{ofMapping, surfaceWith}
-use Rattle.mesh.specs.declared.flipped.Axis.{Axis}
-use Rattle.mesh.specs.Rims.{oneMore, stepsOf}
+use Rattle.surface.specs.Found.{ofMapping}
 use Rattle.surface.proofs.Triangles.{kept-at-most}
+use Rattle.mesh.specs.declared.corner.Surface.{Surface}
+use Rattle.mesh.specs.Corners.{shapeOf}
+use Rattle.mesh.specs.Rims.{oneMore}
 use Rattle.mesh.proofs.Joins.{inverse-is}
 
-pub number-step : (s : Shape) (k : ℕ) → triangleNumber s (suc k) ≡ oneMore (triangleNumber s k) (proper (slot s k))
+-- a slot is counted if its triangle is proper
+pub number-step : (s : Shape) (k : ℕ) → triangleNumber s (k + 1) ≡ oneMore (triangleNumber s k) (proper (slot s k))
 unfolding triangleNumber kept
-number-step s k = length-append (kept s k) (cond (proper (slot s k)) (slot s k ∷ []) []) ∙ go (proper (slot s k))
+number-step s k = rw (add-one, length-append) (go (proper (slot s k)))
   where
     go : (b : Bool) → length (kept s k) + length (cond b (slot s k ∷ []) []) ≡ oneMore (length (kept s k)) b
     go true = refl
@@ -41,39 +43,31 @@ pub cell-counted : (s : Shape) (n u v : ℕ) {count first last : ℕ} {a b : Boo
     b ≡ proper (slot s (2 * (u * n + v) + 1)) → last ≡ oneMore first b →
     last ≡ triangleNumber s (2 * (u * n + (v + 1)))
 cell-counted s n u v {count} {first} {last} {a} {b} e p q r t =
-    let x : suc (2 * (u * n + v)) ≡ 2 * (u * n + v) + 1 = omega arith in
-    let y : suc (2 * (u * n + v) + 1) ≡ 2 * (u * n + (v + 1)) = omega arith in
-    let one : first ≡ triangleNumber s (2 * (u * n + v) + 1) =
-    q ∙ ap (λ (k : ℕ). oneMore k a) e ∙ ap (oneMore (triangleNumber s (2 * (u * n + v)))) p ∙ sym (number-step s (2 * (u * n + v))) ∙ ap (triangleNumber s) x in
-    t ∙ ap (λ (k : ℕ). oneMore k b) one ∙ ap (oneMore (triangleNumber s (2 * (u * n + v) + 1))) r ∙ sym (number-step s (2 * (u * n + v) + 1)) ∙ ap (triangleNumber s) y
+    let k : 2 * (u * n + (v + 1)) ≡ 2 * (u * n + v) + 1 + 1 = omega arith in
+    rw (t, r, q, p, e, k, number-step s (2 * (u * n + v) + 1), number-step s (2 * (u * n + v)))
 
 -- The slots of the rims, as cells
 
-pub steps-along : {axis x : Axis} {i : ℕ} (s : Shape) → axis ≡ x → i < stepsOf axis s → i < stepsOf x s
-steps-along {i = i} s e h = subst (λ (a : Axis). i < stepsOf a s) e h
-
-module _ (m n : ℕ) (su sv : Seam) (i : ℕ) where
-  pub low-u : 2 * (0 * n + i) ≡ lowU (surfaceWith m n su sv) i
+module _ (surface : Surface) (i : ℕ) where
+  pub low-u : 2 * (0 * surface .n + i) ≡ lowU (shapeOf surface) i
   unfolding lowU
-  low-u = omega (arith, zero-mul n)
+  low-u = omega arith
 
-  pub low-v : 2 * (i * n + 0) ≡ lowV (surfaceWith m n su sv) i
+  pub low-v : 2 * (i * surface .n + 0) ≡ lowV (shapeOf surface) i
   unfolding lowV
   low-v = omega arith
 
-  pub high-u : 2 * ((m - 1) * n + i) + 1 ≡ highU (surfaceWith m n su sv) i
+  pub high-u : 2 * ((surface .m - 1) * surface .n + i) + 1 ≡ highU (shapeOf surface) i
   unfolding highU
   high-u = refl
 
-  pub high-v : 2 * (i * n + (n - 1)) + 1 ≡ highV (surfaceWith m n su sv) i
+  pub high-v : 2 * (i * surface .n + (surface .n - 1)) + 1 ≡ highV (shapeOf surface) i
   unfolding highV
   high-v = refl
 
 -- The step of one rim on another
 
-pub step-is : (m : CyclicMapping) (steps i : ℕ) {a b r : ℕ} → cyclic.stepsOf m ≡ steps → a ≡ cyclic.inverse m i → b ≡ cyclic.inverse m (i + 1) → r ≡ wrapEnds steps a b → r ≡ stepOn (ofMapping m) steps i
+pub step-is : (m : CyclicMapping) (steps i : ℕ) {a b r : ℕ} → cyclic.stepsOf m ≡ steps → a ≡ cyclic.inverse m i → b ≡ cyclic.inverse m (i + 1) →
+    r ≡ wrapEnds steps a b → r ≡ stepOn (ofMapping m) steps i
 unfolding stepOn
-step-is m steps i {a} {b} {r} e p q h =
-    h
-    ∙ ap (λ (x : ℕ). wrapEnds steps x b) (p ∙ sym (inverse-is m steps i e))
-    ∙ ap (wrapEnds steps _) (q ∙ sym (inverse-is m steps (i + 1) e))
+step-is m steps i e p q h = rw (h, p, q, inverse-is m steps i e, inverse-is m steps (i + 1) e)

@@ -12,6 +12,7 @@ use Rattle.mesh.specs.declared.corner.Surface.{Surface}
 use Rattle.mesh.specs.declared.corner.Place.{Place}
 use Rattle.mesh.specs.declared.corner.Cell.{Cell}
 
+-- the shape that the definitions of `Surface.antt` take
 abbrev pub shapeOf : Surface → Shape
 shapeOf s = surfaceWith (s .m) (s .n) (s .u) (s .v)
 

@@ -40,6 +40,7 @@ fn second_differs(surface: Surface, u: usize, v: usize) -> bool
     differ(c.i10, c.i11, c.i01)
 }
 
+// The count, and one more where `one` holds; 130050 is 2·255·255, the most triangles of a grid.
 fn one_more(count: usize, one: bool) -> usize
     requires { ⌜ count ≤ 130050 ⌝ }
     ensures { λ r. ⌜ r ≡ oneMore count one ⌝ }

@@ -1,9 +1,7 @@
 -- `mesh::find_seams` meets its contract: both searches are of rows with a stride, inside the grid. Assumes nothing.
-use Prim.Native.Nat.{_+_}
 use mathlib.Core.Path.{sym, _∙_}
-use native.Mathlib.Nat.{zero-mul}
 use native.Mathlib.Omega.{arith}
-use Rattle.grid.proofs.Laws.{Shaped, accepted-known, point-inside}
+use Rattle.grid.proofs.Laws.{Shaped, accepted-known}
 use Rattle.surface.proofs.Searches.{u-search, v-search}
 use Rattle.mesh.proofs.find_seams.Statement.{statement}
 use Rattle.mesh.proofs.find_seams.Tie as tie
@@ -15,22 +13,17 @@ add-search-rows : tie.Need-add-search-rows
 add-search-rows c = omega (arith, shaped (c .before) .steps .n-most)
 
 mul-search-rows : tie.Need-mul-search-rows
-mul-search-rows c =
-    let a = c .before .args in
-    let s = shaped (c .before) in
-    let z = s .steps in
-    omega (arith, point-inside (a .grid .now) (a .m) (a .n) (a .m) 0 s (omega arith) (omega arith), z .points, s .size)
+mul-search-rows c = omega (arith, shaped (c .before))
 
 search-rows-requires : tie.Need-search-rows-requires
 search-rows-requires c κs =
-    let a = c .before .args in
     let s = shaped (c .before) in
     let z = s .steps in
     record {
       steps-least = z .n-least;
-      steps-most = omega (arith, z .n-most);
-      a-inside = omega (arith, zero-mul (a .n + 1), point-inside (a .grid .now) (a .m) (a .n) 0 (a .n) s (omega arith) (omega arith));
-      b-inside = omega (arith, point-inside (a .grid .now) (a .m) (a .n) (a .m) (a .n) s (omega arith) (omega arith));
+      steps-most = omega arith;
+      a-inside = omega arith;
+      b-inside = omega arith;
     }
 
 add-search-rows-2 : tie.Need-add-search-rows-2
@@ -38,14 +31,13 @@ add-search-rows-2 c = omega (arith, shaped (c .before .before) .steps .n-most)
 
 search-rows-requires-2 : tie.Need-search-rows-requires-2
 search-rows-requires-2 c κs =
-    let a = c .before .before .args in
     let s = shaped (c .before .before) in
     let z = s .steps in
     record {
       steps-least = z .m-least;
-      steps-most = omega (arith, z .m-most);
-      a-inside = omega (arith, point-inside (a .grid .now) (a .m) (a .n) (a .m) 0 s (omega arith) (omega arith));
-      b-inside = omega (arith, point-inside (a .grid .now) (a .m) (a .n) (a .m) (a .n) s (omega arith) (omega arith));
+      steps-most = omega arith;
+      a-inside = omega arith;
+      b-inside = omega arith;
     }
 
 returns : tie.Need-returns

@@ -3,58 +3,59 @@ use Prim.Native.Nat.{_+_, _*_, _≤_}
 use mathlib.Core.Path.{_≡_, _∙_}
 use native.Mathlib.Omega.{arith}
 use borrow.Author.Needs.{needs}
-use Rattle.surface.specs.Surface.{triangles, flipped}
+use Rattle.surface.specs.Surface.{triangles}
 use Rattle.mesh.specs.Corners.{shapeOf}
 use Rattle.mesh.specs.Held.{trianglesIn}
-use Rattle.mesh.proofs.Numbers.{cells-most}
+use Rattle.mesh.proofs.Cells.{held-triangles}
 use Rattle.mesh.proofs.Flips.{held-pairs}
-use Rattle.mesh.proofs.Answers.{all-kept, triangles-most, triangles-filled, triangles-counted, pairs-most, pairs-filled}
+use Rattle.mesh.proofs.Answers.{all-kept, triangles-most, triangles-filled, pairs-most, pairs-filled}
 use Rattle.mesh.proofs.triangulate.Statement.{statement}
 use Rattle.mesh.proofs.triangulate.Tie as tie
 
-triangles-fit : (e : tie.After-build-triangles) → let a = e .before .before .before .before .before .args in 3 * e .build-triangles .result ≤ 6 * (a .surface .m * a .surface .n)
-triangles-fit e = triangles-most (shapeOf (e .before .before .before .before .before .args .surface)) (e .build-triangles .result) (e .build-triangles .last .1 .0) (e .build-triangles .ensures .0)
+-- the start, from where the triangles are built
+abbrev started : tie.After-build-triangles → tie.Start
+started e = e .before .before .before .before .before
 
-pairs-fit : (e : tie.After-find-flipped) → let a = e .before .before .before .before .before .before .before .before .before .before .before .args in 2 * e .find-flipped .result ≤ 2 * (a .surface .m + a .surface .n)
-pairs-fit e = pairs-most (shapeOf (e .before .before .before .before .before .before .before .before .before .before .before .args .surface)) (e .find-flipped .result) (e .find-flipped .last .1 .1 .0) (e .find-flipped .ensures)
+triangles-fit : (e : tie.After-build-triangles) → let s = started e .args .surface in 3 * e .build-triangles .result ≤ 6 * (s .m * s .n)
+triangles-fit e = triangles-most (shapeOf (started e .args .surface)) (e .build-triangles .result) (e .build-triangles .last .1 .0) (e .build-triangles .ensures .0)
+
+-- where the triangles are built, from where the pairs are found
+abbrev built : tie.After-find-flipped → tie.After-build-triangles
+built e = e .before .before .before .before .before .before
+
+pairs-fit : (e : tie.After-find-flipped) → let s = started (built e) .args .surface in 2 * e .find-flipped .result ≤ 2 * (s .m + s .n)
+pairs-fit e = pairs-most (shapeOf (started (built e) .args .surface)) (e .find-flipped .result) (e .find-flipped .last .1 .1 .0) (e .find-flipped .ensures)
 
 build-triangles-requires : tie.Need-build-triangles-requires
 build-triangles-requires c κs =
     let t = c .before .before .before .before in
-    ((t .pre .0, omega (arith, t .pre .0 .m-most)), t .pre .1 .0)
-
-find-flipped-requires : tie.Need-find-flipped-requires
-find-flipped-requires c κs =
-    let t = c .before .before .before .before .before .before .before .before .before .before in
-    ((t .pre .0, c .before .before .before .before .before .build-triangles .ensures .1), t .pre .1 .1)
+    ((t .pre .0, omega arith), t .pre .1 .0)
 
 mul-zero-numbers : tie.Need-mul-zero-numbers
 mul-zero-numbers c =
-    let t = c .before .before .before .before .before .before .before .before .before .before .before .before .before .before in
-    let a = t .args in
-    omega (arith, triangles-fit (c .before .before .before .before .before .before .before .before .before), cells-most (a .surface .m) (a .surface .n) (t .pre .0 .m-most) (t .pre .0 .n-most))
+    omega (arith, triangles-fit (built (c .before .before .before)))
 
 mul-zero-numbers-2 : tie.Need-mul-zero-numbers-2
 mul-zero-numbers-2 c =
-    let t = c .before .before .before .before .before .before .before .before .before .before .before .before .before .before .before .before .before .before in
-    omega (arith, pairs-fit (c .before .before .before .before .before .before .before), t .pre .0 .m-most, t .pre .0 .n-most)
+    omega (arith, pairs-fit (c .before .before .before .before .before .before .before))
 
 returns : tie.Need-returns
 returns c =
-    let t = c .before .before .before .before .before .before .before .before .before .before .before .before .before .before .before .before .before .before .before .before .before in
+    let found = c .before .before .before .before .before .before .before .before .before .before in
+    let t = started (built found) in
     let a = t .args in
     let s = shapeOf (a .surface) in
-    let b = c .before .before .before .before .before .before .before .before .before .before .before .before .before .before .before .before .build-triangles in
-    let p = c .before .before .before .before .before .before .before .before .before .before .find-flipped in
+    let b = built found .build-triangles in
+    let p = found .find-flipped in
     let all : trianglesIn (b .result) (b .last .1 .0) ≡ triangles s = all-kept s (b .ensures .0) in
     record {
       triangle-list =
           c .before .before .before .before .before .before .zero-numbers .ensures
-          ∙ triangles-filled s (b .result) (b .last .1 .0) (a .triangles .now) all (omega (arith, triangles-fit (c .before .before .before .before .before .before .before .before .before .before .before .before .before .before .before .before), b .kept .1 .0, t .pre .1 .0)) (b .kept .1 .0);
+          ∙ triangles-filled s (b .result) (b .last .1 .0) (a .triangles .now) all (omega (arith, triangles-fit (built found))) (b .kept .1 .0);
       pair-list =
           c .before .before .zero-numbers2 .ensures
-          ∙ pairs-filled s (p .result) (p .last .1 .1 .0) (a .flipped .now) (p .ensures) (omega (arith, pairs-fit (c .before .before .before .before .before .before .before .before .before .before), p .kept .1 .1 .0, t .pre .1 .1)) (p .kept .1 .1 .0);
-      triangle-count = triangles-counted (b .result) (b .last .1 .0) all;
+          ∙ pairs-filled s (p .result) (p .last .1 .1 .0) (a .flipped .now) (p .ensures) (omega (arith, pairs-fit found)) (p .kept .1 .1 .0);
+      triangle-count = held-triangles (b .result) (b .last .1 .0) all;
       pair-count = held-pairs (p .result) (p .last .1 .1 .0) (p .ensures);
     }
 
@@ -65,7 +66,7 @@ triangulate-spec =
     (λ c. search needs)
     build-triangles-requires
     (λ c. search needs)
-    find-flipped-requires
+    (λ c κs. search needs)
     mul-zero-numbers
     (λ c κs. search needs)
     mul-zero-numbers-2

@@ -6,6 +6,7 @@ use Rattle.mesh.proofs.Answers.{Admitted, admitted, found-bounded, refu
 use Rattle.mesh.proofs.triangulate_grid.Statement.{statement}
 use Rattle.mesh.proofs.triangulate_grid.Tie as tie
 
+-- the start, from where the match tells that no test failed
 abbrev start : tie.After-enum-told → tie.Start
 start e = e .before .before .before .before .before .before .before .before
 
@@ -20,10 +21,11 @@ find-seams-requires c κs = let-in c .accepted
 
 triangulate-requires : tie.Need-triangulate-requires
 triangulate-requires c κs =
-    let t = c .before .before .before .before .before .before .before .before .before .before .before .before .before in
+    let e = c .before .before .before .before .before in
+    let a = start e .args in
     let f = c .before .before .before .before .find-seams in
-    let i = let-in (c .before .before .before .before .before) in
-    (found-bounded (t .args .grid .now) (t .args .m) (t .args .n) (i .accepted) (f .ensures .0) (f .ensures .1), (i .triangle-room, i .pair-room))
+    let i = let-in e in
+    (found-bounded (a .grid .now) (a .m) (a .n) (i .accepted) (f .ensures .0) (f .ensures .1), (i .triangle-room, i .pair-room))
 
 returns : tie.Need-returns
 returns c =
@@ -34,11 +36,16 @@ returns c =
 
 returns-2 : tie.Need-returns-2
 returns-2 c =
-    let a = c .before .before .before .before .before .before .before .before .before .before .before .before .before .before .before .before .before .before .args in
-    let f = c .before .before .before .before .before .before .before .before .before .find-seams in
     let e = c .before .before .before .before .before .before .before .before .before .before in
+    let a = start e .args in
+    let f = c .before .before .before .before .before .before .before .before .before .find-seams in
     let r = c .before .before .before .before .triangulate in (
-      passed-hands (a .grid .now) (a .m) (a .n) (a .triangles .now) (a .flipped .now) (r .last .1 .0) (r .last .1 .1 .0) (e .before .before .check-mesh .ensures) (e .enum-told .given .1) (f .ensures .0) (f .ensures .1) (r .ensures),
+      passed-hands (a .grid .now) (a .m) (a .n) (a .triangles .now) (a .flipped .now) (r .last .1 .0) (r .last .1 .1 .0)
+          (e .before .before .check-mesh .ensures)
+          (e .enum-told .given .1)
+          (f .ensures .0)
+          (f .ensures .1)
+          (r .ensures),
       surface-meets (a .grid .now) (a .m) (a .n),
     )
 

@@ -1,12 +1,10 @@
 -- `mesh::corner::cell_corners` meets its contract, corner by corner. Assumes nothing.
-use Prim.Native.Nat.{ℕ}
-use Rattle.mesh.proofs.Cells.{corners-same}
 use borrow.Author.Needs.{needs}
 use Rattle.mesh.proofs.corner.cell_corners.Statement.{statement}
 use Rattle.mesh.proofs.corner.cell_corners.Tie as tie
 
 returns : tie.Need-returns
-returns c = corners-same (λ (a b d e : ℕ). record { i00 = a; i10 = b; i01 = d; i11 = e }) (c .before .before .before .corner .ensures) (c .before .before .corner2 .ensures) (c .before .corner3 .ensures) (c .corner4 .ensures)
+returns c = rw (c .before .before .before .corner .ensures, c .before .before .corner2 .ensures, c .before .corner3 .ensures, c .corner4 .ensures)
 
 pub cell-corners-spec : {M : Type 1} → statement M
 cell-corners-spec =

@@ -1,13 +1,13 @@
 -- `mesh::corner::join` meets its contract: the cases are those of `joinOf`, at the variant that the match found. Assumes nothing.
 use mathlib.Core.Path.{ap, _∙_}
 use Rattle.mesh.specs.Corners.{placed}
-use Rattle.mesh.proofs.Joins.{join-last, join-other, join-none, joins-as}
+use Rattle.mesh.proofs.Joins.{join-last, join-other, join-none}
 use borrow.Author.Needs.{needs}
 use Rattle.mesh.proofs.corner.join.Statement.{statement}
 use Rattle.mesh.proofs.corner.join.Tie as tie
 
 inverse-requires : tie.Need-inverse-requires
-inverse-requires c κs = joins-as (c .before .before .before .before .args .step) (c .before .before .seam .given .1) (c .before .before .before .before .pre)
+inverse-requires c κs = rw (c .before .before .seam .given .1) at (c .before .before .before .before .pre)
 
 returns : tie.Need-returns
 returns c =

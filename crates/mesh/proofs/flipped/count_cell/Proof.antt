@@ -8,6 +8,7 @@ use borrow.Author.Needs.{needs}
 use Rattle.mesh.proofs.flipped.count_cell.Statement.{statement}
 use Rattle.mesh.proofs.flipped.count_cell.Tie as tie
 
+-- a grid has at most 2·255·255 triangles
 bound : (t : tie.Start) → t .args .count + 1 ≤ 130050
 bound t =
     let a = t .args in
@@ -22,14 +23,17 @@ one-more-requires : tie.Need-one-more-requires
 one-more-requires c κs = omega (arith, bound (c .before))
 
 one-more-requires-2 : tie.Need-one-more-requires-2
-one-more-requires-2 c κs = omega (arith, c .before .one-more .ensures, one-more-most (c .before .before .before .args .count) (c .before .before .first-differs .result), bound (c .before .before .before))
+one-more-requires-2 c κs =
+    let f = c .before .before in
+    omega (arith, one-more-most (f .before .args .count) (f .first-differs .result), bound (f .before))
 
 returns : tie.Need-returns
 returns c =
-    let g = c .before .before .one-more in
-    let t = c .before .before .before .before in
+    let g = c .before .before in
+    let f = g .before in
+    let t = f .before in
     let a = t .args in
-    cell-counted (shapeOf (a .surface)) (a .surface .n) (a .u) (a .v) (t .pre .1) (c .before .before .before .first-differs .ensures) (g .ensures) (c .before .second-differs .ensures) (c .one-more2 .ensures)
+    cell-counted (shapeOf (a .surface)) (a .surface .n) (a .u) (a .v) (t .pre .1) (f .first-differs .ensures) (g .one-more .ensures) (c .before .second-differs .ensures) (c .one-more2 .ensures)
 
 pub count-cell-spec : {M : Type 1} → statement M
 count-cell-spec =

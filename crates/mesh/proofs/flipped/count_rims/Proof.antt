@@ -6,44 +6,32 @@ use Rattle.mesh.proofs.Flips.{rims-u}
 use Rattle.mesh.proofs.flipped.count_rims.Statement.{statement}
 use Rattle.mesh.proofs.flipped.count_rims.Tie as tie
 
-sub-last : tie.Need-sub-last
-sub-last c = c .before .before .before .before .pre .0 .0 .m-least
-
-shared-slice-read-count-row : tie.Need-shared-slice-read-count-row
-shared-slice-read-count-row c = omega (arith, c .before .before .before .before .before .pre .1 .room)
-
 count-row-requires : tie.Need-count-row-requires
 count-row-requires c κs =
     let t = c .before .before .before .before .before .before in
     ((t .pre .0 .0, t .pre .0 .0 .m-least, t .pre .0 .1), t .pre .1 .at 0 (omega arith))
 
-mul-count-row : tie.Need-mul-count-row
-mul-count-row c = omega (arith, c .before .before .before .before .before .before .before .before .before .pre .0 .0 .m-most)
-
-shared-slice-read-count-row-2 : tie.Need-shared-slice-read-count-row-2
-shared-slice-read-count-row-2 c = omega (arith, c .before .before .before .before .before .before .before .before .before .before .pre .1 .room)
-
 count-row-requires-2 : tie.Need-count-row-requires-2
 count-row-requires-2 c κs =
     let t = c .before .before .before .before .before .before .before .before .before .before .before in
-    ((t .pre .0 .0, omega (arith, t .pre .0 .0 .m-least), t .pre .0 .2), t .pre .1 .at (t .args .surface .m - 1) (omega arith))
+    ((t .pre .0 .0, omega arith, t .pre .0 .2), t .pre .1 .at (t .args .surface .m - 1) (omega arith))
 
 returns : tie.Need-returns
 returns c =
     let t = c .before .before .before .before .before .before .before .before .before .before .before .before .before .before in
     let l = c .before .before .before .before .before .before .before .count-row in
     let h = c .before .before .count-row2 in
-    rims-u (t .args .surface) (t .pre .0 .0) (l .last .1 .1 .1 .0) (h .last .1 .1 .1 .0) (omega (arith, l .kept .1 .1 .1 .0, t .pre .0 .1)) (omega (arith, h .kept .1 .1 .1 .0, t .pre .0 .2)) (l .ensures) (h .ensures)
+    rims-u (t .args .surface) (l .last .1 .1 .1 .0) (h .last .1 .1 .1 .0) (omega arith) (omega arith) (l .ensures) (h .ensures)
 
 pub count-rims-spec : {M : Type 1} → statement M
 count-rims-spec =
     tie.close
     (tie.spec
-    sub-last
-    shared-slice-read-count-row
+    (λ c. search needs)
+    (λ c. search needs)
     count-row-requires
-    mul-count-row
-    shared-slice-read-count-row-2
+    (λ c. search needs)
+    (λ c. search needs)
     count-row-requires-2
     (λ c. search needs)
     (λ c. search needs)

@@ -5,7 +5,8 @@ use native.Mathlib.Omega.{arith}
 use lib.ListN.{length, getD, length-set}
 use Rattle.surface.specs.Surface.{triangleNumber}
 use Rattle.mesh.specs.Corners.{shapeOf}
-use Rattle.mesh.proofs.Cells.{value-first, values-more}
+use Rattle.mesh.proofs.Firsts.{value-first, values-more}
+use borrow.Author.Needs.{needs}
 use Rattle.mesh.proofs.flipped.count_row.Statement.{statement}
 use Rattle.mesh.proofs.flipped.count_row.Tie as tie
 
@@ -28,16 +29,10 @@ loop-holds c =
     let z = t .pre .1 ∙ ap (triangleNumber s) e in
     (omega arith, z, refl, value-first (λ (i : ℕ). triangleNumber s (2 * (a .u * a .surface .n + i))) (a .counts .now) (a .start) (omega arith) z)
 
-count-cell-requires : tie.Need-count-cell-requires Inv-loop μ-loop
-count-cell-requires c κs =
-    let w = c .before .loop in
-    let t = c .before .before .before in
-    ((t .pre .0 .0, t .pre .0 .1, omega arith), w .inv .1)
-
 slice-write-counts-2 : tie.Need-slice-write-counts-2 Inv-loop μ-loop
 slice-write-counts-2 c =
     let a = c .before .before .before .before .args in
-    omega (arith, c .before .before .loop .inv .2, length-set (a .counts .now) 0 (a .start))
+    omega (arith, length-set (a .counts .now) 0 (a .start))
 
 loop-again : tie.Need-loop-again Inv-loop μ-loop
 loop-again c =
@@ -71,7 +66,7 @@ count-row-spec =
     μ-loop
     (λ c. omega arith)
     loop-holds
-    count-cell-requires
+    (λ c κs. search needs)
     (λ c. omega arith)
     (λ c. omega arith)
     slice-write-counts-2

@@ -7,15 +7,7 @@ use Rattle.mesh.proofs.flipped.find_flipped.Tie as tie
 count-rims-requires : tie.Need-count-rims-requires
 count-rims-requires c κs =
     let t = c .before .before .before .before in
-    ((t .pre .0 .0, omega (arith, t .pre .0 .0 .n-most), omega (arith, t .pre .0 .0 .n-most)), t .pre .0 .1)
-
-flip-seams-requires : tie.Need-flip-seams-requires
-flip-seams-requires c κs =
-    let t = c .before .before .before .before .before .before .before .before .before .before in
-    ((t .pre .0 .0, c .before .before .before .before .before .count-rims .ensures, t .pre .0 .1), t .pre .1)
-
-returns : tie.Need-returns
-returns c = c .before .before .flip-seams .ensures
+    ((t .pre .0 .0, omega arith, omega arith), t .pre .0 .1)
 
 pub find-flipped-spec : {M : Type 1} → statement M
 find-flipped-spec =
@@ -26,6 +18,6 @@ find-flipped-spec =
     count-rims-requires
     (λ c. search needs)
     (λ c. search needs)
-    flip-seams-requires
+    (λ c κs. search needs)
     (λ c. search needs)
-    returns)
+    (λ c. search needs))

@@ -1,10 +1,5 @@
 -- `mesh::flipped::flip_seam` meets its contract: nothing, or all steps of a reversed seam. Assumes nothing.
-use mathlib.Core.Path.{sym, subst, _∙_}
-use Rattle.cyclic.specs.declared.seam.Seam.{Seam}
-use Rattle.mesh.specs.Corners.{shapeOf, Maps}
-use Rattle.mesh.specs.Held.{pairsIn}
-use Rattle.mesh.specs.Rims.{stepsOf}
-use Rattle.mesh.proofs.Flips.{seam-none, seam-forward, seam-reverse}
+use Rattle.mesh.proofs.Flips.{seam-told}
 use borrow.Author.Needs.{needs}
 use Rattle.mesh.proofs.flipped.flip_seam.Statement.{statement}
 use Rattle.mesh.proofs.flipped.flip_seam.Tie as tie
@@ -12,27 +7,19 @@ use Rattle.mesh.proofs.flipped.flip_seam.Tie as tie
 process-flipped-requires : tie.Need-process-flipped-requires
 process-flipped-requires c κs =
     let t = c .before .before .before .before .before .before .before .before .before in
-    let a = t .args in
-    ((t .pre .0 .0, subst (λ (x : Seam). Maps x (stepsOf (a .axis) (shapeOf (a .surface)))) (c .before .before .before .before .seam .given .1) (t .pre .0 .1)), t .pre .1)
+    ((t .pre .0 .0, rw (c .before .before .before .before .seam .given .1) at (t .pre .0 .1)), t .pre .1)
 
 returns : tie.Need-returns
 returns c =
-    let t = c .before .before .before .before .before .before .before .before .before .before .before .before in
-    let a = t .args in
-    let e = c .before .before .before .before .before .before .before in
-    c .before .before .process-flipped .ensures
-    ∙ seam-reverse (a .axis) (shapeOf (a .surface)) (pairsIn (a .count) (a .flipped .now)) (e .seam .given .1) (sym (c .before .before .before .before .before .is-reverse .ensures) ∙ c .before .before .before .before .if1 .taken)
+    let seam = c .before .before .before .before .before .before .before .seam .given .1 in
+    let reversed = seam-told seam (c .before .before .before .before .before .is-reverse .ensures) (c .before .before .before .before .if1 .taken) in
+    rw (reversed, seam) (c .before .before .process-flipped .ensures)
 
 returns-2 : tie.Need-returns-2
-returns-2 c =
-    let a = c .before .before .before .before .before .args in
-    seam-none (a .axis) (shapeOf (a .surface)) (pairsIn (a .count) (a .flipped .now)) (c .enum-told .given .1)
+returns-2 c = rw (c .enum-told .given .1)
 
 returns-3 : tie.Need-returns-3
-returns-3 c =
-    let a = c .before .before .before .before .before .before .before .before .args in
-    let e = c .before .before .before in
-    seam-forward (a .axis) (shapeOf (a .surface)) (pairsIn (a .count) (a .flipped .now)) (e .seam .given .1) (sym (c .before .is-reverse .ensures) ∙ c .if1 .left)
+returns-3 c = rw (seam-told (c .before .before .before .seam .given .1) (c .before .is-reverse .ensures) (c .if1 .left))
 
 pub flip-seam-spec : {M : Type 1} → statement M
 flip-seam-spec =

@@ -1,11 +1,10 @@
 -- `mesh::flipped::flip_seams` meets its contract: the u seam's pairs, and the v seam's put into them. Assumes nothing.
-use mathlib.Core.Path.{_≡_, ap, _∙_}
-use mathlib.Core.List.{List, []}
+use mathlib.Core.Path.{_≡_, _∙_}
+use mathlib.Core.List.{[]}
 use native.Mathlib.Omega.{arith}
 use borrow.Author.Needs.{needs}
-use Rattle.surface.specs.Surface.{Pair}
 use Rattle.surface.specs.Found.{seamOf}
-use Rattle.mesh.specs.declared.flipped.Axis.the-variants.{U, «V»}
+use Rattle.mesh.specs.declared.flipped.Axis.the-variants.{U}
 use Rattle.mesh.specs.Corners.{shapeOf}
 use Rattle.mesh.specs.Held.{firsts, pairsIn}
 use Rattle.mesh.specs.Rims.{flips}
@@ -21,11 +20,6 @@ first : (e : tie.After-flip-seam) → pairsIn (e .flip-seam .result) (e .flip-se
 unfolding firsts
 first e = e .flip-seam .ensures
 
-flip-seam-requires : tie.Need-flip-seam-requires
-flip-seam-requires c κs =
-    let t = c .before .before .before .before .before in
-    ((t .pre .0 .0, t .pre .0 .0 .u-maps), (t .pre .0 .1, omega (arith, t .pre .1)))
-
 flip-seam-requires-2 : tie.Need-flip-seam-requires-2
 flip-seam-requires-2 c κs =
     let t = c .before .before .before .before .before .before .before .before .before in
@@ -33,16 +27,14 @@ flip-seam-requires-2 c κs =
     let f = c .before .before .before .flip-seam in
     let k = held-pairs (f .result) (f .last .1 .1 .1 .1 .1 .0) (first (c .before .before .before)) in (
       (t .pre .0 .0, t .pre .0 .0 .v-maps),
-      (rims-v (a .surface) (t .pre .0 .0) (a .starts .now) (t .pre .0 .2), omega (arith, k, seam-most U (shapeOf (a .surface)) (seamOf (a .surface .u)) [], f .kept .1 .1 .1 .1 .1 .0, t .pre .1)),
+      (rims-v (a .surface) (t .pre .0 .0) (a .starts .now) (t .pre .0 .2), omega (arith, seam-most U (shapeOf (a .surface)) (seamOf (a .surface .u)) [])),
     )
 
 returns : tie.Need-returns
 returns c =
     let a = c .before .before .before .before .before .before .before .before .before .before .before .before .args in
     let s = shapeOf (a .surface) in
-    c .before .before .flip-seam2 .ensures
-    ∙ ap (λ (ps : List Pair). flips «V» s (seamOf (a .surface .v)) ps) (first (c .before .before .before .before .before .before))
-    ∙ flipped-is s
+    rw (first (c .before .before .before .before .before .before)) at (c .before .before .flip-seam2 .ensures) ∙ flipped-is s
 
 pub flip-seams-spec : {M : Type 1} → statement M
-flip-seams-spec = tie.close (tie.spec flip-seam-requires flip-seam-requires-2 (λ c. search needs) returns)
+flip-seams-spec = tie.close (tie.spec (λ c κs. search needs) flip-seam-requires-2 (λ c. search needs) returns)

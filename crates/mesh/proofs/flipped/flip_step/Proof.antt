@@ -1,105 +1,118 @@
 -- `mesh::flipped::flip_step` meets its contract: its tests are those of `process`, and the count after a kept triangle is one more than its number. Assumes nothing.
 use Prim.Native.Nat.{ℕ, _+_, _-_, _<_}
-use mathlib.Core.Path.{_≡_, sym, ap, subst, _∙_}
+use mathlib.Core.Path.{_≡_, sym, _∙_}
+use mathlib.Core.Bool.{Bool, true, _&&_, cond}
 use mathlib.Core.List.{List}
 use native.Mathlib.Omega.{arith}
 use lib.ListN.{getD}
 use borrow.Author.Needs.{needs}
 use borrow.Author.Tests.{not-true, not-false}
-use Rattle.cyclic.specs.declared.seam.Seam.the-variants.{Joined}
+use Rattle.float.proofs.Tests.{and-both}
 use Rattle.surface.specs.Surface.{Shape, Pair, insert, ordered, triangleNumber, stepOn}
 use Rattle.surface.specs.Found.{ofMapping}
-use Rattle.mesh.specs.Corners.{shapeOf, Maps}
+use Rattle.mesh.specs.Corners.{shapeOf}
 use Rattle.mesh.specs.Held.{pairsIn}
 use Rattle.mesh.specs.Rims.{stepsOf, lowOf, highOf, flipStep}
-use Rattle.mesh.proofs.Flips.{steps-most, number-before, ordered-up, ordered-down, no-step, not-both, put-both, high-proper}
+use Rattle.mesh.proofs.Flips.{steps-most, number-before, ordered-up, ordered-down, no-step, step-pair}
 use Rattle.mesh.proofs.flipped.flip_step.Statement.{statement}
 use Rattle.mesh.proofs.flipped.flip_step.Tie as tie
 
+abbrev shape : tie.Start → Shape
+shape t = shapeOf (t .args .surface)
+
+-- the pairs before the step, and after it
+abbrev pairs : tie.Start → List Pair
+pairs t = pairsIn (t .args .count) (t .args .flipped .now)
+
+abbrev pairs-after : tie.Start → List Pair
+pairs-after t = flipStep (t .args .axis) (shape t) (ofMapping (t .args .mapping)) (t .args .i) (pairs t)
+
 -- the step of the low rim
-on-is : (e : tie.After-step-on) → let a = e .before .before .before .before .before .args in e .step-on .result ≡ stepOn (ofMapping (a .mapping)) (stepsOf (a .axis) (shapeOf (a .surface))) (a .i)
-on-is e =
-    let a = e .before .before .before .before .before .args in
-    e .step-on .ensures ∙ ap (λ (k : ℕ). stepOn (ofMapping (a .mapping)) k (a .i)) (e .before .rim-steps .ensures)
+on-is : (e : tie.After-step-on) → let t = e .before .before .before .before .before in e .step-on .result ≡ stepOn (ofMapping (t .args .mapping)) (stepsOf (t .args .axis) (shape t)) (t .args .i)
+on-is e = rw (← e .before .rim-steps .ensures) (e .step-on .ensures)
 
-on-there : (e : tie.Else1) → let a = e .before .before .before .before .before .before .args in e .before .step-on .result < stepsOf (a .axis) (shapeOf (a .surface))
-on-there e = omega (arith, e .if1 .left, e .before .before .rim-steps .ensures)
-
--- where both triangles are there: the start, the surface, the step, the pairs before
-abbrev start : tie.Else2 → tie.Start
-start e = e .before .before .before .before .before .before .before .before .before
-
-abbrev shape : tie.Else2 → Shape
-shape e = shapeOf (start e .args .surface)
-
-abbrev on : tie.Else2 → ℕ
-on e = e .before .before .before .before .step-on .result
-
-abbrev pairs : tie.Else2 → List Pair
-pairs e = pairsIn (start e .args .count) (start e .args .flipped .now)
-
--- their numbers
-abbrev low : tie.Else2 → ℕ
-low e = getD (start e .args .low .now) (on e) 0
-
-abbrev high : tie.Else2 → ℕ
-high e = getD (start e .args .high .now) (start e .args .i + 1) 0
-
-low-number : (e : tie.Else2) → low e ≡ triangleNumber (shape e) (lowOf (start e .args .axis) (shape e) (on e))
-low-number e = start e .pre .1 .0 .before (on e) (on-there (e .before .before .before))
-
-high-number : (e : tie.Else2) → high e ≡ triangleNumber (shape e) (highOf (start e .args .axis) (shape e) (start e .args .i)) + 1
-high-number e =
-    let t = start e in
-    let a = t .args in
-    number-before (shape e) (highOf (a .axis) (shape e) (a .i)) (high e) (t .pre .1 .0 .after (a .i) (t .pre .0 .2))
-    (high-proper (a .axis) (shape e) (ofMapping (a .mapping)) (a .i) (pairs e) (on-is (e .before .before .before .before)) (on-there (e .before .before .before)) (e .before .before .low-differs .ensures) (e .before .high-differs .ensures) (not-false _ (e .if2 .left)))
-
-put : (e : tie.Else2) → insert (ordered (low e) (high e - 1)) (pairs e) ≡ flipStep (start e .args .axis) (shape e) (ofMapping (start e .args .mapping)) (start e .args .i) (pairs e)
-put e =
-    let a = start e .args in
-    let s = shape e in
-    let ps = pairs e in
-    let y : high e - 1 ≡ triangleNumber s (highOf (a .axis) s (a .i)) = omega (arith, high-number e) in
-    ap (λ (k : ℕ). insert (ordered k (high e - 1)) ps) (low-number e)
-    ∙ ap (λ (k : ℕ). insert (ordered (triangleNumber s (lowOf (a .axis) s (on e))) k) ps) y
-    ∙ put-both (a .axis) s (ofMapping (a .mapping)) (a .i) ps (on-is (e .before .before .before .before)) (on-there (e .before .before .before)) (e .before .before .low-differs .ensures) (e .before .high-differs .ensures) (not-false _ (e .if2 .left))
+on-there : (e : tie.Else1) → let t = e .before .before .before .before .before .before in e .before .step-on .result < stepsOf (t .args .axis) (shape t)
+on-there e = omega arith
 
 step-on-requires : tie.Need-step-on-requires
 step-on-requires c κs =
     let t = c .before .before .before .before in
-    let a = t .args in
     let e = c .rim-steps .ensures in
-    (subst (λ (k : ℕ). Maps (Joined (a .mapping)) k) (sym e) (t .pre .0 .1), omega (arith, steps-most (a .axis) (a .surface) (t .pre .0 .0)), omega (arith, t .pre .0 .2))
+    (rw e (t .pre .0 .1), omega (arith, steps-most (t .args .axis) (t .args .surface) (t .pre .0 .0)), omega arith)
 
 returns : tie.Need-returns
 returns c =
-    let a = c .before .before .before .before .before .before .args in
-    no-step (a .axis) (shapeOf (a .surface)) (ofMapping (a .mapping)) (a .i) (pairsIn (a .count) (a .flipped .now)) (on-is (c .before)) (omega (arith, c .if1 .taken, c .before .before .rim-steps .ensures))
+    let t = c .before .before .before .before .before .before in
+    let a = t .args in
+    no-step (a .axis) (shape t) (ofMapping (a .mapping)) (a .i) (pairs t) (on-is (c .before)) (omega arith)
 
-low-differs-requires : tie.Need-low-differs-requires
-low-differs-requires c κs = (c .before .before .before .before .before .before .pre .0 .0, on-there c)
+-- Where a step of the low rim lies there
 
-high-differs-requires : tie.Need-high-differs-requires
-high-differs-requires c κs = (c .before .before .before .before .before .before .before .pre .0 .0, c .before .before .before .before .before .before .before .pre .0 .2)
+abbrev start : tie.After-high-differs → tie.Start
+start e = e .before .before .before .before .before .before .before .before
+
+abbrev on : tie.After-high-differs → ℕ
+on e = e .before .before .before .step-on .result
+
+-- the slots of the two triangles, and whether both are there
+abbrev low-slot : tie.After-high-differs → ℕ
+low-slot e = lowOf (start e .args .axis) (shape (start e)) (on e)
+
+abbrev high-slot : tie.After-high-differs → ℕ
+high-slot e = highOf (start e .args .axis) (shape (start e)) (start e .args .i)
+
+abbrev both : tie.After-high-differs → Bool
+both e = e .before .low-differs .result && e .high-differs .result
+
+-- what the two lists have for them
+abbrev low : tie.After-high-differs → ℕ
+low e = getD (start e .args .low .now) (on e) 0
+
+abbrev high : tie.After-high-differs → ℕ
+high e = getD (start e .args .high .now) (start e .args .i + 1) 0
+
+tested : (e : tie.After-high-differs) →
+    let s = shape (start e) in
+    pairs-after (start e) ≡ cond (both e) (insert (ordered (triangleNumber s (low-slot e)) (triangleNumber s (high-slot e))) (pairs (start e))) (pairs (start e))
+tested e =
+    let t = start e in
+    let a = t .args in
+    step-pair (a .axis) (shape t) (ofMapping (a .mapping)) (a .i) (pairs t) (on-is (e .before .before .before)) (on-there (e .before .before)) (e .before .low-differs .ensures) (e .high-differs .ensures)
 
 returns-2 : tie.Need-returns-2
-returns-2 c =
-    let a = c .before .before .before .before .before .before .before .before .before .args in
-    not-both (a .axis) (shapeOf (a .surface)) (ofMapping (a .mapping)) (a .i) (pairsIn (a .count) (a .flipped .now)) (on-is (c .before .before .before .before)) (on-there (c .before .before .before)) (c .before .before .low-differs .ensures) (c .before .high-differs .ensures) (not-true _ (c .if2 .taken))
+returns-2 c = rw (not-true (both (c .before)) (c .if2 .taken)) at (sym (tested (c .before)))
+
+low-number : (e : tie.After-high-differs) → low e ≡ triangleNumber (shape (start e)) (low-slot e)
+low-number e = start e .pre .1 .0 .before (on e) (on-there (e .before .before))
+
+high-number : (e : tie.After-high-differs) → both e ≡ true → high e ≡ triangleNumber (shape (start e)) (high-slot e) + 1
+high-number e there =
+    let t = start e in
+    let proper-high = sym (e .high-differs .ensures) ∙ and-both (e .before .low-differs .result) (e .high-differs .result) there .1 in
+    number-before (shape t) (high-slot e) (high e) (t .pre .1 .0 .after (t .args .i) (t .pre .0 .2)) proper-high
+
+put : (e : tie.After-high-differs) → both e ≡ true → insert (ordered (low e) (high e - 1)) (pairs (start e)) ≡ pairs-after (start e)
+put e there =
+    let h : high e - 1 ≡ triangleNumber (shape (start e)) (high-slot e) = omega (arith, high-number e there) in
+    rw (low-number e, h) (rw there at (sym (tested e)))
+
+both-there : (e : tie.Else2) → both (e .before) ≡ true
+both-there e = not-false (both (e .before)) (e .if2 .left)
 
 sub-b : tie.Need-sub-b
-sub-b c = omega (arith, high-number (c .before .before))
+sub-b c = omega (arith, high-number (c .before .before .before) (both-there (c .before .before)))
 
 returns-3 : tie.Need-returns-3
 returns-3 c =
-    let e = c .before .before .before .before .before .before .before in
-    c .before .before .insert-pair .ensures ∙ ap (λ (p : Pair). insert p (pairs e)) (ordered-up (low e) (high e - 1) (c .before .before .before .before .if3 .taken)) ∙ put e
+    let f = c .before .before .before .before .before .before .before in
+    let e = f .before in
+    c .before .before .insert-pair .ensures ∙ rw (ordered-up (low e) (high e - 1) (c .before .before .before .before .if3 .taken)) (put e (both-there f))
 
 returns-4 : tie.Need-returns-4
 returns-4 c =
-    let e = c .before .before .before .before .before .before .before in
-    c .before .before .insert-pair2 .ensures ∙ ap (λ (p : Pair). insert p (pairs e)) (ordered-down (low e) (high e - 1) (c .before .before .before .before .if3 .left)) ∙ put e
+    let f = c .before .before .before .before .before .before .before in
+    let e = f .before in
+    c .before .before .insert-pair2 .ensures ∙ rw (ordered-down (low e) (high e - 1) (c .before .before .before .before .if3 .left)) (put e (both-there f))
 
 pub flip-step-spec : {M : Type 1} → statement M
 flip-step-spec =
@@ -108,8 +121,8 @@ flip-step-spec =
     (λ c κs. search needs)
     step-on-requires
     returns
-    low-differs-requires
-    high-differs-requires
+    (λ c κs. search needs)
+    (λ c κs. search needs)
     returns-2
     (λ c. search needs)
     (λ c. search needs)

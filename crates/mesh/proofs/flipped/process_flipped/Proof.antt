@@ -1,15 +1,13 @@
 -- `mesh::flipped::process_flipped` meets its contract: after i steps the list holds what `process` gives for them. Assumes nothing.
-use Prim.Native.Nat.{ℕ, _-_, _≤_}
-use mathlib.Core.Path.{_≡_, refl, ap, _∙_}
-use mathlib.Core.List.{List}
+use Prim.Native.Nat.{_-_, _≤_}
+use mathlib.Core.Path.{_≡_, refl, _∙_}
 use native.Mathlib.Omega.{arith}
 use lib.ListN.{length}
 use borrow.Author.Needs.{needs}
-use Rattle.surface.specs.Surface.{Pair}
 use Rattle.surface.specs.Found.{ofMapping}
 use Rattle.mesh.specs.Corners.{shapeOf}
 use Rattle.mesh.specs.Held.{pairsIn, pairAt}
-use Rattle.mesh.specs.Rims.{stepsOf, flipStep, flipSteps}
+use Rattle.mesh.specs.Rims.{stepsOf, flipSteps}
 use Rattle.mesh.proofs.Firsts.{length-firsts}
 use Rattle.mesh.proofs.Flips.{flips-none, flips-more, flips-most, held-pairs}
 use Rattle.mesh.proofs.flipped.process_flipped.Statement.{statement}
@@ -32,16 +30,15 @@ loop-holds c =
 flip-step-requires : tie.Need-flip-step-requires Inv-loop μ-loop
 flip-step-requires c κs =
     let w = c .before .before .loop in
-    let r = c .before .before .before .rim-steps in
     let t = c .before .before .before .before .before .before .before in
     let a = t .args in
     let s = shapeOf (a .surface) in
     let ps = pairsIn (a .start) (a .flipped .now) in
     let k = held-pairs (w .count) (w .flipped) (w .inv .1) in (
-      (t .pre .0 .0, t .pre .0 .1, omega (arith, c .before .loop-test .taken, r .ensures)),
+      (t .pre .0 .0, t .pre .0 .1, omega arith),
       (
         t .pre .1 .0,
-        omega (arith, k, flips-most (a .axis) s (ofMapping (a .mapping)) (w .i) ps, length-firsts (pairAt (a .flipped .now)) (a .start), c .before .loop-test .taken, r .ensures, t .pre .1 .1, w .inv .2),
+        omega (arith, flips-most (a .axis) s (ofMapping (a .mapping)) (w .i) ps, length-firsts (pairAt (a .flipped .now)) (a .start)),
       ),
     )
 
@@ -53,18 +50,16 @@ loop-again c =
     let s = shapeOf (a .surface) in
     let m = ofMapping (a .mapping) in (
       omega arith,
-      f .ensures
-          ∙ ap (λ (ps : List Pair). flipStep (a .axis) s m (w .i) ps) (w .inv .1)
-          ∙ flips-more (a .axis) s m (w .i) (pairsIn (a .start) (a .flipped .now)),
-      omega (arith, f .kept .1 .1 .1 .1 .1 .1 .0),
+      f .ensures ∙ rw (w .inv .1) (flips-more (a .axis) s m (w .i) (pairsIn (a .start) (a .flipped .now))),
+      omega arith,
     )
 
 returns : tie.Need-returns Inv-loop μ-loop
 returns c =
     let w = c .before .loop in
     let a = c .before .before .before .before .before .before .args in
-    let e : w .i ≡ stepsOf (a .axis) (shapeOf (a .surface)) = omega (arith, c .before .before .rim-steps .ensures) in
-    w .inv .1 ∙ ap (λ (n : ℕ). flipSteps (a .axis) (shapeOf (a .surface)) (ofMapping (a .mapping)) n (pairsIn (a .start) (a .flipped .now))) e
+    let e : w .i ≡ stepsOf (a .axis) (shapeOf (a .surface)) = omega arith in
+    rw e at (w .inv .1)
 
 pub process-flipped-spec : {M : Type 1} → statement M
 process-flipped-spec =

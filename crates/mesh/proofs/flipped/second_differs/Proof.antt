@@ -1,8 +1,7 @@
 -- `mesh::flipped::second_differs` meets its contract: the cell's second triangle is its second slot's. Assumes nothing.
-use mathlib.Core.Path.{ap, sym, _∙_}
-use Rattle.surface.specs.Surface.{Triangle, proper}
-use Rattle.mesh.specs.declared.corner.Cell.{Cell}
-use Rattle.mesh.proofs.Cells.{secondOf, slot-second}
+use mathlib.Core.Path.{ap, _∙_}
+use Rattle.surface.specs.Surface.{proper}
+use Rattle.mesh.proofs.Cells.{slot-second}
 use borrow.Author.Needs.{needs}
 use Rattle.mesh.proofs.flipped.second_differs.Statement.{statement}
 use Rattle.mesh.proofs.flipped.second_differs.Tie as tie
@@ -11,9 +10,7 @@ returns : tie.Need-returns
 returns c =
     let t = c .before .before in
     let a = t .args in
-    c .differ .ensures
-    ∙ ap (λ (x : Cell). proper (secondOf x)) (c .before .cell-corners .ensures)
-    ∙ ap (λ (x : Triangle). proper x) (sym (slot-second (a .surface .m) (a .surface .n) (a .surface .u) (a .surface .v) (a .u) (a .v) (t .pre .2)))
+    c .differ .ensures ∙ ap proper (slot-second (a .surface) (a .u) (a .v) (t .pre .2) (c .before .cell-corners .ensures))
 
 pub second-differs-spec : {M : Type 1} → statement M
 second-differs-spec = tie.close (tie.spec (λ c κs. search needs) (λ c κs. search needs) returns)

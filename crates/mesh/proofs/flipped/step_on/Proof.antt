@@ -1,7 +1,8 @@
 -- `mesh::flipped::step_on` meets its contract: the step between the inverse images of the two ends. Assumes nothing.
-use Prim.Native.Nat.{_+_}
+use Prim.Native.Nat.{ℕ, _+_, _≤_}
 use native.Mathlib.Omega.{arith}
 use Rattle.cyclic.specs.declared.seam.Seam.the-variants.{Joined}
+use Rattle.cyclic.specs.Mapping.{stepsOf, inverse}
 use Rattle.cyclic.proofs.Mappings.{inverse-within}
 use Rattle.mesh.proofs.Joins.{maps-joins}
 use Rattle.mesh.proofs.Numbers.{step-is}
@@ -9,21 +10,14 @@ use borrow.Author.Needs.{needs}
 use Rattle.mesh.proofs.flipped.step_on.Statement.{statement}
 use Rattle.mesh.proofs.flipped.step_on.Tie as tie
 
-inverse-requires : tie.Need-inverse-requires
-inverse-requires c κs = maps-joins (Joined (c .args .mapping)) (c .args .steps) (c .args .i) (c .pre .0) (omega arith) (omega arith)
-
-inverse-requires-2 : tie.Need-inverse-requires-2
-inverse-requires-2 c κs =
-    let t = c .before in
-    maps-joins (Joined (t .args .mapping)) (t .args .steps) (t .args .i + 1) (t .pre .0) (omega arith) (omega arith)
+-- an index of the row has its inverse image on the row
+within : (t : tie.Start) (j : ℕ) → j ≤ t .args .steps → inverse (t .args .mapping) j ≤ stepsOf (t .args .mapping)
+within t j h = inverse-within (t .args .mapping) j (maps-joins (Joined (t .args .mapping)) (t .args .steps) j (t .pre .0) (omega arith) h)
 
 wrap-ends-requires : tie.Need-wrap-ends-requires
 wrap-ends-requires c κs =
     let t = c .before .before in
-    let a = t .args in
-    let p = inverse-within (a .mapping) (a .i) (maps-joins (Joined (a .mapping)) (a .steps) (a .i) (t .pre .0) (omega arith) (omega arith)) in
-    let q = inverse-within (a .mapping) (a .i + 1) (maps-joins (Joined (a .mapping)) (a .steps) (a .i + 1) (t .pre .0) (omega arith) (omega arith)) in
-    omega (arith, c .before .inverse .ensures, c .inverse2 .ensures, t .pre .0 .0, t .pre .1)
+    omega (arith, within t (t .args .i) (omega arith), within t (t .args .i + 1) (omega arith))
 
 returns : tie.Need-returns
 returns c =
@@ -32,4 +26,4 @@ returns c =
 
 pub step-on-spec : {M : Type 1} → statement M
 step-on-spec =
-    tie.close (tie.spec inverse-requires (λ c. search needs) inverse-requires-2 wrap-ends-requires returns)
+    tie.close (tie.spec (λ c κs. search needs) (λ c. search needs) (λ c κs. search needs) wrap-ends-requires returns)

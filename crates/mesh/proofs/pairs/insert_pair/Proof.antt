@@ -1,10 +1,8 @@
 -- `mesh::pairs::insert_pair` meets its contract: the pair is put where it belongs, or is there already. Assumes nothing.
 use mathlib.Core.Path.{sym, _∙_}
 use native.Mathlib.Omega.{arith}
-use Rattle.surface.specs.Surface.{pair}
-use Rattle.mesh.specs.Held.{pairAt, pairsIn}
+use Rattle.mesh.specs.Held.{pairAt}
 use Rattle.mesh.proofs.Firsts.{length-firsts}
-use Rattle.mesh.proofs.Holding.{spot-known, there-known}
 use borrow.Author.Needs.{needs}
 use Rattle.mesh.proofs.pairs.insert_pair.Statement.{statement}
 use Rattle.mesh.proofs.pairs.insert_pair.Tie as tie
@@ -13,21 +11,17 @@ put-pair-requires : tie.Need-put-pair-requires
 put-pair-requires c κs =
     let t = c .before .before in
     let a = t .before .before .before .before .before .args in
-    let w = spot-known (pair (a .low) (a .high)) (pairsIn (a .count) (a .list .now)) (t .i .given .1) (t .before .before .find-spot .ensures) in
+    let spot = rw (t .i .given .1) at (t .before .before .find-spot .ensures) in
     (omega (arith, length-firsts (pairAt (a .list .now)) (a .count)), t .before .before .before .before .before .pre)
 
 returns : tie.Need-returns
-returns c =
-    let t = c .before .before in
-    let a = t .before .before .before .args in
-    sym (there-known (pair (a .low) (a .high)) (pairsIn (a .count) (a .list .now)) (c .enum-told .given .1) (t .find-spot .ensures))
+returns c = sym (rw (c .enum-told .given .1) at (c .before .before .find-spot .ensures))
 
 returns-2 : tie.Need-returns-2
 returns-2 c =
     let t = c .before .before .before .before .before in
-    let a = t .before .before .before .before .before .args in
-    c .before .before .put-pair .ensures
-    ∙ sym (spot-known (pair (a .low) (a .high)) (pairsIn (a .count) (a .list .now)) (t .i .given .1) (t .before .before .find-spot .ensures) .1)
+    let spot = rw (t .i .given .1) at (t .before .before .find-spot .ensures) in
+    c .before .before .put-pair .ensures ∙ sym (spot .1)
 
 pub insert-pair-spec : {M : Type 1} → statement M
 insert-pair-spec =

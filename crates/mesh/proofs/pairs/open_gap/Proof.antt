@@ -1,9 +1,10 @@
 -- `mesh::pairs::open_gap` meets its contract: what is below i stands where it did, what is from i on two places further. Assumes nothing.
 use Prim.Native.Nat.{ℕ, _+_, _-_, _≤_, _<_}
-use mathlib.Core.Path.{_≡_, refl}
+use mathlib.Core.Path.{_≡_}
 use native.Mathlib.Omega.{arith}
 use lib.ListN.{length, getD, length-set}
 use Rattle.mesh.proofs.Holding.{gap-below, gap-moved}
+use borrow.Author.Needs.{needs}
 use Rattle.mesh.proofs.pairs.open_gap.Statement.{statement}
 use Rattle.mesh.proofs.pairs.open_gap.Tie as tie
 
@@ -16,30 +17,22 @@ Inv-loop list₀ start end i₀ list i =
 abbrev μ-loop : tie.MeasureT-loop
 μ-loop list₀ start end i₀ list i = i
 
-loop-holds : tie.Need-loop-holds Inv-loop μ-loop
-loop-holds c = (omega arith, omega arith, refl, λ k h. refl, λ k h q. absurd (omega arith))
-
 loop-again : tie.Need-loop-again Inv-loop μ-loop
 loop-again c =
     let a = c .before .before .before .args in
     let w = c .before .before .loop in
-    let j : w .i - 1 + 1 ≡ w .i = omega arith in
     let below : (k : ℕ) → k < w .i - 1 + 1 → getD (w .list) k 0 ≡ getD (a .list .now) k 0 = λ k h. w .inv .3 k (omega arith) in
     let moved : (k : ℕ) → w .i - 1 + 1 ≤ k → k < a .end → getD (w .list) (k + 2) 0 ≡ getD (a .list .now) k 0 = λ k h q. w .inv .4 k (omega arith) q in (
       omega arith,
       omega arith,
       simp length-set (w .inv .2),
-      gap-below (w .list) (a .list .now) (w .i - 1) (a .end) (omega arith) (omega arith) below moved,
-      gap-moved (w .list) (a .list .now) (w .i - 1) (a .end) (omega arith) (omega arith) below moved,
+      gap-below (w .list) (a .list .now) (w .i - 1) below,
+      gap-moved (w .list) (a .list .now) (w .i - 1) (a .end) (omega arith) (below (w .i - 1) (omega arith)) moved,
     )
-
-same-length : tie.Need-same-length Inv-loop μ-loop
-same-length c = c .before .loop .inv .2
 
 returns : tie.Need-returns Inv-loop μ-loop
 returns c =
     let w = c .before .loop in
-    let e : w .i ≡ c .before .before .args .start = omega arith in
     (λ k h. w .inv .3 k (omega arith), λ k h q. w .inv .4 k (omega arith) q)
 
 pub open-gap-spec : {M : Type 1} → statement M
@@ -48,7 +41,7 @@ open-gap-spec =
     (tie.spec
     Inv-loop
     μ-loop
-    loop-holds
+    (λ c. search needs)
     (λ c. omega arith)
     (λ c. omega arith)
     (λ c. omega arith)
@@ -57,5 +50,5 @@ open-gap-spec =
     (λ c. omega arith)
     (λ c. omega arith)
     loop-again
-    same-length
+    (λ c. search needs)
     returns)

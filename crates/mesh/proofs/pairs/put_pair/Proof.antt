@@ -11,9 +11,10 @@ slice-write-list-2 c = simp length-set (omega arith)
 
 returns : tie.Need-returns
 returns c =
-    let a = c .before .before .before .before .before .args in
+    let t = c .before .before .before .before .before in
+    let a = t .args in
     let g = c .before .before .open-gap in
-    pair-put (g .last .0) (a .list .now) (a .count) (a .i) (a .low) (a .high) (c .before .before .before .before .before .pre .0) (omega (arith, g .kept .0, c .before .before .before .before .before .pre)) (g .ensures .0) (g .ensures .1)
+    pair-put (g .last .0) (a .list .now) (a .count) (a .i) (a .low) (a .high) (t .pre .0) (omega arith) (g .ensures .0) (g .ensures .1)
 
 pub put-pair-spec : {M : Type 1} → statement M
 put-pair-spec =

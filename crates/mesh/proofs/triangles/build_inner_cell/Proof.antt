@@ -1,23 +1,23 @@
 -- `mesh::triangles::build_inner_cell` meets its contract: no rule applies to the cell, and both its triangles are kept. Assumes nothing.
-use Prim.Native.Nat.{ℕ, _+_, _*_, _≤_, _<_}
-use mathlib.Core.Path.{_≡_, ap, _∙_}
+use Prim.Native.Nat.{_+_, _*_, _≤_, _<_}
+use mathlib.Core.Path.{_≡_}
 use native.Mathlib.Omega.{arith}
 use lib.ListN.{length}
-use Rattle.grid.specs.Grid.{pointNumber}
 use Rattle.grid.proofs.Laws.{point-below, points-most}
 use Rattle.mesh.specs.Corners.{shapeOf}
-use Rattle.mesh.specs.Held.{trianglesIn}
 use Rattle.mesh.proofs.Cells.{held-most, cell-below}
 use Rattle.mesh.proofs.Inner.{inner-cell}
 use borrow.Author.Needs.{needs}
 use Rattle.mesh.proofs.triangles.build_inner_cell.Statement.{statement}
 use Rattle.mesh.proofs.triangles.build_inner_cell.Tie as tie
 
-small : (t : tie.Start) {i : ℕ} → i ≡ pointNumber (t .args .surface .n) (t .args .u) (t .args .v) → i < 65536
-small t e =
-    let a = t .args in
+-- the number of corner (u, v) is one of the grid's
+small : (e : tie.After-point-number) → e .point-number .result < 65536
+small e =
+    let a = e .before .before .args in
     omega (arith, point-below (a .surface .m) (a .surface .n) (a .u) (a .v) (omega arith) (omega arith), points-most (a .surface .m) (a .surface .n) (omega arith) (omega arith))
 
+-- both triangles fit
 room : (t : tie.Start) → 3 * t .args .count + 6 ≤ length (t .args .triangles .now)
 room t =
     let a = t .args in
@@ -25,13 +25,13 @@ room t =
     omega (arith, cell-below {m = a .surface .m} {n = a .surface .n} {u = a .u} {v = a .v} (omega arith) (omega arith))
 
 add-i10 : tie.Need-add-i10
-add-i10 c = omega (arith, small (c .before .before) (c .point-number .ensures))
+add-i10 c = omega (arith, small c)
 
 add-i10-2 : tie.Need-add-i10-2
-add-i10-2 c = omega (arith, small (c .before .before) (c .point-number .ensures))
+add-i10-2 c = omega (arith, small c)
 
 add-write-triangle : tie.Need-add-write-triangle
-add-write-triangle c = omega (arith, small (c .before .before .before) (c .before .point-number .ensures))
+add-write-triangle c = omega (arith, small (c .before))
 
 write-triangle-requires : tie.Need-write-triangle-requires
 write-triangle-requires c κs = omega (arith, room (c .before .before .before))
@@ -40,18 +40,17 @@ add-write-triangle-2 : tie.Need-add-write-triangle-2
 add-write-triangle-2 c = omega (arith, room (c .before .before .before .before .before .before .before))
 
 add-write-triangle-3 : tie.Need-add-write-triangle-3
-add-write-triangle-3 c = omega (arith, small (c .before .before .before .before .before .before .before) (c .before .before .before .before .before .point-number .ensures))
+add-write-triangle-3 c = omega (arith, small (c .before .before .before .before .before))
 
 add-write-triangle-4 : tie.Need-add-write-triangle-4
-add-write-triangle-4 c = omega (arith, small (c .before .before .before .before .before .before .before) (c .before .before .before .before .before .point-number .ensures))
+add-write-triangle-4 c = omega (arith, small (c .before .before .before .before .before))
 
 write-triangle-requires-2 : tie.Need-write-triangle-requires-2
 write-triangle-requires-2 c κs =
-    omega (arith, c .before .before .before .write-triangle .kept .0, room (c .before .before .before .before .before .before .before))
+    omega (arith, room (c .before .before .before .before .before .before .before))
 
 add-result : tie.Need-add-result
-add-result c =
-    omega (arith, room (c .before .before .before .before .before .before .before .before .before .before))
+add-result c = omega (arith, room (c .before .before .before .before .before .before .before .before .before .before))
 
 returns : tie.Need-returns
 returns c =
@@ -61,8 +60,7 @@ returns c =
     let t = c .before .before .before .before .before .before .before .before .before .before in
     let a = t .args in
     let e : a .count + 2 ≡ a .count + 1 + 1 = omega arith in
-    ap (λ (k : ℕ). trianglesIn k (z .last .0)) e
-    ∙ inner-cell (a .surface .m) (a .surface .n) (a .surface .u) (a .surface .v) (a .u) (a .v) (t .pre .0 .1) (t .pre .0 .2) (p .ensures) (t .pre .1 .1) (w .ensures) (z .ensures)
+    rw e (inner-cell (a .surface) (a .u) (a .v) (t .pre .0 .1) (t .pre .0 .2) (p .ensures) (t .pre .1 .1) (w .ensures) (z .ensures))
 
 pub build-inner-cell-spec : {M : Type 1} → statement M
 build-inner-cell-spec =

@@ -1,12 +1,13 @@
 -- `mesh::triangles::build_inner_row` meets its contract: after v cells the list holds the triangles of the slots up to cell (u, v). Assumes nothing.
-use Prim.Native.Nat.{ℕ, _+_, _-_, _*_, _≤_}
-use mathlib.Core.Path.{_≡_, refl, ap, _∙_}
+use Prim.Native.Nat.{_+_, _-_, _*_, _≤_}
+use mathlib.Core.Path.{_≡_, refl, _∙_}
 use native.Mathlib.Omega.{arith}
 use lib.ListN.{length}
 use Rattle.surface.specs.Surface.{kept}
 use Rattle.mesh.specs.Corners.{shapeOf}
 use Rattle.mesh.specs.Held.{trianglesIn}
 use Rattle.mesh.proofs.Cells.{row-first}
+use borrow.Author.Needs.{needs}
 use Rattle.mesh.proofs.triangles.build_inner_row.Statement.{statement}
 use Rattle.mesh.proofs.triangles.build_inner_row.Tie as tie
 
@@ -28,17 +29,12 @@ build-inner-cell-requires c κs =
     let t = c .before .before .before .before .before in
     ((t .pre .0 .0, t .pre .0 .1, omega arith), (omega arith, w .inv .1))
 
-loop-again : tie.Need-loop-again Inv-loop μ-loop
-loop-again c =
-    let b = c .before .before .build-inner-cell in
-    (omega arith, b .ensures, omega (arith, b .kept .1 .1 .1 .0))
-
 returns : tie.Need-returns Inv-loop μ-loop
 returns c =
     let w = c .before .loop in
     let a = c .before .before .before .before .args in
     let e : w .v ≡ a .surface .n - 1 = omega arith in
-    w .inv .1 ∙ ap (λ (v : ℕ). kept (shapeOf (a .surface)) (2 * (a .u * a .surface .n + v))) e
+    rw e at (w .inv .1)
 
 pub build-inner-row-spec : {M : Type 1} → statement M
 build-inner-row-spec =
@@ -51,6 +47,6 @@ build-inner-row-spec =
     build-inner-cell-requires
     (λ c. omega arith)
     (λ c. omega arith)
-    loop-again
+    (λ c. search needs)
     (λ c. omega arith)
     returns)

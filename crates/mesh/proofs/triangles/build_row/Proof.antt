@@ -8,39 +8,28 @@ use borrow.Author.Needs.{needs}
 use Rattle.mesh.proofs.triangles.build_row.Statement.{statement}
 use Rattle.mesh.proofs.triangles.build_row.Tie as tie
 
-build-inner-row-requires : tie.Need-build-inner-row-requires
-build-inner-row-requires c κs =
-    let t = c .before .before .before .before in
-    ((t .pre .0 .0, c .before .if1 .taken), t .pre .1)
-
 build-cell-requires : tie.Need-build-cell-requires
 build-cell-requires c κs =
     let r = c .before .before .before .before .build-inner-row in
     let t = c .before .before .before .before .before .before .before .before .before in
-    ((t .pre .0 .0, t .pre .0 .1, omega (arith, t .pre .0 .0 .n-least)), (omega (arith, r .kept .1 .1 .0, t .pre .1 .0), r .ensures))
+    ((t .pre .0 .0, t .pre .0 .1, omega arith), (omega arith, r .ensures))
 
 returns : tie.Need-returns
 returns c =
     let t = c .before .before .before .before .before .before .before .before .before .before .before .before in
     let a = t .args in
-    c .before .before .build-cell .ensures ∙ row-next (shapeOf (a .surface)) (a .surface .n) (a .u) (a .surface .n - 1 + 1) (omega (arith, t .pre .0 .0 .n-least))
-
-build-rule-row-requires : tie.Need-build-rule-row-requires
-build-rule-row-requires c κs = c .before .before .before .before .pre
-
-returns-2 : tie.Need-returns-2
-returns-2 c = c .before .before .build-rule-row .ensures
+    c .before .before .build-cell .ensures ∙ row-next (shapeOf (a .surface)) (a .surface .n) (a .u) (a .surface .n - 1 + 1) (omega arith)
 
 pub build-row-spec : {M : Type 1} → statement M
 build-row-spec =
     tie.close
     (tie.spec
     (λ c. search needs)
-    build-inner-row-requires
+    (λ c κs. search needs)
     (λ c. search needs)
     build-cell-requires
     (λ c. search needs)
     returns
-    build-rule-row-requires
+    (λ c κs. search needs)
     (λ c. search needs)
-    returns-2)
+    (λ c. search needs))

@@ -7,6 +7,7 @@ use Rattle.surface.specs.Surface.{kept}
 use Rattle.mesh.specs.Corners.{shapeOf}
 use Rattle.mesh.specs.Held.{trianglesIn}
 use Rattle.mesh.proofs.Cells.{row-first, row-next}
+use borrow.Author.Needs.{needs}
 use Rattle.mesh.proofs.triangles.build_rule_row.Statement.{statement}
 use Rattle.mesh.proofs.triangles.build_rule_row.Tie as tie
 
@@ -22,17 +23,6 @@ loop-holds c =
     let t = c .before in
     (omega arith, t .pre .1 .1 ∙ row-first (shapeOf (t .args .surface)) (t .args .surface .n) (t .args .u), refl)
 
-build-cell-requires : tie.Need-build-cell-requires Inv-loop μ-loop
-build-cell-requires c κs =
-    let w = c .before .before .loop in
-    let t = c .before .before .before .before in
-    ((t .pre .0 .0, t .pre .0 .1, omega arith), (omega arith, w .inv .1))
-
-loop-again : tie.Need-loop-again Inv-loop μ-loop
-loop-again c =
-    let b = c .before .before .build-cell in
-    (omega arith, b .ensures, omega (arith, b .kept .1 .1 .1 .0))
-
 returns : tie.Need-returns Inv-loop μ-loop
 returns c =
     let w = c .before .loop in
@@ -46,9 +36,9 @@ build-rule-row-spec =
     Inv-loop
     μ-loop
     loop-holds
-    build-cell-requires
+    (λ c κs. search needs)
     (λ c. omega arith)
     (λ c. omega arith)
-    loop-again
+    (λ c. search needs)
     (λ c. omega arith)
     returns)

@@ -1,12 +1,14 @@
 -- `mesh::triangles::build_triangles` meets its contract: after u rows the list holds the triangles of their slots, and the starts are known up to u. Assumes nothing.
 use Prim.Native.Nat.{ℕ, _+_, _-_, _*_, _≤_}
-use mathlib.Core.Path.{_≡_, refl, ap, _∙_}
+use mathlib.Core.Path.{_≡_, refl, _∙_}
 use native.Mathlib.Omega.{arith}
 use lib.ListN.{length, getD, length-set}
 use Rattle.surface.specs.Surface.{kept, triangleNumber}
 use Rattle.mesh.specs.Corners.{shapeOf}
 use Rattle.mesh.specs.Held.{trianglesIn}
-use Rattle.mesh.proofs.Cells.{none-held, value-first, held-count, values-more}
+use Rattle.mesh.proofs.Firsts.{value-first, values-more}
+use Rattle.mesh.proofs.Cells.{none-held, held-count}
+use borrow.Author.Needs.{needs}
 use Rattle.mesh.proofs.triangles.build_triangles.Statement.{statement}
 use Rattle.mesh.proofs.triangles.build_triangles.Tie as tie
 
@@ -27,18 +29,12 @@ loop-holds c =
     let a = t .args in
     let s = shapeOf (a .surface) in
     let none = none-held s (a .surface .n) (a .triangles .now) in
-    (omega arith, none, refl, refl, value-first (λ (i : ℕ). triangleNumber s (2 * (i * a .surface .n))) (a .starts .now) 0 (omega arith) (held-count s (2 * (0 * a .surface .n)) 0 (a .triangles .now) none))
-
-build-row-requires : tie.Need-build-row-requires Inv-loop μ-loop
-build-row-requires c κs =
-    let w = c .before .before .loop in
-    let t = c .before .before .before .before .before in
-    ((t .pre .0 .0, omega arith), (omega arith, w .inv .1))
+    let zero-first = held-count s (2 * (0 * a .surface .n)) 0 (a .triangles .now) none in
+    (omega arith, none, refl, refl, value-first (λ (i : ℕ). triangleNumber s (2 * (i * a .surface .n))) (a .starts .now) 0 (omega arith) zero-first)
 
 slice-write-starts-2 : tie.Need-slice-write-starts-2 Inv-loop μ-loop
 slice-write-starts-2 c =
-    let w = c .before .before .before .before .before .loop in
-    omega (arith, w .inv .3, length-set (c .before .before .before .before .before .before .before .before .args .starts .now) 0 0)
+    omega (arith, length-set (c .before .before .before .before .before .before .before .before .args .starts .now) 0 0)
 
 loop-again : tie.Need-loop-again Inv-loop μ-loop
 loop-again c =
@@ -48,7 +44,7 @@ loop-again c =
     let s = shapeOf (a .surface) in (
       omega arith,
       b .ensures,
-      omega (arith, b .kept .1 .1 .0),
+      omega arith,
       length-set (w .starts) (w .u + 1) (b .result) ∙ w .inv .3,
       values-more (λ (i : ℕ). triangleNumber s (2 * (i * a .surface .n))) (w .starts) (w .u) (b .result)
           (omega (arith, length-set (a .starts .now) 0 0))
@@ -57,15 +53,14 @@ loop-again c =
     )
 
 same-length-2 : tie.Need-same-length-2 Inv-loop μ-loop
-same-length-2 c =
-    omega (arith, c .before .loop .inv .3, length-set (c .before .before .before .before .args .starts .now) 0 0)
+same-length-2 c = omega (arith, length-set (c .before .before .before .before .args .starts .now) 0 0)
 
 returns : tie.Need-returns Inv-loop μ-loop
 returns c =
     let w = c .before .loop in
     let a = c .before .before .before .before .args in
     let e : w .u ≡ a .surface .m = omega arith in
-    (w .inv .1 ∙ ap (λ (u : ℕ). kept (shapeOf (a .surface)) (2 * (u * a .surface .n))) e, record { room = omega (arith, w .inv .3, length-set (a .starts .now) 0 0); at = λ i h. w .inv .4 i (omega arith) })
+    (rw e at (w .inv .1), record { room = omega (arith, length-set (a .starts .now) 0 0); at = λ i h. w .inv .4 i (omega arith) })
 
 pub build-triangles-spec : {M : Type 1} → statement M
 build-triangles-spec =
@@ -75,7 +70,7 @@ build-triangles-spec =
     μ-loop
     (λ c. omega arith)
     loop-holds
-    build-row-requires
+    (λ c κs. search needs)
     (λ c. omega arith)
     (λ c. omega arith)
     slice-write-starts-2
