@@ -11,9 +11,10 @@ use lib.Dec.{eqb, leb}
 use lib.Ieee.{Float}
 use lib.ListN.{length}
 use borrow.Author.Tests.{lt-ltb, le-ltb, leb-true, eq-eqb, ne-eqb}
+use Rattle.float.proofs.Tests.{and-both}
 use Rattle.vector.specs.Vectors.{allClose}
 use Rattle.grid.specs.Grid.{pointAt, coordinatesFit}
-use Rattle.grid.proofs.Laws.{and-both, unless-passed}
+use Rattle.grid.proofs.Laws.{unless-passed}
 use Rattle.refusal.specs.declared.Check.the-variants.{Passed, Failed}
 use Rattle.refusal.specs.declared.Refusal.{Refusal}
 use Rattle.refusal.specs.declared.Refusal.the-variants.{Length, Coordinate}

@@ -14,7 +14,7 @@ use lib.Ieee.{Float, binary64, sub}
 use Rattle.float.specs.Consts.{one64}
 use Rattle.float.specs.Whole.{floorZ}
 use Rattle.float.specs.Cast.{count, natFloat}
-use Rattle.float.proofs.Tests.{cond-keeps}
+use Rattle.float.proofs.Tests.{cond-keeps, cond-case}
 use Rattle.edges.specs.declared.point.ParamPoint.{ParamPoint}
 use Rattle.edges.specs.declared.cell.CellIndex.{CellIndex}
 use Rattle.edges.specs.declared.cell.CellIndex.the-variants.{Index, Outside}
@@ -22,7 +22,6 @@ use Rattle.edges.specs.declared.cell.DiagonalCell.{DiagonalCell}
 use Rattle.edges.specs.declared.cell.DiagonalCell.the-variants.{Cell, NoCell}
 use Rattle.edges.specs.Param.{within}
 use Rattle.edges.specs.Cell.{indexOf, onDiagonal, tryCell, inCell, orCell, diagonalCellAt}
-use Rattle.edges.proofs.Cases.{cond-case}
 
 -- ---- the cast
 pub nonneg-of : (z : ℤ) → leZ (pos 0) z ≡ true → T (nonNeg z)

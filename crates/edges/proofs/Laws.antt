@@ -8,7 +8,7 @@ use lib.ListN.{length}
 use lib.Ieee.{Float, binary64, ofBits, lt, le, eq, neg, add, isNan}
 use Rattle.float.specs.Consts.{eps, zero64, one64}
 use Rattle.float.specs.Order.{totalOrder}
-use Rattle.float.proofs.Tests.{and-both, cond-keeps}
+use Rattle.float.proofs.Tests.{and-both, cond-keeps, cond-case}
 use Rattle.float.proofs.Less.{le-not-nan}
 use Rattle.float.proofs.Bounds.{clamp-above, clamp-below}
 use Rattle.float.proofs.Orders.{order-self}
@@ -27,7 +27,6 @@ use Rattle.edges.specs.Param.{lerp, across, within, paramInBounds, norma
 use Rattle.edges.specs.Cell.{diagonalCellAt}
 use Rattle.edges.specs.Events.{event, edgeAtPoint, endCandidate, lambdaAt, lineAt, lineCrossing, change, diagonalEvent, diagonalCrossing, sumOf, changeOfSum, candidates, precedes, sortInto, closeBy, uniqueAfter, unique, sortedEdgeEvents, IfEvent, Each, OnGrid}
 use Rattle.edges.specs.Scratch.{AscendFrom, Ascend}
-use Rattle.edges.proofs.Cases.{cond-case}
 use Rattle.edges.proofs.Order.{not-precedes-transitive, sort-ascends}
 use Rattle.edges.proofs.Grid.{on-line, end-on-grid, line-on-grid, diagonal-on-grid}
 use Rattle.edges.proofs.Each.{each-event, each-candidate, each-sort, each-unique, each-implies, length-sort, length-unique, length-candidates}

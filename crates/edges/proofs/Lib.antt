@@ -1,5 +1,4 @@
 -- Laws that belong to no one function.
-pub mod Cases
 pub mod Steps
 pub mod Index
 pub mod Candidates

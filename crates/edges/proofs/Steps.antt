@@ -6,12 +6,11 @@ use Rattle.float.specs.Consts.{eps, zero64}
 use Rattle.float.specs.Sign.{absolute}
 use Rattle.float.specs.Whole.{rounded}
 use Rattle.float.specs.Cast.{natFloat}
-use Rattle.float.proofs.Tests.{and-both}
+use Rattle.float.proofs.Tests.{and-both, cond-case}
 use Rattle.float.proofs.Range.{counted}
 use Rattle.edges.specs.Param.{integerStep}
 use Rattle.edges.specs.declared.point.WholeStep.{WholeStep}
 use Rattle.edges.specs.declared.point.WholeStep.the-variants.{Step, Between}
-use Rattle.edges.proofs.Cases.{cond-case}
 
 -- a step is at most n
 abbrev pub StepWithin : ℕ → WholeStep → Type 0

@@ -3,7 +3,7 @@ use mathlib.Core.Path.{_≡_, refl}
 use mathlib.Core.Bool.{Bool, true}
 use mathlib.Core.List.{[], _∷_}
 use lib.Ieee.{Float, binary64, ofBits, ofInt, neg, lt, le, eq, add, sub, mul, div, round, toUnsigned}
-use Rattle.float.specs.Consts.{eps, zero64, one64}
+use Rattle.float.specs.Consts.{eps, zero64, one64, half64}
 use Rattle.float.specs.Sign.{negative, absolute}
 use Rattle.float.specs.Order.{clamped, totalOrder}
 use Rattle.float.specs.Whole.{floorZ, ceilZ, rounded}
@@ -21,9 +21,6 @@ computed = true
 abbrev pub quarter : Float
 quarter = ofBits binary64 0x3FD0000000000000
 
-abbrev pub half : Float
-half = ofBits binary64 0x3FE0000000000000
-
 abbrev pub three-quarters : Float
 three-quarters = ofBits binary64 0x3FE8000000000000
 
@@ -39,12 +36,12 @@ unfolding computed
 along-u = refl
 
 -- "(0, 0) to (0.5, −0.5): first event V(0) at −0, not U(0)": U(0) at 0 is close to it, and dropped
-pub minus-zero-first : sortedEdgeEvents 1 1 (param zero64 zero64) (param half minus-half) ≡ event minus-zero («V» 0) ∷ []
+pub minus-zero-first : sortedEdgeEvents 1 1 (param zero64 zero64) (param half64 minus-half) ≡ event minus-zero («V» 0) ∷ []
 unfolding computed
 minus-zero-first = refl
 
 -- "(0.25, 0.25) to (0.75, 0.75): one event at 0.5"
-across : sortedEdgeEvents 1 1 (param quarter quarter) (param three-quarters three-quarters) ≡ event half (Diagonal 0 0) ∷ []
+across : sortedEdgeEvents 1 1 (param quarter quarter) (param three-quarters three-quarters) ≡ event half64 (Diagonal 0 0) ∷ []
 unfolding computed
 across = refl
 

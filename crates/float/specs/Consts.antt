@@ -19,3 +19,7 @@ zero64 = ofBits binary64 0
 -- 1
 abbrev pub one64 : Float
 one64 = ofBits binary64 0x3FF0000000000000
+
+-- 1/2
+abbrev pub half64 : Float
+half64 = ofBits binary64 0x3FE0000000000000

@@ -2,11 +2,6 @@
 use Prim.Native.Nat.{ℕ, _-_}
 use mathlib.Core.List.{List, _++_}
 use lib.ListN.{length, take, replicate}
-use lib.Ieee.{Float, binary64, ofBits}
-
--- +0
-abbrev pub zeroFloat : Float
-zeroFloat = ofBits binary64 0
 
 -- a lent list after a call that wrote these contents into it: zero in every place past them
 abbrev pub filled : {A : Type 0} → A → List A → List A → List A

@@ -1,10 +1,11 @@
 // Lists that a caller lends for output: zero in every place past what a call writes.
 ghost use mathlib.Core.Path.{_≡_};
-ghost use Rattle.lent.specs.Lent.{zeroFloat, zeroedFrom};
+ghost use Rattle.float.specs.Consts.{zero64};
+ghost use Rattle.lent.specs.Lent.{zeroedFrom};
 
 // Zero from place `from` on.
 pub fn zero_floats(list: &mut [f64], from: usize)
-    ensures { λ _. ⌜ now (list .exit) ≡ zeroedFrom zeroFloat from (now (list .entry)) ⌝ }
+    ensures { λ _. ⌜ now (list .exit) ≡ zeroedFrom zero64 from (now (list .entry)) ⌝ }
 {
     let mut i = from;
     while i < list.len() {

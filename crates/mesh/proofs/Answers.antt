@@ -8,6 +8,7 @@ use lib.Ieee.{Float}
 use lib.ListN.{length, take}
 use lib.Seq.{length-take-le}
 use borrow.Author.Tests.{leb-true}
+use Rattle.float.proofs.Tests.{and-both}
 use Rattle.refusal.specs.declared.Check.{Check}
 use Rattle.refusal.specs.declared.Check.the-variants.{Passed, Failed}
 use Rattle.refusal.specs.declared.Refusal.{Refusal}
@@ -16,18 +17,16 @@ use Rattle.refusal.specs.Refusals.{unless}
 use Rattle.lent.specs.Lent.{filled, zeroedFrom}
 use Rattle.lent.proofs.Laws.{zeroed-filled}
 use Rattle.grid.specs.Grid.{stepsFit, gridCheck, Accepted}
-use Rattle.grid.proofs.Laws.{and-both, unless-passed, grid-passed, grid-accepted, accepted-known, steps-twice}
-use Rattle.cyclic.specs.declared.seam.Seam.{Seam}
-use Rattle.cyclic.specs.declared.seam.Seam.the-variants.{Joined, Unjoined}
+use Rattle.grid.proofs.Laws.{unless-passed, grid-passed, grid-accepted, accepted-known, steps-twice}
 use Rattle.cyclic.specs.declared.seam.SeamSearch.{SeamSearch}
 use Rattle.surface.specs.Surface.{Shape, Triangle, kept, slots, triangles, flipped}
 use Rattle.surface.specs.Found.{uSearch, vSearch, surfaceWith}
-use Rattle.surface.proofs.Joinings.{OfRow, u-of-row, v-of-row}
+use Rattle.surface.proofs.Joinings.{u-of-row, v-of-row}
 use Rattle.mesh.specs.declared.flipped.Axis.the-variants.{U, «V»}
 use Rattle.mesh.specs.declared.MeshCounts.{MeshCounts}
 use Rattle.mesh.specs.declared.Triangulation.the-variants.{Triangulated, Refused}
 use Rattle.mesh.specs.Mesh.{triangleNumbers, pairNumbers, roomFits, meshCheck, triangulateGrid, Filled, Hands}
-use Rattle.mesh.specs.Corners.{Maps, Bounded}
+use Rattle.mesh.specs.Corners.{Bounded}
 use Rattle.mesh.specs.Held.{trianglesIn, pairsIn}
 use Rattle.mesh.specs.Rims.{flips}
 use Rattle.mesh.proofs.Holding.{triangles-held, pairs-held}
@@ -58,10 +57,6 @@ admitted g m n t f h =
 
 -- The seams that are found fit the grid
 
-maps-row : (steps : ℕ) (seam : Seam) → OfRow steps seam → Maps seam steps
-maps-row steps Unjoined h = tt
-maps-row steps (Joined k) h = h
-
 pub found-bounded : (g : List Float) (m n : ℕ) {u v : SeamSearch} → Accepted g m n → u ≡ uSearch g m n → v ≡ vSearch g m n →
     Bounded (record { m = m; n = n; u = u .seam; v = v .seam })
 found-bounded g m n {u} {v} h p q =
@@ -71,8 +66,8 @@ found-bounded g m n {u} {v} h p q =
       m-most = s .m-most;
       n-least = s .n-least;
       n-most = s .n-most;
-      u-maps = rw p (maps-row n (uSearch g m n .seam) (u-of-row g m n (s .n-least)));
-      v-maps = rw q (maps-row m (vSearch g m n .seam) (v-of-row g m n (s .m-least)));
+      u-maps = rw p (u-of-row g m n (s .n-least));
+      v-maps = rw q (v-of-row g m n (s .m-least));
     }
 
 -- Filled lists

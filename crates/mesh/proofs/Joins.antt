@@ -15,10 +15,10 @@ use Rattle.cyclic.specs.Mapping as cyclic
 use Rattle.cyclic.proofs.Mappings.{inverse-within}
 use Rattle.surface.specs.Surface.{joined, inverse, Point, at, uRule, vRule, corner, cornerBy}
 use Rattle.surface.proofs.Joinings.{inverse-of}
-use Rattle.surface.specs.Found.{ofMapping, seamOf}
+use Rattle.surface.specs.Found.{ofMapping, seamOf, Maps}
 use Rattle.mesh.specs.declared.corner.Place.{Place}
 use Rattle.mesh.specs.declared.corner.Surface.{Surface}
-use Rattle.mesh.specs.Corners.{shapeOf, Maps, Joins, Bounded, placed, joinOf}
+use Rattle.mesh.specs.Corners.{shapeOf, Joins, Bounded, placed, joinOf}
 
 -- The cases of one rule
 

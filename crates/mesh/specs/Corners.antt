@@ -1,13 +1,12 @@
 -- The corner rule as the code takes it: one rule for either seam, and the corners of a cell (01, "Joining and triangles"). Assumes nothing.
-use Prim.Native.Nat.{ℕ, _+_, _≤_, _<_}
-use mathlib.Core.Path.{_≡_}
+use Prim.Native.Nat.{ℕ, _+_, _≤_}
 use mathlib.Core.Bool.{cond}
 use lib.Dec.{eqb}
 use Rattle.cyclic.specs.declared.seam.Seam.{Seam}
 use Rattle.cyclic.specs.declared.seam.Seam.the-variants.{Joined, Unjoined}
-use Rattle.cyclic.specs.Mapping.{offsetOf, stepsOf, inverse, HasIndex}
+use Rattle.cyclic.specs.Mapping.{inverse, HasIndex}
 use Rattle.surface.specs.Surface.{Shape, corner}
-use Rattle.surface.specs.Found.{surfaceWith}
+use Rattle.surface.specs.Found.{surfaceWith, Maps}
 use Rattle.mesh.specs.declared.corner.Surface.{Surface}
 use Rattle.mesh.specs.declared.corner.Place.{Place}
 use Rattle.mesh.specs.declared.corner.Cell.{Cell}
@@ -15,11 +14,6 @@ use Rattle.mesh.specs.declared.corner.Cell.{Cell}
 -- the shape that the definitions of `Surface.antt` take
 abbrev pub shapeOf : Surface → Shape
 shapeOf s = surfaceWith (s .m) (s .n) (s .u) (s .v)
-
--- a mapping of lines of so many steps
-abbrev pub Maps : Seam → ℕ → Type 0
-Maps Unjoined steps = Unit {0}
-Maps (Joined m) steps = (stepsOf m ≡ steps) × (offsetOf m < steps)
 
 -- a step that the seam's mapping takes
 abbrev pub Joins : Seam → ℕ → Type 0

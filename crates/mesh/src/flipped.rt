@@ -10,8 +10,8 @@ ghost use Prim.Native.Nat.{ℕ, _+_, _*_, _≤_, _<_};
 ghost use lib.ListN.{length, getD};
 ghost use Rattle.cyclic.specs.declared.seam.Seam.the-variants.{Joined};
 ghost use Rattle.surface.specs.Surface.{proper, slot, triangleNumber, wrapEnds, stepOn, flipped as allFlipped};
-ghost use Rattle.surface.specs.Found.{ofMapping, seamOf};
-ghost use Rattle.mesh.specs.Corners.{shapeOf, Bounded, Maps};
+ghost use Rattle.surface.specs.Found.{ofMapping, seamOf, Maps};
+ghost use Rattle.mesh.specs.Corners.{shapeOf, Bounded};
 ghost use Rattle.mesh.specs.Held.{pairsIn};
 ghost use Rattle.mesh.specs.Rims.{stepsOf, lowOf, highOf, Rims, Starts, oneMore, flipStep, flipSteps, flips};
 

@@ -6,14 +6,16 @@ use lib.Ieee.{Float}
 use lib.ListN.{length}
 use lib.Dec.{leb}
 use borrow.Author.Tests.{leb-true}
+use Rattle.float.specs.Consts.{zero64}
+use Rattle.float.proofs.Tests.{and-both}
 use Rattle.refusal.specs.declared.Check.{Check}
 use Rattle.refusal.specs.declared.Check.the-variants.{Passed, Failed}
 use Rattle.refusal.specs.declared.Refusal.{Refusal}
 use Rattle.refusal.specs.declared.Refusal.the-variants.{Steps, Room}
 use Rattle.refusal.specs.Refusals.{unless}
-use Rattle.lent.specs.Lent.{zeroFloat, filled}
+use Rattle.lent.specs.Lent.{filled}
 use Rattle.grid.specs.Grid.{stepsFit, gridCheck}
-use Rattle.grid.proofs.Laws.{Shaped, and-both, unless-passed, grid-passed, steps-twice}
+use Rattle.grid.proofs.Laws.{Shaped, unless-passed, grid-passed, steps-twice}
 use Rattle.path.specs.declared.GridPathsAnswer.the-variants.{Drawn, Refused}
 use Rattle.path.specs.GridPaths.{gridLines, coordinates, roomFits, pathsCheck, gridPaths, Leaves}
 use Rattle.path.specs.Runs.{spaced}
@@ -30,7 +32,7 @@ module _ (g : List Float) (m n : ℕ) (points : List Float) (starts : List ℕ) 
   refused ec e = rw (← ec, e) (record { answer = refl; points = refl; starts = refl })
 
   pub drawn : pathsCheck g m n points starts ≡ Passed →
-      {ps : List Float} {ss : List ℕ} → ps ≡ filled zeroFloat (coordinates (flatten (gridLines g m n))) points →
+      {ps : List Float} {ss : List ℕ} → ps ≡ filled zero64 (coordinates (flatten (gridLines g m n))) points →
       ss ≡ filled 0 (spaced 0 (m + 1) (n + 1) ++ spaced ((m + 1) * (n + 1)) (n + 1) (m + 1)) starts →
       Leaves (gridPaths g m n points starts) (Drawn (2 * ((m + 1) * (n + 1))) (m + n + 2)) ps ss
   unfolding gridPaths

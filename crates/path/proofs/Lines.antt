@@ -8,7 +8,8 @@ use mathlib.Core.List.{List, [], _∷_, _++_, map, flatten}
 use lib.Ieee.{Float}
 use lib.ListN.{length, take, length-append}
 use lib.Seq.{sets, sets-eq, length-sets, take-append-seam}
-use Rattle.lent.specs.Lent.{filled, zeroFloat, zeroedFrom}
+use Rattle.float.specs.Consts.{zero64}
+use Rattle.lent.specs.Lent.{filled, zeroedFrom}
 use Rattle.lent.proofs.Laws.{zeroed-filled}
 use Rattle.vector.specs.declared.Vector.{Vector}
 use Rattle.grid.specs.Grid.{pointNumber, pointAt}
@@ -105,11 +106,11 @@ starts-drawn m n l h =
 pub points-drawn : (g : List Float) (m n : ℕ) (l : List Float) → 6 * ((m + 1) * (n + 1)) ≤ length l →
     {p q r : List Float} → p ≡ sets l 0 (coordinates (flatten (runs g 0 1 (n + 1) (m + 1) (n + 1)))) →
     q ≡ sets p (3 * ((m + 1) * (n + 1))) (coordinates (flatten (runs g 0 (n + 1) 1 (n + 1) (m + 1)))) →
-    r ≡ zeroedFrom zeroFloat (2 * (3 * ((m + 1) * (n + 1)))) q → r ≡ filled zeroFloat (coordinates (flatten (gridLines g m n))) l
+    r ≡ zeroedFrom zero64 (2 * (3 * ((m + 1) * (n + 1)))) q → r ≡ filled zero64 (coordinates (flatten (gridLines g m n))) l
 points-drawn g m n l h ep eq er =
     let us : List Float = coordinates (flatten (runs g 0 1 (n + 1) (m + 1) (n + 1))) in
     let vs : List Float = coordinates (flatten (runs g 0 (n + 1) 1 (n + 1) (m + 1))) in
     let half : ℕ = 3 * ((m + 1) * (n + 1)) in
     let a : length us ≡ half = simp (length-coordinates, length-flatten-runs) (omega arith) in
     let b : length vs ≡ half = simp (length-coordinates, length-flatten-runs) (omega arith) in
-    rw (grid-lines, flatten-append, coordinates-append) (two-filled zeroFloat l us vs half (2 * half) a (omega arith) (omega arith) ep eq er)
+    rw (grid-lines, flatten-append, coordinates-append) (two-filled zero64 l us vs half (2 * half) a (omega arith) (omega arith) ep eq er)

@@ -10,8 +10,9 @@ use lib.Ieee.{Float}
 use lib.ListN.{length, getD, take, drop, replicate, length-append, length-replicate, take-append-drop, List·getD-append}
 use lib.Seq.{take-suc, take-all, take-at, drop-append-add, getD-append-add}
 use borrow.Author.Tests.{ltb-true, ltb-false}
+use Rattle.float.specs.Consts.{zero64}
 use Rattle.refusal.specs.declared.Check.the-variants.{Passed}
-use Rattle.lent.specs.Lent.{zeroFloat, filled}
+use Rattle.lent.specs.Lent.{filled}
 use Rattle.vector.specs.declared.Vector.{Vector}
 use Rattle.path.specs.GridPaths.{counting, alongU, alongV, gridLines, coordinates, startsFrom, pointCount, lineCount, pathsCheck, gridPaths}
 use Rattle.path.specs.Line.{lineStart, lineEnd, partOf, lineAt}
@@ -59,7 +60,7 @@ part-is-line (l ∷ ls) (suc k) zs h =
 
 module _ (ls : List (List Vector)) (points : List Float) (starts : List ℕ) (points-room : 3 * length (flatten ls) ≤ length points) (starts-room : length ls ≤ length starts) where
   drawnPoints : List Float
-  drawnPoints = filled zeroFloat (coordinates (flatten ls)) points
+  drawnPoints = filled zero64 (coordinates (flatten ls)) points
 
   drawnStarts : List ℕ
   drawnStarts = filled 0 (startsFrom 0 ls) starts
@@ -100,12 +101,12 @@ module _ (ls : List (List Vector)) (points : List Float) (starts : List ℕ) (po
 
   -- line k read back
   pub line-read : (k : ℕ) → k < length ls →
-      lineAt (filled zeroFloat (coordinates (flatten ls)) points) (filled 0 (startsFrom 0 ls) starts) (length (flatten ls)) (length ls) k ≡ coordinates (getD ls k [])
+      lineAt (filled zero64 (coordinates (flatten ls)) points) (filled 0 (startsFrom 0 ls) starts) (length (flatten ls)) (length ls) k ≡ coordinates (getD ls k [])
   unfolding lineAt drawnPoints drawnStarts
   line-read k h =
       let w : 3 * (before ls k + length (getD ls k [])) - 3 * before ls k ≡ 3 * length (getD ls k []) = omega arith in
       ap (partOf drawnPoints) (span-there drawnPoints drawnStarts (length (flatten ls)) (length ls) k (there k h))
-      ∙ rw (start-at k h, end-at k h, w) (part-is-line ls k (replicate (length points - length (coordinates (flatten ls))) zeroFloat) h)
+      ∙ rw (start-at k h, end-at k h, w) (part-is-line ls k (replicate (length points - length (coordinates (flatten ls))) zero64) h)
 
 -- The lines of a grid
 

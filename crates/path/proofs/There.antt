@@ -8,8 +8,8 @@ use lib.Dec.{leb, ltb}
 use lib.Ieee.{Float}
 use lib.ListN.{length}
 use borrow.Author.Tests.{ltb-true, leb-true, lt-ltb, le-leb}
+use Rattle.float.proofs.Tests.{and-both}
 use Rattle.refusal.specs.Refusals.{ok, refused}
-use Rattle.grid.proofs.Laws.{and-both}
 use Rattle.path.specs.declared.LineAnswer.{LineAnswer}
 use Rattle.path.specs.declared.LineAnswer.the-variants.{Span}
 use Rattle.path.specs.Line.{Ends, lineStart, lineEnd, isThere, lineSpan, partOf, lineAt, statedLine}

@@ -6,11 +6,12 @@ use mathlib.Core.List.{List, [], _∷_, _++_, map, flatten}
 use lib.Dec.{leb}
 use lib.ListN.{length}
 use lib.Ieee.{Float}
+use Rattle.float.specs.Consts.{zero64}
 use Rattle.refusal.specs.declared.Check.{Check}
 use Rattle.refusal.specs.declared.Check.the-variants.{Passed, Failed}
 use Rattle.refusal.specs.declared.Refusal.the-variants.{Room}
 use Rattle.refusal.specs.Refusals.{Answer, ok, refused, numberOf, unless}
-use Rattle.lent.specs.Lent.{zeroFloat, filled}
+use Rattle.lent.specs.Lent.{filled}
 use Rattle.vector.specs.declared.Vector.{Vector}
 use Rattle.grid.specs.Grid.{pointNumber, pointAt, gridCheck}
 use Rattle.path.specs.declared.GridPathsAnswer.{GridPathsAnswer}
@@ -76,7 +77,7 @@ abbrev pub drawnWhere : Check → List Float → ℕ → ℕ → List Float → 
 drawnWhere Passed g m n points starts =
     record {
       answer = ok (record { points = pointCount m n; lines = lineCount m n });
-      points = filled zeroFloat (coordinates (flatten (gridLines g m n))) points;
+      points = filled zero64 (coordinates (flatten (gridLines g m n))) points;
       starts = filled 0 (startsFrom 0 (gridLines g m n)) starts;
     }
 drawnWhere (Failed k) g m n points starts = record { answer = refused (numberOf k); points = points; starts = starts }

@@ -6,7 +6,8 @@ ghost use Prim.Native.Nat.{_+_, _*_, _≤_};
 ghost use mathlib.Core.List.{[], _∷_, _++_, flatten};
 ghost use lib.ListN.{length};
 ghost use lib.Seq.{sets};
-ghost use Rattle.lent.specs.Lent.{zeroFloat, filled};
+ghost use Rattle.float.specs.Consts.{zero64};
+ghost use Rattle.lent.specs.Lent.{filled};
 ghost use Rattle.path.specs.GridPaths.{gridLines, coordinates};
 ghost use Rattle.path.specs.Runs.{run, runs, spaced};
 
@@ -122,7 +123,7 @@ fn put_spaced(starts: &mut [usize], at: usize, first: usize, step: usize, lines:
 // The points of all lines, and zero past them.
 pub fn points(grid: &[f64], m: usize, n: usize, points: &mut [f64])
     requires { ⌜ (m ≤ 255) × (n ≤ 255) × (length (now grid) ≡ 3 * ((m + 1) * (n + 1))) × (6 * ((m + 1) * (n + 1)) ≤ length (now points)) ⌝ }
-    ensures { λ _. ⌜ now (points .exit) ≡ filled zeroFloat (coordinates (flatten (gridLines (now (grid .entry)) m n))) (now (points .entry)) ⌝ }
+    ensures { λ _. ⌜ now (points .exit) ≡ filled zero64 (coordinates (flatten (gridLines (now (grid .entry)) m n))) (now (points .entry)) ⌝ }
 {
     let us = m + 1;
     let vs = n + 1;

@@ -1,6 +1,6 @@
 -- Demand 3 for the seams that are found. A search tries offsets below the steps of its rows only, so a mapping that it finds has its row's steps
 -- and an offset below them; with that, 01's list of joinings is the one that the theorem on shapes is proved for. Assumes nothing.
-use Prim.Native.Nat.{ℕ, _+_, _*_, _≤_, _<_}
+use Prim.Native.Nat.{ℕ, _+_, _*_, _≤_}
 use mathlib.Core.Path.{_≡_, refl, ap}
 use mathlib.Core.Logic.{inl, inr}
 use mathlib.Core.List.{List}
@@ -12,34 +12,29 @@ use Rattle.cyclic.specs.declared.mapping.CyclicMapping.{CyclicMapping}
 use Rattle.cyclic.specs.declared.mapping.CyclicMapping.the-variants.{Forward, Reverse}
 use Rattle.cyclic.specs.declared.seam.Seam.{Seam}
 use Rattle.cyclic.specs.declared.seam.Seam.the-variants.{Joined, Unjoined}
-use Rattle.cyclic.specs.Mapping.{stepsOf, offsetOf}
+use Rattle.cyclic.specs.Mapping.{stepsOf}
 use Rattle.cyclic.specs.Mapping as mapping
 use Rattle.cyclic.specs.Search.{Row, rowOf, Closeness, searchRows}
 use Rattle.cyclic.proofs.Laws.{found-steps, found-below}
 use Rattle.surface.specs.Surface.{forward, inverse, Meets}
-use Rattle.surface.specs.Found.{uSearch, vSearch, ofMapping, surfaceWith, ForwardAtZero, CoveredJoining, SurfaceMeets}
+use Rattle.surface.specs.Found.{uSearch, vSearch, ofMapping, surfaceWith, ForwardAtZero, CoveredJoining, SurfaceMeets, Maps}
 use Rattle.surface.proofs.Covered.{Covered, neither, only-u, only-v, both-u, both-v}
 use Rattle.surface.proofs.Searches.{u-search, v-search}
 use Rattle.surface.proofs.Demand.{covered-meets}
 
 -- ---- what a search finds
 
--- a mapping has its row's steps, and an offset below them; None is as it is
-abbrev pub OfRow : ℕ → Seam → Type 0
-OfRow steps Unjoined = Unit {0}
-OfRow steps (Joined k) = (stepsOf k ≡ steps) × (offsetOf k < steps)
-
-found-of-row : (close : Closeness) (a b : Row) (steps : ℕ) → 1 ≤ steps → OfRow steps (searchRows close a b steps .seam)
+found-of-row : (close : Closeness) (a b : Row) (steps : ℕ) → 1 ≤ steps → Maps (searchRows close a b steps .seam) steps
 found-of-row close a b steps h = go (searchRows close a b steps .seam) refl
   where
-    go : (s : Seam) → searchRows close a b steps .seam ≡ s → OfRow steps s
+    go : (s : Seam) → searchRows close a b steps .seam ≡ s → Maps s steps
     go Unjoined e = tt
     go (Joined k) e = (found-steps close a b steps e, found-below close a b steps h e)
 
-pub u-of-row : (g : List Float) (m n : ℕ) → 1 ≤ n → OfRow n (uSearch g m n .seam)
+pub u-of-row : (g : List Float) (m n : ℕ) → 1 ≤ n → Maps (uSearch g m n .seam) n
 u-of-row g m n h = rw (u-search g m n h) (found-of-row allClose (rowOf g 0 1) (rowOf g (m * (n + 1)) 1) n h)
 
-pub v-of-row : (g : List Float) (m n : ℕ) → 1 ≤ m → OfRow m (vSearch g m n .seam)
+pub v-of-row : (g : List Float) (m n : ℕ) → 1 ≤ m → Maps (vSearch g m n .seam) m
 v-of-row g m n h = rw (v-search g m n h) (found-of-row allClose (rowOf g 0 (n + 1)) (rowOf g n (n + 1)) m h)
 
 -- the inverse image that a surface takes is the mapping's own
@@ -53,7 +48,7 @@ at-zero : (k : CyclicMapping) → ForwardAtZero k → ofMapping k ≡ forward 0
 at-zero (Forward o steps) e = ap forward e
 at-zero (Reverse o steps) e = absurd e
 
-pub covered : (m n : ℕ) (su sv : Seam) → OfRow n su → OfRow m sv → CoveredJoining su sv → Covered (surfaceWith m n su sv)
+pub covered : (m n : ℕ) (su sv : Seam) → Maps su n → Maps sv m → CoveredJoining su sv → Covered (surfaceWith m n su sv)
 covered m n Unjoined Unjoined p q c = neither refl refl
 covered m n (Joined (Forward o k)) Unjoined p q c = only-u c refl
 covered m n (Joined (Reverse o k)) Unjoined p q c = only-u c refl
@@ -65,7 +60,7 @@ covered m n (Joined (Forward o k)) (Joined j) p q (inr c) = both-u (p .1) (at-ze
 covered m n (Joined (Reverse o k)) (Joined j) p q (inr c) = both-u (omega (arith, c .0), p .1) (at-zero j (c .1))
 
 -- demand 3 of the surface that two seam answers make, found or given
-pub joining-meets : (m n : ℕ) (su sv : Seam) → 1 ≤ m → 1 ≤ n → OfRow n su → OfRow m sv → CoveredJoining su sv → Meets (surfaceWith m n su sv)
+pub joining-meets : (m n : ℕ) (su sv : Seam) → 1 ≤ m → 1 ≤ n → Maps su n → Maps sv m → CoveredJoining su sv → Meets (surfaceWith m n su sv)
 joining-meets m n su sv hm hn p q c = covered-meets (surfaceWith m n su sv) hm hn (covered m n su sv p q c)
 
 -- demand 3 of the surface of a grid, with the seams that are found in it

@@ -11,7 +11,7 @@ use lib.Dec.{eqb, ltb}
 use lib.ListN.{length}
 use borrow.Author.Tests.{eq-eqb, ne-eqb, ltb-true, ltb-false, lt-ltb}
 use Rattle.surface.specs.Surface.{Seam, reverse, reversed, Shape, slot, proper, triangles, Pair, pair, ordered, insert, triangleNumber, stepOn, process, flipped, lowU, highU, lowV, highV, wrapEnds}
-use Rattle.float.proofs.Tests.{and-both, cond-keeps}
+use Rattle.float.proofs.Tests.{and-both, cond-keeps, cond-case}
 use Rattle.cyclic.proofs.Mappings.{three}
 use Rattle.surface.proofs.Steps.{eqb-cases, Offset, laidOn, Meet, reverse-step}
 use Rattle.surface.proofs.Triangles.{number-below}
@@ -121,18 +121,14 @@ before-trans p q r (inl a) (inr b) = inl (omega arith)
 before-trans p q r (inr a) (inl b) = inl (omega arith)
 before-trans p q r (inr a) (inr b) = inr (omega arith)
 
-cond-case : (t : Bool) (P : List Pair → Type 0) (x y : List Pair) → (t ≡ true → P x) → (t ≡ false → P y) → P (cond t x y)
-cond-case true P x y f g = f refl
-cond-case false P x y f g = g refl
-
 insert-ascending : (p : Pair) (ps : List Pair) → Ascending ps → Ascending (insert p ps)
 insert-ascending p [] a = (λ q m. absurd (List·Memᴰ·not-nil m), tt)
 insert-ascending p (r ∷ rs) a =
     let below = insert-ascending p rs (a .1) in
-    cond-case (ltb (p .low) (r .low)) Ascending _ _ (λ e. front (inl (ltb-true (p .low) (r .low) e)))
-    (λ e₁. cond-case (ltb (r .low) (p .low)) Ascending _ _ (λ e. behind below (inl (ltb-true (r .low) (p .low) e)))
-    (λ e₂. cond-case (ltb (p .high) (r .high)) Ascending _ _ (λ e. front (inr (level e₁ e₂, ltb-true (p .high) (r .high) e)))
-    (λ e₃. cond-case (ltb (r .high) (p .high)) Ascending _ _ (λ e. behind below (inr (sym (level e₁ e₂), ltb-true (r .high) (p .high) e)))
+    cond-case Ascending (ltb (p .low) (r .low)) _ _ (λ e. front (inl (ltb-true (p .low) (r .low) e)))
+    (λ e₁. cond-case Ascending (ltb (r .low) (p .low)) _ _ (λ e. behind below (inl (ltb-true (r .low) (p .low) e)))
+    (λ e₂. cond-case Ascending (ltb (p .high) (r .high)) _ _ (λ e. front (inr (level e₁ e₂, ltb-true (p .high) (r .high) e)))
+    (λ e₃. cond-case Ascending (ltb (r .high) (p .high)) _ _ (λ e. behind below (inr (sym (level e₁ e₂), ltb-true (r .high) (p .high) e)))
     (λ e₄. a))))
   where
     level : ltb (p .low) (r .low) ≡ false → ltb (r .low) (p .low) ≡ false → p .low ≡ r .low
@@ -169,8 +165,8 @@ module _ (s : Shape) (m : Seam) (steps : ℕ) (low high : ℕ → ℕ) (P : ℕ 
       let rest = process s m steps low high n ps in
       let before : P n rest = process-keeps n ps p (λ y qs h. skip y qs (omega arith)) (λ y qs h. put y qs (omega arith)) in
       let i = low (stepOn m steps n) in
-      cond-case (ltb (stepOn m steps n) steps) (P (suc n)) _ _
-      (λ e. cond-case (proper (slot s i) && proper (slot s (high n))) (P (suc n)) _ _
+      cond-case (P (suc n)) (ltb (stepOn m steps n) steps) _ _
+      (λ e. cond-case (P (suc n)) (proper (slot s i) && proper (slot s (high n))) _ _
       (λ f. let g = and-both (proper (slot s i)) (proper (slot s (high n))) f in put n rest (omega arith) (ltb-true (stepOn m steps n) steps e) (g .0) (g .1) before)
       (λ f. skip n rest (omega arith) before))
       (λ e. skip n rest (omega arith) before)
@@ -182,10 +178,10 @@ module _ (s : Shape) (P : List Pair → Type 0) where
 
   flipped-keeps : P [] → Kept (s .su) (s .N) (lowU s) (highU s) → Kept (s .sv) (s .M) (lowV s) (highV s) → P (flipped s)
   unfolding flipped
-  flipped-keeps p us vs = cond-case (reversed (s .sv)) P _ _ (λ e. process-keeps s (s .sv) (s .M) (lowV s) (highV s) (λ k. P) (s .M) _ after-u (λ y qs h r. r) vs) (λ e. after-u)
+  flipped-keeps p us vs = cond-case P (reversed (s .sv)) _ _ (λ e. process-keeps s (s .sv) (s .M) (lowV s) (highV s) (λ k. P) (s .M) _ after-u (λ y qs h r. r) vs) (λ e. after-u)
     where
       after-u : P (cond (reversed (s .su)) (process s (s .su) (s .N) (lowU s) (highU s) (s .N) []) [])
-      after-u = cond-case (reversed (s .su)) P _ _ (λ e. process-keeps s (s .su) (s .N) (lowU s) (highU s) (λ k. P) (s .N) [] p (λ y qs h r. r) us) (λ e. p)
+      after-u = cond-case P (reversed (s .su)) _ _ (λ e. process-keeps s (s .su) (s .N) (lowU s) (highU s) (λ k. P) (s .N) [] p (λ y qs h r. r) us) (λ e. p)
 
 pub flipped-ascending : (s : Shape) → Ascending (flipped s)
 flipped-ascending s = flipped-keeps s Ascending tt (λ y qs h l e f a. insert-ascending _ qs a) (λ y qs h l e f a. insert-ascending _ qs a)

@@ -1,6 +1,6 @@
 -- The surface of a grid: the seams that the search finds in it, the joined surface that they make, and demand 3 of its lists (01, "Joining and
 -- triangles", "Joinings that demand 3 covers"). Assumes nothing.
-use Prim.Native.Nat.{ℕ, _+_}
+use Prim.Native.Nat.{ℕ, _+_, _<_}
 use mathlib.Core.Path.{_≡_}
 use mathlib.Core.Logic.{_⊎_}
 use mathlib.Core.List.{List}
@@ -12,7 +12,7 @@ use Rattle.cyclic.specs.declared.mapping.CyclicMapping.the-variants.{Forward, R
 use Rattle.cyclic.specs.declared.seam.Seam.{Seam}
 use Rattle.cyclic.specs.declared.seam.Seam.the-variants.{Joined, Unjoined}
 use Rattle.cyclic.specs.declared.seam.SeamSearch.{SeamSearch}
-use Rattle.cyclic.specs.Mapping.{offsetOf}
+use Rattle.cyclic.specs.Mapping.{offsetOf, stepsOf}
 use Rattle.cyclic.specs.Search.{Row, search}
 use Rattle.surface.specs.Surface as surface
 
@@ -38,6 +38,11 @@ ofMapping (Reverse o steps) = surface.reverse o
 abbrev pub seamOf : Seam → surface.Seam
 seamOf Unjoined = surface.unjoined
 seamOf (Joined k) = ofMapping k
+
+-- a mapping of rows of so many steps: it has their steps, and an offset below them; None is as it is
+abbrev pub Maps : Seam → ℕ → Type 0
+Maps Unjoined steps = Unit {0}
+Maps (Joined k) steps = (stepsOf k ≡ steps) × (offsetOf k < steps)
 
 -- the surface that two seam answers make of a grid with M and N steps
 abbrev pub surfaceWith : ℕ → ℕ → Seam → Seam → surface.Shape

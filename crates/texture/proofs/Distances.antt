@@ -12,22 +12,22 @@ use lib.Pow.{pow-pos}
 use lib.Ieee.Exact.{HasValue, round-exact}
 use lib.Ieee.Positive.{num, den, positive, positive-of-value, cross→le, between, mul-at, mul-mono}
 use borrow.Author.Tests.{le-leb}
-use Rattle.float.specs.Consts.{zero64, one64, sqrt2}
+use Rattle.float.specs.Consts.{zero64, one64, sqrt2, half64}
 use Rattle.float.specs.Sign.{isFinite, negative, atMost}
 use Rattle.float.specs.Order.{larger}
 use Rattle.float.specs.Cast.{natFloat}
-use Rattle.float.proofs.Tests.{cond-keeps}
+use Rattle.float.proofs.Tests.{cond-keeps, and-both}
 use Rattle.float.proofs.Bounds.{nat-value, nat-le, at-most-finite}
 use Rattle.float.proofs.Differences.{sub-self}
 use Rattle.refusal.specs.declared.Check.the-variants.{Passed}
 use Rattle.refusal.specs.declared.Refusal.the-variants.{Direction, NotThere}
 use Rattle.refusal.specs.Refusals.{ok, unless}
-use Rattle.grid.proofs.Laws.{Stepped, steps-known, and-both, unless-passed}
+use Rattle.grid.proofs.Laws.{Stepped, steps-known, unless-passed}
 use Rattle.edges.specs.Param.{param}
 use Rattle.edges.specs.declared.point.ParamPoint.{ParamPoint}
 use Rattle.texture.specs.declared.plan.ParametricSurfaceTexture.{ParametricSurfaceTexture}
 use Rattle.texture.specs.declared.plan.ParametricSurfaceTexture.the-variants.{Swirl, Spiral}
-use Rattle.texture.specs.Plan.{half, centre, textureRadius, planCheck, Plan, planOf, plan}
+use Rattle.texture.specs.Plan.{centre, textureRadius, planCheck, Plan, planOf, plan}
 use Rattle.texture.specs.Sample.{distanceOf, directionFits, pointOf, isThere, samplePoint}
 use Rattle.texture.proofs.Plans.{answered, checks, plan-passed, plan-ok}
 use Rattle.texture.proofs.Laws.{swirl-counts, spiral-counts}
@@ -44,7 +44,7 @@ small n h = le-trans h (lit≤ tt)
 centre-is : (k : ℕ) → 1 ≤ k → k ≤ 255 → centre k ≡ round binary64 false k 2
 centre-is k lo hi =
     simp mul-one at
-    (mul-at binary64 (natFloat k) half k 1 1 2 (nat-positive k lo (small k hi)) (unfold ofBits in tt) (lit< tt) (lit< tt) (nat-value k (small k hi)) (unfold ofBits in (refl, refl)))
+    (mul-at binary64 (natFloat k) half64 k 1 1 2 (nat-positive k lo (small k hi)) (unfold ofBits in tt) (lit< tt) (lit< tt) (nat-value k (small k hi)) (unfold ofBits in (refl, refl)))
 
 centre-value : (k : ℕ) → k ≤ 255 → HasValue (round binary64 false k 2) false k 2
 centre-value k hi =
@@ -76,7 +76,7 @@ grows lo x hi c p q r i =
     (mul-mono binary64 lo x c c p above r r (i .0) k, mul-mono binary64 x hi c c above q r r (i .1) k)
 
 abbrev halved : Float → Float
-halved x = mul binary64 x half
+halved x = mul binary64 x half64
 
 -- finite and above 0: the radius of 1 step is, and so is that of 255
 pub radius-positive : (m n : ℕ) → Stepped m n → T (positive (textureRadius m n))
@@ -84,7 +84,7 @@ unfolding textureRadius
 radius-positive m n s =
     let x = larger (natFloat m) (natFloat n) in
     let steps = larger-keeps (λ z. Inside (natFloat 1) z (natFloat 255)) (natFloat m) (natFloat n) (nat-inside m (s .m-least) (s .m-most)) (nat-inside n (s .n-least) (s .n-most)) in
-    let halves = grows (natFloat 1) x (natFloat 255) half (unfold natFloat ofInt in tt) (unfold natFloat ofInt in tt) (unfold ofBits in tt) steps in
+    let halves = grows (natFloat 1) x (natFloat 255) half64 (unfold natFloat ofInt in tt) (unfold natFloat ofInt in tt) (unfold ofBits in tt) steps in
     let radii = grows (halved (natFloat 1)) (halved x) (halved (natFloat 255)) sqrt2 (unfold natFloat ofInt mul ofBits in tt) (unfold natFloat ofInt mul ofBits in tt) (unfold sqrt2 ofBits in tt) halves in
     between (mul binary64 (halved (natFloat 1)) sqrt2) (mul binary64 (halved x) sqrt2) (mul binary64 (halved (natFloat 255)) sqrt2)
     (unfold natFloat ofInt mul sqrt2 ofBits in tt) (unfold natFloat ofInt mul sqrt2 ofBits in tt) (radii .0) (radii .1)

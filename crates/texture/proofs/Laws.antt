@@ -9,6 +9,7 @@ use lib.IntN.{pos, negℤ}
 use lib.Dec.{lit≤}
 use lib.Ieee.{Float, nan, inf, fin, up, down, lt, le, ofInt, ofBits, isNan, toUnsigned}
 use borrow.Author.Tests.{leb-true, le-leb}
+use Rattle.float.proofs.Tests.{and-both}
 use Rattle.float.specs.Consts.{zero64, one64}
 use Rattle.float.specs.Order.{larger}
 use Rattle.float.specs.Whole.{over, floorZ}
@@ -18,7 +19,6 @@ use Rattle.float.proofs.Bounds.{nat-not-nan, nat-nonneg, nat-le, floor-at-least
 use Rattle.float.proofs.Range.{counted}
 use Rattle.refusal.specs.declared.Check.the-variants.{Passed}
 use Rattle.refusal.specs.Refusals.{ok}
-use Rattle.grid.proofs.Laws.{and-both}
 use Rattle.texture.specs.declared.plan.ParametricSurfaceTexture.{ParametricSurfaceTexture}
 use Rattle.texture.specs.declared.plan.ParametricSurfaceTexture.the-variants.{Grid, Swirl, Spiral}
 use Rattle.texture.specs.Plan.{two, swirlRays, radialSampleCount, spiralSampleCount, stepsAlong, raysOf, samplesPerRay, textureFits, maxCount, Plan, planOf, plan}

@@ -4,7 +4,7 @@ use mathlib.Core.Bool.{Bool, true, _&&_, cond}
 use Prim.Native.Nat.{ℕ, max}
 use lib.Dec.{leb}
 use lib.Ieee.{Float, binary64, ofBits, lt, le, add, mul, div, toUnsigned}
-use Rattle.float.specs.Consts.{eps, tau, sqrt2, zero64, one64}
+use Rattle.float.specs.Consts.{eps, tau, sqrt2, zero64, one64, half64}
 use Rattle.float.specs.Sign.{absolute, isFinite, atMost}
 use Rattle.float.specs.Order.{larger, clamped}
 use Rattle.float.specs.Whole.{ceiled}
@@ -19,9 +19,6 @@ use Rattle.texture.specs.declared.plan.ParametricSurfaceTexture.the-vari
 use Rattle.texture.specs.declared.plan.PlanAnswer.{PlanAnswer}
 use Rattle.texture.specs.declared.plan.PlanAnswer.the-variants as answers
 
-abbrev pub half : Float
-half = ofBits binary64 0x3FE0000000000000
-
 abbrev pub two : Float
 two = ofBits binary64 0x4000000000000000
 
@@ -33,11 +30,11 @@ twentieth = ofBits binary64 0x3FA999999999999A
 
 -- the middle of an axis of n steps
 abbrev pub centre : ℕ → Float
-centre n = mul binary64 (natFloat n) half
+centre n = mul binary64 (natFloat n) half64
 
 -- half the longer axis, times √2
 unfoldable pub textureRadius : ℕ → ℕ → Float
-textureRadius m n = mul binary64 (mul binary64 (larger (natFloat m) (natFloat n)) half) sqrt2
+textureRadius m n = mul binary64 (mul binary64 (larger (natFloat m) (natFloat n)) half64) sqrt2
 
 -- "Non-finite spacing, or at most EPS, becomes 1.0"
 unfoldable pub textureSpacing : Float → Float
@@ -51,7 +48,7 @@ upFrom least x = larger (ceiled x) least
 
 -- steps of at most `spacing`, brought between 0.05 and 0.5, along a length; at least 2
 unfoldable pub stepsAlong : Float → Float → Float
-stepsAlong length spacing = upFrom two (div binary64 length (clamped spacing twentieth half))
+stepsAlong length spacing = upFrom two (div binary64 length (clamped spacing twentieth half64))
 
 -- ---- `paths_swirl`
 
@@ -72,7 +69,7 @@ spiralTurns m n spacing = upFrom one64 (div binary64 (textureRadius m n) spacing
 -- along the radius and all turns, at half of it on average
 unfoldable pub spiralSampleCount : ℕ → ℕ → Float → Float
 spiralSampleCount m n spacing =
-    stepsAlong (add binary64 (textureRadius m n) (mul binary64 (mul binary64 (mul binary64 (textureRadius m n) tau) (spiralTurns m n spacing)) half)) spacing
+    stepsAlong (add binary64 (textureRadius m n) (mul binary64 (mul binary64 (mul binary64 (textureRadius m n) tau) (spiralTurns m n spacing)) half64)) spacing
 
 -- ---- the plan
 

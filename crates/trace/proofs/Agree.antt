@@ -8,8 +8,9 @@ use native.Mathlib.Omega.{arith}
 use lib.Dec.{ltb, leb}
 use lib.ListN.{length}
 use lib.Ieee.{Float}
+use Rattle.float.specs.Consts.{zero64}
 use Rattle.refusal.specs.declared.Refusal.the-variants.{Full}
-use Rattle.lent.specs.Lent.{zeroFloat, filled, zeroedFrom}
+use Rattle.lent.specs.Lent.{filled, zeroedFrom}
 use Rattle.lent.proofs.Laws.{zeroed-filled}
 use Rattle.edges.specs.Events.{sortedEdgeEvents}
 use Rattle.crossing.specs.declared.Crossing.{Crossing}
@@ -98,10 +99,10 @@ linesIn (Stop k) = 0
 -- what the open call is left to do: zero each list past its count
 pub record Ends (t : Traced) (r : Penned) (p : List Float) (s d : List ℕ) (f : List Float) : Type 0 where
   pub answer : statedTrace (answerOf r) ≡ t .answer
-  pub points : zeroedFrom zeroFloat (3 * countIn r) p ≡ t .after .points
+  pub points : zeroedFrom zero64 (3 * countIn r) p ≡ t .after .points
   pub starts : zeroedFrom 0 (linesIn r) s ≡ t .after .starts
   pub sides : zeroedFrom 0 (2 * countIn r) d ≡ t .after .sides
-  pub fractions : zeroedFrom zeroFloat (countIn r) f ≡ t .after .fractions
+  pub fractions : zeroedFrom zero64 (countIn r) f ≡ t .after .fractions
 
 -- a list whose front holds these points, zeroed past them
 zeroed-turn : {A : Type 0} (z : A) (w : ℕ) (f : Crossing → List A) (wide : (c : Crossing) → length (f c) ≡ w) (l lent : List A) (cs : List Crossing) (k : ℕ)
@@ -118,18 +119,18 @@ ended l (both-on {s = g} {t = d} h) e =
     let n : g .pen .count ≡ length (d .drawn) = omega (arith, h .count, ap length e) in
     record {
       answer = rw (n, h .lines);
-      points = zeroed-turn zeroFloat 3 pointOf (λ c. refl) (g .points) (l .points) (d .drawn) (3 * g .pen .count) (h .sized .points) (rw all-drawn at (h .points)) (omega arith);
+      points = zeroed-turn zero64 3 pointOf (λ c. refl) (g .points) (l .points) (d .drawn) (3 * g .pen .count) (h .sized .points) (rw all-drawn at (h .points)) (omega arith);
       starts = rw (h .lines) (zeroed-filled 0 (d .starts) (g .starts) (l .starts) (h .sized .starts) (h .starts));
       sides = zeroed-turn 0 2 sideOf (λ c. refl) (g .sides) (l .sides) (d .drawn) (2 * g .pen .count) (h .sized .sides) (rw all-drawn at (h .sides)) (omega arith);
-      fractions = zeroed-turn zeroFloat 1 fractionOf (λ c. refl) (g .fractions) (l .fractions) (d .drawn) (g .pen .count) (h .sized .fractions) (rw all-drawn at (h .fractions)) (omega arith);
+      fractions = zeroed-turn zero64 1 fractionOf (λ c. refl) (g .fractions) (l .fractions) (d .drawn) (g .pen .count) (h .sized .fractions) (rw all-drawn at (h .fractions)) (omega arith);
     }
 ended l (both-off {s = g} h) e =
     record {
       answer = refl;
-      points = zeroed-turn zeroFloat 3 pointOf (λ c. refl) (g .points) (l .points) [] 0 (h .points) (unfold inTurn in refl) refl;
+      points = zeroed-turn zero64 3 pointOf (λ c. refl) (g .points) (l .points) [] 0 (h .points) (unfold inTurn in refl) refl;
       starts = zeroed-filled 0 [] (g .starts) (l .starts) (h .starts) refl;
       sides = zeroed-turn 0 2 sideOf (λ c. refl) (g .sides) (l .sides) [] 0 (h .sides) (unfold inTurn in refl) refl;
-      fractions = zeroed-turn zeroFloat 1 fractionOf (λ c. refl) (g .fractions) (l .fractions) [] 0 (h .fractions) (unfold inTurn in refl) refl;
+      fractions = zeroed-turn zero64 1 fractionOf (λ c. refl) (g .fractions) (l .fractions) [] 0 (h .fractions) (unfold inTurn in refl) refl;
     }
 
 -- THE LAW: from what the inner walk ensures to what the open call promises

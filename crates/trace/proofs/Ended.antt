@@ -5,10 +5,11 @@ use Prim.Native.Nat.{ℕ, _*_, _≤_}
 use native.Mathlib.Omega.{arith}
 use lib.ListN.{length}
 use lib.Ieee.{Float}
+use Rattle.float.specs.Consts.{zero64}
 use Rattle.refusal.specs.declared.Check.{Check}
 use Rattle.refusal.specs.declared.Check.the-variants.{Passed, Failed}
 use Rattle.refusal.specs.declared.Refusal.{Refusal}
-use Rattle.lent.specs.Lent.{zeroFloat, zeroedFrom}
+use Rattle.lent.specs.Lent.{zeroedFrom}
 use Rattle.crossing.specs.Crossing.{GridFits}
 use Rattle.page.specs.declared.Pen.{Pen}
 use Rattle.page.specs.declared.Penned.{Penned}
@@ -49,8 +50,8 @@ module _ (g : List Float) (m n : ℕ) (pairs : List Float) (marks : List ℕ) wh
         flat-is = rw (← ec, ep)
 
         -- the lists that a walk left, zeroed past its counts
-        pub zeroed : {o : Penned} {p' : List Float} {s' d' : List ℕ} {f' : List Float} → r ≡ o → p' ≡ zeroedFrom zeroFloat (3 * countIn o) p → s' ≡ zeroedFrom 0 (linesIn o) s →
-            d' ≡ zeroedFrom 0 (2 * countIn o) d → f' ≡ zeroedFrom zeroFloat (countIn o) f → Traces (traceFlat g m n pairs marks l) (answerOf o) p' s' d' f'
+        pub zeroed : {o : Penned} {p' : List Float} {s' d' : List ℕ} {f' : List Float} → r ≡ o → p' ≡ zeroedFrom zero64 (3 * countIn o) p → s' ≡ zeroedFrom 0 (linesIn o) s →
+            d' ≡ zeroedFrom 0 (2 * countIn o) d → f' ≡ zeroedFrom zero64 (countIn o) f → Traces (traceFlat g m n pairs marks l) (answerOf o) p' s' d' f'
         zeroed {o} eo zp zs zd zf =
             let e : Ends (finished (drawingOf g m n pairs marks (roomOf l)) l) o p s d f = rw eo at (trace-ends l g m n pairs marks u) in
             rw flat-is (record { answer = e .answer; points = zp ∙ e .points; starts = zs ∙ e .starts; sides = zd ∙ e .sides; fractions = zf ∙ e .fractions })

@@ -4,7 +4,7 @@ use mathlib.Core.Path.{_≡_, ap}
 use mathlib.Core.List.{[], _∷_}
 use lib.Ieee.{binary64, ofBits, neg}
 use Rattle.refusal.specs.Refusals.{ok}
-use Rattle.float.specs.Consts.{eps, zero64, one64}
+use Rattle.float.specs.Consts.{eps, zero64, one64, half64}
 use Rattle.cyclic.specs.declared.mapping.CyclicMapping.the-variants.{Forward, Reverse}
 use Rattle.cyclic.specs.declared.seam.Seam.the-variants.{Joined, Unjoined}
 use Rattle.cyclic.specs.Mapping.{mapIndex, mapIndexInv}
@@ -18,7 +18,7 @@ use Rattle.edges.specs.declared.event.ParamEdge.the-variants.{U, «V», Diagona
 use Rattle.edges.specs.Param.{param}
 use Rattle.edges.specs.Events.{event, sortedEdgeEvents}
 use Rattle.edges.specs.Table as events
-use Rattle.edges.specs.Table.{quarter, half, three-quarters, minus-half, minus-zero}
+use Rattle.edges.specs.Table.{quarter, three-quarters, minus-half, minus-zero}
 use Rattle.crossing.specs.declared.StepIndex.the-variants.{At, Nothing}
 use Rattle.crossing.specs.Crossing.{stepIndex}
 use Rattle.crossing.specs.Table as crossing
@@ -67,5 +67,5 @@ pub along-u :
 along-u = (events.along-u, ap (λ (t : Traced). t .after .sides) traces.along-u, ap (λ (t : Traced). t .after .fractions) traces.along-u)
 
 -- "M=N=1, (0, 0) to (0.5, −0.5): first event V(0) at −0, not U(0)." It is the only one: U(0) at 0 is close to it, and dropped.
-pub minus-zero-first : sortedEdgeEvents 1 1 (param zero64 zero64) (param half minus-half) ≡ event minus-zero («V» 0) ∷ []
+pub minus-zero-first : sortedEdgeEvents 1 1 (param zero64 zero64) (param half64 minus-half) ≡ event minus-zero («V» 0) ∷ []
 minus-zero-first = events.minus-zero-first

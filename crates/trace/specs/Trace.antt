@@ -6,11 +6,12 @@ use Prim.Native.Nat.{ℕ, _*_}
 use lib.Dec.{eqb, leb}
 use lib.ListN.{length}
 use lib.Ieee.{Float, binary64, ofBits}
+use Rattle.float.specs.Consts.{zero64}
 use Rattle.refusal.specs.declared.Check.{Check}
 use Rattle.refusal.specs.declared.Check.the-variants.{Passed, Failed}
 use Rattle.refusal.specs.declared.Refusal.the-variants.{Length, Mark, Sample}
 use Rattle.refusal.specs.Refusals.{Answer, ok, refused, numberOf, unless, andThen}
-use Rattle.lent.specs.Lent.{zeroFloat, filled}
+use Rattle.lent.specs.Lent.{filled}
 use Rattle.float.specs.Sign.{atMost}
 use Rattle.grid.specs.Grid.{gridCheck}
 use Rattle.crossing.specs.declared.Crossing.{Crossing}
@@ -86,8 +87,8 @@ lists p s d f = record { points = p; starts = s; sides = d; fractions = f }
 -- the lists after these points and starts: zero past them
 abbrev pub listsWith : List Crossing → List ℕ → Lists → Lists
 listsWith cs ss l =
-    lists (filled zeroFloat (inTurn pointOf cs) (l .points)) (filled 0 ss (l .starts)) (filled 0 (inTurn sideOf cs) (l .sides))
-    (filled zeroFloat (inTurn fractionOf cs) (l .fractions))
+    lists (filled zero64 (inTurn pointOf cs) (l .points)) (filled 0 ss (l .starts)) (filled 0 (inTurn sideOf cs) (l .sides))
+    (filled zero64 (inTurn fractionOf cs) (l .fractions))
 
 -- an answer and the four lists after a call
 pub record Traced : Type 0 where

@@ -9,7 +9,8 @@ use refusal::Refusal;
 ghost use mathlib.Core.Path.{_≡_};
 ghost use Prim.Native.Nat.{_*_, _≤_};
 ghost use lib.ListN.{length};
-ghost use Rattle.lent.specs.Lent.{zeroFloat, zeroedFrom};
+ghost use Rattle.float.specs.Consts.{zero64};
+ghost use Rattle.lent.specs.Lent.{zeroedFrom};
 ghost use Rattle.trace.specs.Trace.{lists, traceFlat, Traces};
 ghost use Rattle.trace.specs.Demand.{Demand3};
 
@@ -29,10 +30,10 @@ fn zero_past(
     lines: usize,
 )
     requires { ⌜ 3 * count ≤ length (now points) ⌝ }
-    ensures { λ _. ⌜ (now (points .exit) ≡ zeroedFrom zeroFloat (3 * count) (now (points .entry)))
+    ensures { λ _. ⌜ (now (points .exit) ≡ zeroedFrom zero64 (3 * count) (now (points .entry)))
         × (now (starts .exit) ≡ zeroedFrom 0 lines (now (starts .entry)))
         × (now (sides .exit) ≡ zeroedFrom 0 (2 * count) (now (sides .entry)))
-        × (now (fractions .exit) ≡ zeroedFrom zeroFloat count (now (fractions .entry))) ⌝ }
+        × (now (fractions .exit) ≡ zeroedFrom zero64 count (now (fractions .entry))) ⌝ }
 {
     zero_floats(points, 3 * count);
     zero_numbers(starts, lines);

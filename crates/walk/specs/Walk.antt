@@ -3,9 +3,9 @@
 use mathlib.Core.Bool.{Bool, _||_, cond}
 use mathlib.Core.List.{List, [], _∷_}
 use Prim.Native.Nat.{ℕ}
-use lib.Ieee.{Float, binary64, ofBits, lt, add, mul}
+use lib.Ieee.{Float, binary64, lt, add, mul}
 use Rattle.refusal.specs.declared.Refusal.the-variants as refusals
-use Rattle.float.specs.Consts.{eps, zero64, one64}
+use Rattle.float.specs.Consts.{eps, zero64, one64, half64}
 use Rattle.edges.specs.Param.{lerp, paramInBounds}
 use Rattle.edges.specs.Events.{sortedEdgeEvents}
 use Rattle.edges.specs.declared.point.ParamPoint.{ParamPoint}
@@ -16,12 +16,9 @@ use Rattle.crossing.specs.declared.EdgePoint.the-variants.{On, NoStep}
 use Rattle.crossing.specs.Crossing.{edgePoint}
 use Rattle.page.specs.Step.{Step, on, off, follow}
 
-abbrev pub half : Float
-half = ofBits binary64 0x3FE0000000000000
-
 -- the middle between two lambdas
 abbrev pub middle : Float → Float → Float
-middle x y = mul binary64 (add binary64 x y) half
+middle x y = mul binary64 (add binary64 x y) half64
 
 -- whether the step is inside the grid before an event at l, the event before it at `previous`
 unfoldable pub beforeInside : ℕ → ℕ → ParamPoint → ParamPoint → Float → Float → Bool

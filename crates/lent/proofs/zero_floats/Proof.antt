@@ -3,13 +3,13 @@ use Prim.Native.Nat.{_-_}
 use native.Mathlib.Omega.{arith}
 use lib.ListN.{length, length-set}
 use borrow.Author.Needs.{needs}
-use Rattle.lent.specs.Lent.{zeroFloat}
+use Rattle.float.specs.Consts.{zero64}
 use Rattle.lent.proofs.Laws.{Zeroing, zeroing-again, zeroing-done}
 use Rattle.lent.proofs.zero_floats.Statement.{statement}
 use Rattle.lent.proofs.zero_floats.Tie as tie
 
 abbrev Inv-loop : tie.InvT-loop
-Inv-loop list₀ from i₀ list i = Zeroing zeroFloat from list₀ i list
+Inv-loop list₀ from i₀ list i = Zeroing zero64 from list₀ i list
 
 abbrev μ-loop : tie.MeasureT-loop
 μ-loop list₀ from i₀ list i = length list - i
@@ -18,10 +18,10 @@ loop-less : tie.Need-loop-less Inv-loop μ-loop
 loop-less c = simp length-set (omega arith)
 
 loop-again : tie.Need-loop-again Inv-loop μ-loop
-loop-again c = zeroing-again zeroFloat (c .before .loop .inv) (omega arith)
+loop-again c = zeroing-again zero64 (c .before .loop .inv) (omega arith)
 
 returns : tie.Need-returns Inv-loop μ-loop
-returns c = zeroing-done zeroFloat (c .before .loop .inv) (omega arith)
+returns c = zeroing-done zero64 (c .before .loop .inv) (omega arith)
 
 pub zero-floats-spec : {M : Type 1} → statement M
 zero-floats-spec =
