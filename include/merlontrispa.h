@@ -1,9 +1,9 @@
 /*
  * Merlontrispa: verified surfaces, seams and pen lines for pen plotters.
  *
- * The functions of target/staticlib/libexports.a, which `rt staticlib exports` writes. Each is
+ * The functions of target/staticlib/libmerlontrispa.a, which `rt staticlib merlontrispa` writes. Each is
  * proved to end with an answer for every input, to read and write nothing past a list, and to
- * answer what its definition in crates/exports/specs says, to the last bit.
+ * answer what its definition in crates/merlontrispa/specs says, to the last bit.
  *
  * Grid. A surface is sampled in m steps of u and n steps of v, each 1 to 255. Point (u, v), u from
  * 0 to m and v from 0 to n, has the number u * (n + 1) + v. The grid is one list of 3 * (m + 1) *
@@ -25,7 +25,7 @@
  * at once, if none touches a list that another's call writes. The numbers are IEEE 754 binary64
  * under the default environment: round to nearest, subnormal numbers kept.
  *
- * Link: cc program.c target/staticlib/libexports.a
+ * Link: cc program.c target/staticlib/libmerlontrispa.a
  */
 #ifndef MERLONTRISPA_H
 #define MERLONTRISPA_H

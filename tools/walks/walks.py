@@ -1,6 +1,6 @@
 #!/usr/bin/env python3
 """Writes the proofs of the functions that take a slice of records, which the borrow checker does not cover:
-`records::flatten`, `records::trace_samples` and `exports::samples::mt_trace_samples`.
+`records::flatten`, `records::trace_samples` and `merlontrispa::samples::mt_trace_samples`.
 
     tools/walks/walks.py
 
@@ -637,7 +637,7 @@ def main():
         "CONV-ASKS": asked([], ["answer"]),
         "WALK": mt_trace_samples_walk(),
     }
-    write("exports/proofs/samples/mt_trace_samples", entry("known-rec known-conv", mt_trace_samples_walks))
+    write("merlontrispa/proofs/samples/mt_trace_samples", entry("known-rec known-conv", mt_trace_samples_walks))
 
 
 if __name__ == "__main__":

@@ -1,4 +1,4 @@
-//! The functions of `crates/exports`, as C sees them. All `unsafe` of this workspace is here.
+//! The functions of `crates/merlontrispa`, as C sees them. All `unsafe` of this workspace is here.
 //!
 //! A `safe fn` takes and hands back numbers only, so that no argument can break it. A function that
 //! takes a slice takes its pointer and its length, and has its safe form below the declarations.

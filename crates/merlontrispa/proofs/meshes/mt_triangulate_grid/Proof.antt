@@ -1,0 +1,15 @@
+-- `mesh_to_c` is given what `triangulate_grid` answers, the lists are those that it leaves, and what it says of the surface is passed on.
+use borrow.Author.Needs.{needs}
+use Rattle.merlontrispa.proofs.Answers.{hands}
+use Rattle.merlontrispa.proofs.meshes.mt_triangulate_grid.Statement.{statement}
+use Rattle.merlontrispa.proofs.meshes.mt_triangulate_grid.Tie as tie
+
+returns : tie.Need-returns
+returns c =
+    let e = c .before .before .before .before .before .triangulate-grid .ensures in
+    (hands (c .mesh-to-c .ensures) (e .0), e .1)
+
+pub mt-triangulate-grid-spec : {M : Type 1} → statement M
+mt-triangulate-grid-spec =
+    tie.close
+    (tie.spec (λ c κs. search needs) (λ c κs. search needs) (λ c. search needs) (λ c. search needs) returns)

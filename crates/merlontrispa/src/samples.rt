@@ -1,0 +1,28 @@
+// The trace of samples that are a list of records.
+use crate::lines::PathsAnswer;
+use crate::traces::trace_to_c;
+use records::Sample;
+use records::trace_samples;
+ghost use Rattle.trace.specs.Demand.{Demand3};
+ghost use Rattle.trace.specs.Trace.{lists, traceFlat};
+ghost use Rattle.records.specs.Records.{pairsOf, marksOf};
+ghost use Rattle.merlontrispa.specs.Traces.{Draws};
+
+#[no_mangle]
+pub extern "C" fn mt_trace_samples(
+    grid: &[f64],
+    m: usize,
+    n: usize,
+    samples: &[Sample],
+    points: &mut [f64],
+    starts: &mut [usize],
+    sides: &mut [usize],
+    fractions: &mut [f64],
+) -> PathsAnswer
+    ensures answer { λ r. ⌜ Draws (traceFlat (now (grid .entry)) m n (pairsOf (now (samples .entry))) (marksOf (now (samples .entry)))
+        (lists (now (points .entry)) (now (starts .entry)) (now (sides .entry)) (now (fractions .entry)))) r
+        (now (points .exit)) (now (starts .exit)) (now (sides .exit)) (now (fractions .exit)) ⌝ }
+    ensures demand { λ _. ⌜ Demand3 (now (grid .entry)) m n ⌝ }
+{
+    trace_to_c(trace_samples(grid, m, n, samples, points, starts, sides, fractions))
+}

@@ -1,0 +1,44 @@
+// The trace of flat samples.
+use crate::lines::PathsAnswer;
+use trace::flat::Trace;
+ghost use mathlib.Core.Path.{_≡_};
+ghost use Rattle.trace.specs.Demand.{Demand3};
+ghost use Rattle.trace.specs.Trace.{lists, statedTrace, traceFlat};
+ghost use Rattle.merlontrispa.specs.Traces.{traceAnswer, Draws};
+
+pub fn trace_to_c(answer: Trace) -> PathsAnswer
+    ensures { λ r. ⌜ r ≡ traceAnswer (statedTrace answer) ⌝ }
+{
+    match answer {
+        Trace::Drawn(points, lines) => PathsAnswer {
+            refusal: 0,
+            points,
+            lines,
+        },
+        Trace::Refused(refused) => PathsAnswer {
+            refusal: refused.number(),
+            points: 0,
+            lines: 0,
+        },
+    }
+}
+
+#[no_mangle]
+pub extern "C" fn mt_trace_flat(
+    grid: &[f64],
+    m: usize,
+    n: usize,
+    pairs: &[f64],
+    marks: &[u8],
+    points: &mut [f64],
+    starts: &mut [usize],
+    sides: &mut [usize],
+    fractions: &mut [f64],
+) -> PathsAnswer
+    ensures answer { λ r. ⌜ Draws (traceFlat (now (grid .entry)) m n (now (pairs .entry)) (now (marks .entry))
+        (lists (now (points .entry)) (now (starts .entry)) (now (sides .entry)) (now (fractions .entry)))) r
+        (now (points .exit)) (now (starts .exit)) (now (sides .exit)) (now (fractions .exit)) ⌝ }
+    ensures demand { λ _. ⌜ Demand3 (now (grid .entry)) m n ⌝ }
+{
+    trace_to_c(trace::flat::trace_flat(grid, m, n, pairs, marks, points, starts, sides, fractions))
+}
