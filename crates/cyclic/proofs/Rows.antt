@@ -11,7 +11,7 @@ use lib.Dec.{eqb, leb}
 use lib.Ieee.{Float}
 use lib.ListN.{length}
 use borrow.Author.Tests.{lt-ltb, le-ltb, leb-true, eq-eqb, ne-eqb}
-use Rattle.float.proofs.Tests.{and-both}
+use Rattle.basics.proofs.Tests.{and-both}
 use Rattle.vector.specs.Vectors.{allClose}
 use Rattle.grid.specs.Grid.{pointAt, coordinatesFit}
 use Rattle.grid.proofs.Laws.{unless-passed}

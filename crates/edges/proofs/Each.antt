@@ -8,7 +8,7 @@ use lib.ListN.{length, getD, length-append}
 use lib.Ieee.{Float}
 use Rattle.float.specs.Consts.{zero64, one64}
 use Rattle.float.specs.Order.{totalOrder}
-use Rattle.float.proofs.Tests.{cond-keeps}
+use Rattle.basics.proofs.Tests.{cond-keeps}
 use Rattle.edges.specs.declared.point.ParamPoint.{ParamPoint}
 use Rattle.edges.specs.declared.point.Axis.{Axis}
 use Rattle.edges.specs.declared.point.Axis.the-variants.{AxisU, AxisV}

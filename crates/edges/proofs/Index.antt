@@ -14,7 +14,7 @@ use lib.Ieee.{Float, binary64, sub}
 use Rattle.float.specs.Consts.{one64}
 use Rattle.float.specs.Whole.{floorZ}
 use Rattle.float.specs.Cast.{count, natFloat}
-use Rattle.float.proofs.Tests.{cond-keeps, cond-case}
+use Rattle.basics.proofs.Tests.{cond-keeps, cond-case}
 use Rattle.edges.specs.declared.point.ParamPoint.{ParamPoint}
 use Rattle.edges.specs.declared.cell.CellIndex.{CellIndex}
 use Rattle.edges.specs.declared.cell.CellIndex.the-variants.{Index, Outside}

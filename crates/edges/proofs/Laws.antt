@@ -8,7 +8,7 @@ use lib.ListN.{length}
 use lib.Ieee.{Float, binary64, ofBits, lt, le, eq, neg, add, isNan}
 use Rattle.float.specs.Consts.{eps, zero64, one64}
 use Rattle.float.specs.Order.{totalOrder}
-use Rattle.float.proofs.Tests.{and-both, cond-keeps, cond-case}
+use Rattle.basics.proofs.Tests.{and-both, cond-keeps, cond-case}
 use Rattle.float.proofs.Less.{le-not-nan}
 use Rattle.float.proofs.Bounds.{clamp-above, clamp-below}
 use Rattle.float.proofs.Orders.{order-self}

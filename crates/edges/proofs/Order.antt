@@ -9,7 +9,7 @@ use lib.Ieee.{Float, nan, isNan}
 use Rattle.float.specs.Order.{totalOrder}
 use Rattle.float.specs.declared.order.Ordering.{Ordering}
 use Rattle.float.specs.declared.order.Ordering.the-variants.{Less, Equal, Greater}
-use Rattle.float.proofs.Tests.{cannot, cond-case}
+use Rattle.basics.proofs.Tests.{cannot, cond-case}
 use Rattle.float.proofs.Orders.{less-greater, not-less-transitive}
 use Rattle.edges.specs.declared.event.EdgeEvent.{EdgeEvent}
 use Rattle.edges.specs.Events.{precedes, insert, sortInto, Each}

@@ -6,7 +6,7 @@ use Rattle.float.specs.Consts.{eps, zero64}
 use Rattle.float.specs.Sign.{absolute}
 use Rattle.float.specs.Whole.{rounded}
 use Rattle.float.specs.Cast.{natFloat}
-use Rattle.float.proofs.Tests.{and-both, cond-case}
+use Rattle.basics.proofs.Tests.{and-both, cond-case}
 use Rattle.float.proofs.Range.{counted}
 use Rattle.edges.specs.Param.{integerStep}
 use Rattle.edges.specs.declared.point.WholeStep.{WholeStep}

@@ -19,7 +19,7 @@ use Rattle.float.specs.Order.{clamped}
 use Rattle.float.specs.Whole.{over, floorZ, ceilZ}
 use Rattle.float.specs.Consts.{eps, zero64}
 use Rattle.float.specs.Cast.{natFloat, count}
-use Rattle.float.proofs.Tests.{cond-keeps}
+use Rattle.basics.proofs.Tests.{cond-keeps}
 use Rattle.float.proofs.Rounding.{round-both}
 use Rattle.float.proofs.Signs.{plus-not-below}
 use Rattle.float.proofs.Value.{lt-values, lt-whole, whole-lt, minus-below}

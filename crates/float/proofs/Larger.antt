@@ -4,7 +4,7 @@ use mathlib.Core.Bool.{Bool, true, false, _&&_, _||_, and-true, or-false, cond, 
 use lib.Ieee.{Float, nan, inf, fin, lt, ne, isNan}
 use Rattle.float.specs.Sign.{absolute}
 use Rattle.float.specs.Order.{larger}
-use Rattle.float.proofs.Tests.{cond-keeps}
+use Rattle.basics.proofs.Tests.{cond-keeps}
 use Rattle.float.proofs.Less.{lt-transitive, not-lt-trans, ne-self}
 
 pub abs-nan : (x : Float) → isNan (absolute x) ≡ isNan x

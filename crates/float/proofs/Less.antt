@@ -11,7 +11,7 @@ use lib.Ieee.{Float, nan, inf, fin, up, down, below, level, lt, le, eq, ne, isNa
 use lib.Ieee.Fits.{down-pos}
 use borrow.Author.Tests.{not-true, ltb-true, lt-ltb, le-ltb, ltb-false, le-leb, lt-leb, eqb-true, eqb-false, eq-eqb, ne-eqb}
 use Rattle.float.specs.Sign.{isFinite}
-use Rattle.float.proofs.Tests.{must}
+use Rattle.basics.proofs.Tests.{must}
 
 -- ---- a signed size as what it adds to one side of a comparison and to the other
 abbrev gain : Bool → ℕ → ℕ

@@ -1,5 +1,4 @@
--- Laws that belong to no one function. Callers of other crates use Tests, Less, Orders, Larger, Differences, Bounds, Range and Between.
-pub mod Tests
+-- Laws that belong to no one function. Callers of other crates use Less, Orders, Larger, Differences, Bounds, Range and Between.
 pub mod Value
 pub mod Less
 pub mod Rounding

@@ -12,7 +12,7 @@ use lib.Ieee.Fits.{up-pos}
 use borrow.Author.Tests.{eqb-true}
 use Rattle.float.specs.Sign.{negative, absolute, isFinite}
 use Rattle.float.specs.Consts.{zero64, one64}
-use Rattle.float.proofs.Tests.{and-both}
+use Rattle.basics.proofs.Tests.{and-both}
 use Rattle.float.proofs.Less.{le-is}
 
 -- what has no minus sign is not below 0

@@ -1,7 +1,11 @@
--- "Lent for output: .. After success all places past the counts are zero." Over any element and its zero. Assumes nothing.
+-- Lists that a caller lends for output: what stands in them after a call, over any element and its zero; and one way to say what a call answers and what
+-- its lists hold afterwards.
 use Prim.Native.Nat.{ℕ, _-_}
 use mathlib.Core.List.{List, _++_}
 use lib.ListN.{length, take, replicate}
+use Rattle.refusal.specs.declared.Check.{Check}
+use Rattle.refusal.specs.declared.Check.the-variants.{Passed, Failed}
+use Rattle.refusal.specs.Refusals.{Answer, refused, numberOf}
 
 -- a lent list after a call that wrote these contents into it: zero in every place past them
 abbrev pub filled : {A : Type 0} → A → List A → List A → List A
@@ -10,3 +14,28 @@ filled z contents lent = contents ++ replicate (length lent - length contents) z
 -- a list whose places from k on are made zero
 abbrev pub zeroedFrom : {A : Type 0} → A → ℕ → List A → List A
 zeroedFrom z k l = take k l ++ replicate (length l - k) z
+
+-- what a call answers, and what the lists lent to it hold afterwards
+pub record Afterwards (A L : Type 0) : Type 0 where
+  pub answer : A
+  pub lists : L
+
+abbrev pub afterwards : {A L : Type 0} → A → L → Afterwards A L
+afterwards a l = record { answer = a; lists = l }
+
+-- the answer in another form, the lists as they are
+abbrev pub answering : {A B L : Type 0} → (A → B) → Afterwards A L → Afterwards B L
+answering f t = afterwards (f (t .answer)) (t .lists)
+
+-- a call whose tests refuse leaves the lists as they were lent
+abbrev pub ifPassed : {A L : Type 0} → Check → L → Afterwards (Answer A) L → Afterwards (Answer A) L
+ifPassed Passed lent t = t
+ifPassed (Failed k) lent t = afterwards (refused (numberOf k)) lent
+
+-- how many points and lines a call drew into its lists
+pub record Counts : Type 0 where
+  pub points : ℕ
+  pub lines : ℕ
+
+abbrev pub counts : ℕ → ℕ → Counts
+counts p l = record { points = p; lines = l }

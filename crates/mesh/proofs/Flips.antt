@@ -8,7 +8,7 @@ use native.Mathlib.Numerals.{add-one}
 use lib.Dec.{ltb}
 use lib.ListN.{length, getD}
 use borrow.Author.Tests.{lt-ltb, le-ltb}
-use Rattle.float.proofs.Tests.{cond-keeps}
+use Rattle.basics.proofs.Tests.{cond-keeps}
 use Rattle.cyclic.specs.declared.mapping.CyclicMapping.{CyclicMapping}
 use Rattle.cyclic.specs.declared.mapping.CyclicMapping.the-variants.{Forward, Reverse}
 use Rattle.cyclic.specs.declared.seam.Seam.{Seam as Found}

@@ -11,7 +11,7 @@ use lib.Arith.{lt-of-le-ne}
 use lib.ListN.{length, getD, take, drop, set, length-set, take-append-drop, drop-of-length-le}
 use lib.Seq.{take-suc, drop-cons, append-snoc, getD-set-same, getD-set-other}
 use borrow.Author.Tests.{ltb-false, eqb-true, eqb-false, lt-ltb, le-ltb, eq-eqb}
-use Rattle.float.proofs.Tests.{and-both}
+use Rattle.basics.proofs.Tests.{and-both}
 use Rattle.surface.proofs.Steps.{lt-or-le}
 use Rattle.surface.specs.Surface.{Triangle, tri, Pair, insert, pair}
 use Rattle.mesh.specs.Mesh.{triangleNumbers, pairNumbers}

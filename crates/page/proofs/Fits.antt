@@ -8,7 +8,7 @@ use lib.Dec.{ltb, leb}
 use lib.ListN.{length, length-set}
 use lib.Ieee.{Float}
 use borrow.Author.Tests.{ltb-true}
-use Rattle.float.proofs.Tests.{and-both}
+use Rattle.basics.proofs.Tests.{and-both}
 use Rattle.refusal.specs.declared.Refusal.the-variants.{Full}
 use Rattle.crossing.specs.declared.Crossing.{Crossing}
 use Rattle.page.specs.declared.Pen.{Pen}

@@ -8,7 +8,7 @@ use lib.Dec.{leb, ltb}
 use lib.Ieee.{Float}
 use lib.ListN.{length}
 use borrow.Author.Tests.{ltb-true, leb-true, lt-ltb, le-leb}
-use Rattle.float.proofs.Tests.{and-both}
+use Rattle.basics.proofs.Tests.{and-both}
 use Rattle.refusal.specs.Refusals.{ok, refused}
 use Rattle.path.specs.declared.LineAnswer.{LineAnswer}
 use Rattle.path.specs.declared.LineAnswer.the-variants.{Span}

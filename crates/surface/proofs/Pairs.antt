@@ -11,7 +11,7 @@ use lib.Dec.{eqb, ltb}
 use lib.ListN.{length}
 use borrow.Author.Tests.{eq-eqb, ne-eqb, ltb-true, ltb-false, lt-ltb}
 use Rattle.surface.specs.Surface.{Seam, reverse, reversed, Shape, slot, proper, triangles, Pair, pair, ordered, insert, triangleNumber, stepOn, process, flipped, lowU, highU, lowV, highV, wrapEnds}
-use Rattle.float.proofs.Tests.{and-both, cond-keeps, cond-case}
+use Rattle.basics.proofs.Tests.{and-both, cond-keeps, cond-case}
 use Rattle.cyclic.proofs.Mappings.{three}
 use Rattle.surface.proofs.Steps.{eqb-cases, Offset, laidOn, Meet, reverse-step}
 use Rattle.surface.proofs.Triangles.{number-below}

@@ -8,7 +8,7 @@ use mathlib.Core.Bool.{Bool, true, false, _&&_, not, cond, and-false}
 use native.Mathlib.Omega.{arith}
 use lib.Dec.{eqb}
 use borrow.Author.Tests.{ne-eqb}
-use Rattle.float.proofs.Tests.{cond-keeps}
+use Rattle.basics.proofs.Tests.{cond-keeps}
 use Rattle.surface.specs.Surface.{Seam, unjoined, forward, reverse, joined, reversed, Split, falling, rising, Same}
 use Rattle.surface.proofs.Steps.{wrap, wrap-below, wrap-le, wrap-wrap, step-ne, step-two, step-inj, Fits, laidOn, on-below, carried, adj-forward, adj-reverse, carried-le, carried-wrap}
 

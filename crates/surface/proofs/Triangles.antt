@@ -12,7 +12,7 @@ use lib.Arith.{digits-div, digits-mod, digits-lt}
 use lib.Seq.{getD-at}
 use lib.ListN.{length, length-append, List·getD-append}
 use borrow.Author.Tests.{eq-eqb, ne-eqb}
-use Rattle.float.proofs.Tests.{cond-keeps}
+use Rattle.basics.proofs.Tests.{cond-keeps}
 use Rattle.surface.specs.Surface.{Shape, tri, halfOf, slot, slots, proper, kept, triangles, triangleNumber, nth}
 use Rattle.surface.proofs.Steps.{eqb-cases, lt-or-le}
 

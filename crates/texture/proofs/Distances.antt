@@ -16,7 +16,7 @@ use Rattle.float.specs.Consts.{zero64, one64, sqrt2, half64}
 use Rattle.float.specs.Sign.{isFinite, negative, atMost}
 use Rattle.float.specs.Order.{larger}
 use Rattle.float.specs.Cast.{natFloat}
-use Rattle.float.proofs.Tests.{cond-keeps, and-both}
+use Rattle.basics.proofs.Tests.{cond-keeps, and-both}
 use Rattle.float.proofs.Bounds.{nat-value, nat-le, at-most-finite}
 use Rattle.float.proofs.Differences.{sub-self}
 use Rattle.refusal.specs.declared.Check.the-variants.{Passed}

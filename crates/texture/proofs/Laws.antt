@@ -9,7 +9,7 @@ use lib.IntN.{pos, negℤ}
 use lib.Dec.{lit≤}
 use lib.Ieee.{Float, nan, inf, fin, up, down, lt, le, ofInt, ofBits, isNan, toUnsigned}
 use borrow.Author.Tests.{leb-true, le-leb}
-use Rattle.float.proofs.Tests.{and-both}
+use Rattle.basics.proofs.Tests.{and-both}
 use Rattle.float.specs.Consts.{zero64, one64}
 use Rattle.float.specs.Order.{larger}
 use Rattle.float.specs.Whole.{over, floorZ}

@@ -7,7 +7,7 @@ use Rattle.float.specs.Consts.{eps, zero64, one64}
 use Rattle.float.specs.Sign.{absolute, isFinite}
 use Rattle.float.specs.Order.{larger}
 use Rattle.float.specs.Table.{computed}
-use Rattle.float.proofs.Tests.{and-both, cannot}
+use Rattle.basics.proofs.Tests.{and-both, cannot}
 use Rattle.float.proofs.Less.{le-is, le-not-nan, eq-self}
 use Rattle.float.proofs.Differences.{sub-swap, sub-not-nan, sub-self-close}
 use Rattle.float.proofs.Between.{abs-below}

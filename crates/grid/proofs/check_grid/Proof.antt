@@ -4,7 +4,7 @@ use mathlib.Core.Path.{_≡_}
 use mathlib.Core.Bool.{true}
 use borrow.Author.Needs.{needs}
 use borrow.Author.Tests.{eq-eqb, ne-eqb}
-use Rattle.float.proofs.Tests.{held, failed}
+use Rattle.basics.proofs.Tests.{held, failed}
 use Rattle.grid.specs.Grid.{stepsFit, gridCheck}
 use Rattle.grid.proofs.Laws.{Stepped, steps-known}
 use Rattle.grid.proofs.check_grid.Statement.{statement}

@@ -4,7 +4,7 @@ use mathlib.Core.Path.{_≡_}
 use mathlib.Core.Bool.{true, false}
 use borrow.Author.Needs.{needs}
 use borrow.Author.Tests.{not-true, not-false}
-use Rattle.float.proofs.Tests.{held, failed}
+use Rattle.basics.proofs.Tests.{held, failed}
 use Rattle.grid.specs.Grid.{stepsFit}
 use Rattle.grid.proofs.Laws.{Stepped, steps-known}
 use Rattle.mesh.specs.Mesh.{roomFits}

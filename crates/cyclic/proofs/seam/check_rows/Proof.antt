@@ -3,7 +3,7 @@ use mathlib.Core.Path.{_≡_, sym, ap₂}
 use mathlib.Core.Bool.{true, _&&_}
 use denote.Ref.{now}
 use borrow.Author.Needs.{needs}
-use Rattle.float.proofs.Tests.{held, failed}
+use Rattle.basics.proofs.Tests.{held, failed}
 use Rattle.cyclic.specs.Search.{rowFits}
 use Rattle.cyclic.proofs.Rows.{no-length, no-coordinate, rows-pass}
 use Rattle.cyclic.proofs.seam.check_rows.Statement.{statement}

@@ -7,7 +7,7 @@ use borrow.Author.Tests.{not-false}
 use denote.Ref.{now}
 use Rattle.vector.specs.Vectors.{allClose}
 use Rattle.cyclic.specs.Search.{rowOf}
-use Rattle.float.proofs.Tests.{and-both}
+use Rattle.basics.proofs.Tests.{and-both}
 use Rattle.cyclic.proofs.Remains.{Run, two-longer}
 use Rattle.cyclic.proofs.Rows.{Stand, inside-next, close-next}
 use Rattle.cyclic.proofs.seam.close_run.Statement.{statement}

@@ -1,6 +1,6 @@
 -- `edges::event::diagonal_candidate` meets its contract: where there is a lambda, the point there is in bounds and on a cell's diagonal, or there is no event. Assumes nothing.
 use mathlib.Core.Path.{_≡_, ap, sym, _∙_}
-use Rattle.float.proofs.Tests.{held, failed}
+use Rattle.basics.proofs.Tests.{held, failed}
 use Rattle.edges.specs.Cell.{diagonalCellAt}
 use Rattle.edges.specs.Events.{diagonalEvent, diagonalCandidate}
 use Rattle.edges.proofs.Candidates.{crossing-off, crossing-out, crossing-in}

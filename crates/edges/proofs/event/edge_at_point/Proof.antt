@@ -1,7 +1,7 @@
 -- `edges::event::edge_at_point` meets its contract: the first test that finds a side decides. Assumes nothing.
 use mathlib.Core.Path.{_≡_, ap, sym, _∙_}
 use mathlib.Core.Bool.{true}
-use Rattle.float.proofs.Tests.{held, failed}
+use Rattle.basics.proofs.Tests.{held, failed}
 use Rattle.edges.specs.declared.point.WholeStep.the-variants.{Between}
 use Rattle.edges.specs.Param.{paramInBounds, integerStep}
 use Rattle.edges.specs.Cell.{diagonalCellAt}

@@ -5,7 +5,7 @@ use Prim.Native.Nat.{_≤_, _<_, _-_}
 use native.Mathlib.Omega.{arith}
 use lib.ListN.{getD}
 use lib.Ieee.{nan}
-use Rattle.float.proofs.Tests.{held, failed}
+use Rattle.basics.proofs.Tests.{held, failed}
 use Rattle.float.specs.Order.{totalOrder}
 use Rattle.edges.specs.Events.{precedes}
 use Rattle.edges.proofs.Order.{After, after-none, after-this}

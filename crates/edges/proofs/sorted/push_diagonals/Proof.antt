@@ -4,7 +4,7 @@ use Prim.Native.Nat.{_≤_, _+_, _-_}
 use native.Mathlib.Omega.{arith}
 use lib.Ieee.{lt}
 use Rattle.float.specs.Consts.{eps}
-use Rattle.float.proofs.Tests.{held, failed}
+use Rattle.basics.proofs.Tests.{held, failed}
 use Rattle.edges.specs.Events.{diagonalCandidate, diagonals, sortInto}
 use Rattle.edges.specs.Scratch.{eventsIn}
 use Rattle.edges.proofs.Storable.{diagonal-storable}

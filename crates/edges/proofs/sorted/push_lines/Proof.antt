@@ -3,7 +3,7 @@ use mathlib.Core.Path.{_≡_}
 use Prim.Native.Nat.{_-_}
 use lib.Ieee.{lt}
 use Rattle.float.specs.Consts.{eps}
-use Rattle.float.proofs.Tests.{held, failed}
+use Rattle.basics.proofs.Tests.{held, failed}
 use Rattle.edges.specs.Events.{change, lineCandidate, moves, lines, sortInto}
 use Rattle.edges.specs.Scratch.{eventsIn, Storable}
 use Rattle.edges.proofs.Storable.{line-storable}

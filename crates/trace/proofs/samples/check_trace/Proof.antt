@@ -1,5 +1,5 @@
 -- `trace::samples::check_trace` meets its contract: proofs/Checks.antt has `traceCheck` by these tests. Assumes nothing.
-use Rattle.float.proofs.Tests.{held, failed}
+use Rattle.basics.proofs.Tests.{held, failed}
 use Rattle.trace.proofs.Checks.{grid-refused, pairs-twice, mark-refused, sample-refused, check-passes}
 use borrow.Author.Needs.{needs}
 use Rattle.trace.proofs.samples.check_trace.Statement.{statement}

@@ -1,8 +1,8 @@
--- `edges::point::param_in_bounds` meets its contract: its two tests are those of the definition. Assumes nothing.
-use Rattle.edges.specs.Param.{paramInBounds}
+-- `param::param_in_bounds` meets its contract: its two tests are those of the definition.
+use Rattle.param.specs.Param.{paramInBounds}
 use borrow.Author.Needs.{needs}
-use Rattle.edges.proofs.point.param_in_bounds.Statement.{statement}
-use Rattle.edges.proofs.point.param_in_bounds.Tie as tie
+use Rattle.param.proofs.param_in_bounds.Statement.{statement}
+use Rattle.param.proofs.param_in_bounds.Tie as tie
 
 returns : tie.Need-returns
 unfolding paramInBounds

@@ -1,0 +1,3 @@
+-- Laws that belong to no one layer.
+pub mod Tests
+pub mod Lists

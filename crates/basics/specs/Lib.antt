@@ -1,0 +1,2 @@
+-- Definitions on lists that contracts of several crates cite.
+pub mod Lists

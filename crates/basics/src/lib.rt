@@ -1,0 +1,1 @@
+// Definitions and laws of Bools and lists that no one layer owns. No code.

@@ -1,0 +1,58 @@
+-- The parameter plane. A ParamPoint is the two f64 u and v; a leg goes straight from one sample to the next; the cells of a grid are M steps in u and
+-- N in v. References: `lerp`, `param_in_bounds`.
+use mathlib.Core.Bool.{Bool, _&&_}
+use Prim.Native.Nat.{ℕ}
+use lib.Ieee.{Float, binary64, neg, le, add, sub, mul}
+use Rattle.float.specs.Consts.{eps}
+use Rattle.float.specs.Cast.{natFloat}
+use Rattle.param.specs.declared.ParamPoint.{ParamPoint}
+use Rattle.param.specs.declared.Leg.{Leg}
+use Rattle.param.specs.declared.Cells.{Cells}
+use Rattle.param.specs.declared.Axis.{Axis}
+use Rattle.param.specs.declared.Axis.the-variants.{AxisU, AxisV}
+
+abbrev pub param : Float → Float → ParamPoint
+param u v = record { u = u; v = v }
+
+abbrev pub leg : ParamPoint → ParamPoint → Leg
+leg a b = record { a = a; b = b }
+
+abbrev pub cells : ℕ → ℕ → Cells
+cells m n = record { m = m; n = n }
+
+-- from a towards b by t: a + (b − a)·t, which at 1 need not be b
+abbrev pub between : Float → Float → Float → Float
+between a b t = add binary64 a (mul binary64 (sub binary64 b a) t)
+
+abbrev pub lerp : ParamPoint → ParamPoint → Float → ParamPoint
+lerp a b t = param (between (a .u) (b .u) t) (between (a .v) (b .v) t)
+
+-- the point of a leg at a lambda
+abbrev pub onLeg : Leg → Float → ParamPoint
+onLeg l t = lerp (l .a) (l .b) t
+
+-- the coordinate on an axis, and the one on the other axis
+abbrev pub along : Axis → ParamPoint → Float
+along AxisU p = p .u
+along AxisV p = p .v
+
+abbrev pub across : Axis → ParamPoint → Float
+across AxisU p = p .v
+across AxisV p = p .u
+
+-- the steps on an axis, and on the other axis
+abbrev pub stepsOn : Axis → Cells → ℕ
+stepsOn AxisU k = k .m
+stepsOn AxisV k = k .n
+
+abbrev pub stepsOff : Axis → Cells → ℕ
+stepsOff AxisU k = k .n
+stepsOff AxisV k = k .m
+
+-- from −EPS to top + EPS
+unfoldable pub within : Float → Float → Bool
+within x top = le (neg eps) x && le x (add binary64 top eps)
+
+-- within EPS of the grid
+unfoldable pub paramInBounds : Cells → ParamPoint → Bool
+paramInBounds k p = within (p .u) (natFloat (k .m)) && within (p .v) (natFloat (k .n))
