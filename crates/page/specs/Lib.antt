@@ -1,3 +1,3 @@
 -- The definitions that the contracts of this crate cite.
-pub mod Step
+pub mod Moves
 pub mod Page

@@ -1,12 +1,15 @@
 // The lent lists as the walk fills them: points in place, pending ones after the kept ones.
 use crossing::Crossing;
 use refusal::Refusal;
+ghost use mathlib.Core.Bool.{cond};
 ghost use mathlib.Core.Path.{_≡_};
 ghost use mathlib.Core.List.{List};
 ghost use Prim.Native.Nat.{ℕ, _+_, _*_, _≤_};
-ghost use lib.ListN.{length, set};
+ghost use lib.ListN.{length};
 ghost use lib.Ieee.{Float};
-ghost use Rattle.page.specs.Page.{pageOf, writePoint, writeSide, pushPage, flushPage, Pushed, PenFits};
+ghost use Rattle.lent.specs.Lent.{afterwards};
+ghost use Rattle.page.specs.Moves.{on};
+ghost use Rattle.page.specs.Page.{lists, writeAt, page, pushPage, flushPage, pageAfter, PenFits};
 
 // The points written so far, where the pending line starts among them, and the lines kept.
 pub struct Pen {
@@ -30,9 +33,8 @@ fn write_crossing(
     c: Crossing,
 )
     requires { ⌜ (3 * i + 3 ≤ length (now points)) × (2 * i + 2 ≤ length (now sides)) × (i + 1 ≤ length (now fractions)) ⌝ }
-    ensures { λ _. ⌜ (now (points .exit) ≡ writePoint (now (points .entry)) i c)
-        × (now (sides .exit) ≡ writeSide (now (sides .entry)) i c)
-        × (now (fractions .exit) ≡ set (now (fractions .entry)) i (c .t)) ⌝ }
+    ensures { λ _. ⌜ ((starts : List ℕ) → lists (now (points .exit)) starts (now (sides .exit)) (now (fractions .exit))
+        ≡ writeAt i c (lists (now (points .entry)) starts (now (sides .entry)) (now (fractions .entry)))) ⌝ }
 {
     points[3 * i] = c.point.x;
     points[3 * i + 1] = c.point.y;
@@ -51,8 +53,8 @@ pub fn push_segment_point(
     c: Crossing,
 ) -> Penned
     requires { ⌜ PenFits (now points) pen ⌝ }
-    ensures { λ r. ⌜ ((starts : List ℕ) → Pushed (pushPage c (pageOf (now (points .entry)) starts (now (sides .entry)) (now (fractions .entry)) pen)) r
-        (now (points .exit)) starts (now (sides .exit)) (now (fractions .exit))) ⌝ }
+    ensures { λ r. ⌜ ((starts : List ℕ) → afterwards r (lists (now (points .exit)) starts (now (sides .exit)) (now (fractions .exit)))
+        ≡ pageAfter (pushPage c (page (lists (now (points .entry)) starts (now (sides .entry)) (now (fractions .entry))) pen))) ⌝ }
 {
     let count = pen.count;
     if pen.start < count {
@@ -81,7 +83,7 @@ pub fn push_segment_point(
 pub fn flush_segment(starts: &mut [usize], pen: Pen) -> Penned
     requires { ⌜ pen .start ≤ pen .count ⌝ }
     ensures { λ r. ⌜ ((points : List Float) (sides : List ℕ) (fractions : List Float) →
-        Pushed (flushPage (pageOf points (now (starts .entry)) sides fractions pen)) r points (now (starts .exit)) sides fractions) ⌝ }
+        afterwards r (lists points (now (starts .exit)) sides fractions) ≡ pageAfter (flushPage (page (lists points (now (starts .entry)) sides fractions) pen))) ⌝ }
 {
     let count = pen.count;
     let start = pen.start;
@@ -102,4 +104,17 @@ pub fn flush_segment(starts: &mut [usize], pen: Pen) -> Penned
         start: count,
         lines: lines + 1,
     })
+}
+
+// The same, unless the line goes on.
+pub fn flush_unless(goes_on: bool, starts: &mut [usize], pen: Pen) -> Penned
+    requires { ⌜ pen .start ≤ pen .count ⌝ }
+    ensures { λ r. ⌜ ((points : List Float) (sides : List ℕ) (fractions : List Float) →
+        afterwards r (lists points (now (starts .exit)) sides fractions)
+        ≡ pageAfter (cond «goes_on» (on (page (lists points (now (starts .entry)) sides fractions) pen)) (flushPage (page (lists points (now (starts .entry)) sides fractions) pen)))) ⌝ }
+{
+    if goes_on {
+        return Penned::Down(pen);
+    }
+    flush_segment(starts, pen)
 }

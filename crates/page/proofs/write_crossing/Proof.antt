@@ -1,4 +1,4 @@
--- `page::write_crossing` meets its contract: six stores, each in its list. Assumes nothing.
+-- `page::write_crossing` meets its contract: six stores, each in its list.
 use native.Mathlib.Omega.{arith}
 use lib.ListN.{length-set}
 use borrow.Author.Needs.{needs}
@@ -32,4 +32,4 @@ write-crossing-spec =
     (λ c. search needs)
     (λ c. search needs)
     (λ c. search needs)
-    (λ c. search needs))
+    (λ c s. search needs))

@@ -1,0 +1,13 @@
+-- `page::flush_unless` meets its contract: its test picks what is done.
+use borrow.Author.Needs.{needs}
+use Rattle.page.proofs.flush_unless.Statement.{statement}
+use Rattle.page.proofs.flush_unless.Tie as tie
+
+returns : tie.Need-returns
+returns c p d f = simp (c .if1 .taken)
+
+returns-2 : tie.Need-returns-2
+returns-2 c p d f = rw (c .before .before .before .before .if1 .left) (c .before .before .flush-segment .ensures p d f)
+
+pub flush-unless-spec : {M : Type 1} → statement M
+flush-unless-spec = tie.close (tie.spec returns (λ c κs. search needs) (λ c. search needs) returns-2)
