@@ -106,14 +106,14 @@ pub fn flush_segment(starts: &mut [usize], pen: Pen) -> Penned
     })
 }
 
-// The same, unless the line goes on.
-pub fn flush_unless(goes_on: bool, starts: &mut [usize], pen: Pen) -> Penned
+// The same, unless the leg is inside the grid: there the line goes on.
+pub fn flush_unless(inside: bool, starts: &mut [usize], pen: Pen) -> Penned
     requires { ⌜ pen .start ≤ pen .count ⌝ }
     ensures { λ r. ⌜ ((points : List Float) (sides : List ℕ) (fractions : List Float) →
         afterwards r (lists points (now (starts .exit)) sides fractions)
-        ≡ pageAfter (cond «goes_on» (on (page (lists points (now (starts .entry)) sides fractions) pen)) (flushPage (page (lists points (now (starts .entry)) sides fractions) pen)))) ⌝ }
+        ≡ pageAfter (cond inside (on (page (lists points (now (starts .entry)) sides fractions) pen)) (flushPage (page (lists points (now (starts .entry)) sides fractions) pen)))) ⌝ }
 {
-    if goes_on {
+    if inside {
         return Penned::Down(pen);
     }
     flush_segment(starts, pen)

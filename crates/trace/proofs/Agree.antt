@@ -1,6 +1,6 @@
--- The walk that fills lent lists in place and the walk that draws lines agree: the page shows the drawing from the first sample to the last, since each push and each flush leaves it so. A trace ends with a
--- flush, so nothing is pending, and the lists, zeroed past the counts, are those of `finished`. Assumes nothing.
-use mathlib.Core.Path.{_≡_, refl, ap}
+-- The lists filled in place and the moves drawn agree: the page shows the drawing from the first move to the last, since each push and each flush leaves it
+-- so. A trace ends with a flush, so nothing is pending, and the lists, zeroed past the counts, are those of `finished`.
+use mathlib.Core.Path.{_≡_, refl, ap, _∙_}
 use mathlib.Core.Bool.{Bool, true, false, cond}
 use mathlib.Core.List.{List, [], _∷_, _++_, append-nil}
 use Prim.Native.Nat.{ℕ, _*_}
@@ -10,30 +10,28 @@ use lib.ListN.{length}
 use lib.Ieee.{Float}
 use Rattle.float.specs.Consts.{zero64}
 use Rattle.refusal.specs.declared.Refusal.the-variants.{Full}
-use Rattle.lent.specs.Lent.{filled, zeroedFrom}
+use Rattle.lent.specs.Lent.{filled, zeroedFrom, afterwards}
 use Rattle.lent.proofs.Laws.{zeroed-filled}
-use Rattle.edges.specs.Events.{sortedEdgeEvents}
+use Rattle.lent.proofs.After.{same-answer, same-lists}
+use Rattle.param.specs.declared.Cells.{Cells}
 use Rattle.crossing.specs.declared.Crossing.{Crossing}
 use Rattle.page.specs.declared.Penned.{Penned}
-use Rattle.page.specs.declared.Penned.the-variants.{Down, Stop}
-use Rattle.page.specs.Step.{Step, on, off, follow}
-use Rattle.page.specs.Page.{Page, penAt, pageOf, pushPage, flushPage, pageIn, pennedIn, Pushed}
+use Rattle.page.specs.Moves.{Move, flush, Outcome, on, off, follow, run}
+use Rattle.page.specs.Page.{Lists, lists, Page, penAt, page, pushPage, flushPage, pageAfter}
+use Rattle.page.proofs.Moves.{run-append, run-one, Any, any-pushed, Related, both-on, both-off, run-related}
 use Rattle.trace.specs.declared.curve.Previous.{Previous}
-use Rattle.trace.specs.declared.curve.Previous.the-variants.{Nowhere}
-use Rattle.trace.specs.declared.flat.Trace.{Trace}
-use Rattle.trace.specs.declared.flat.Trace.the-variants.{Drawn, Refused}
-use Rattle.trace.specs.Curve.{Sample, samplesOf, afterSample, sampled, traced}
-use Rattle.trace.specs.Drawing.{Drawing, drawing, nothingDrawn, Room, pushSegmentPoint, flushSegment}
-use Rattle.trace.specs.Trace.{statedTrace, pointOf, sideOf, fractionOf, inTurn, Lists, Traced, drawingOf, finished}
-use Rattle.trace.proofs.Related.{Related, both-on, both-off, AnyCrossing, any-events, traced-related}
+use Rattle.trace.specs.Curve.{Sample, afterSample, visitOf, visitMoves, traceMoves}
+use Rattle.trace.specs.Drawing.{Drawing, drawing, nothingDrawn, Room, roomIn, pushSegmentPoint, flushSegment, draw}
+use Rattle.trace.specs.Trace.{statedTrace, pointOf, sideOf, fractionOf, inTurn, finished}
+use Rattle.trace.specs.Ended.{countIn, linesIn, answerOf}
 use Rattle.trace.proofs.Turns.{Holds, length-turn}
-use Rattle.trace.proofs.Shown.{Sized, all, Shows, roomOf, push-related, flush-related}
+use Rattle.trace.proofs.Shown.{Sized, SizedPage, all, Shows, push-related, flush-related}
 use Rattle.trace.proofs.Keeps.{Holding}
 
 abbrev pub firstPage : Lists → Page
-firstPage l = pageOf (l .points) (l .starts) (l .sides) (l .fractions) (penAt 0 0 0)
+firstPage l = page l (penAt 0 0 0)
 
--- before the first sample nothing is shown
+-- before the first move nothing is shown
 first-shows : (l : Lists) → Shows l (firstPage l) nothingDrawn
 unfolding inTurn
 first-shows l =
@@ -48,20 +46,17 @@ first-shows l =
       starts = refl;
     }
 
--- both walks, from the first sample to the last
-traces-related : (l : Lists) (g : List Float) (m n : ℕ) (xs : List Sample)
-    → Related (Shows l) (Sized l) (traced pushPage flushPage g m n xs Nowhere (firstPage l)) (traced (pushSegmentPoint (roomOf l)) (flushSegment (roomOf l)) g m n xs Nowhere nothingDrawn)
-traces-related l g m n xs =
-    traced-related (Shows l) (Sized l) AnyCrossing pushPage flushPage (pushSegmentPoint (roomOf l)) (flushSegment (roomOf l))
+-- both, from the first move to the last
+moves-related : (l : Lists) (ms : List (Move Crossing)) → Related (Shows l) (SizedPage l) (run pushPage flushPage ms (firstPage l)) (draw (roomIn l) ms nothingDrawn)
+moves-related l ms =
+    run-related Any (Shows l) (SizedPage l) pushPage flushPage (pushSegmentPoint (roomIn l)) (flushSegment (roomIn l))
     (λ s t r. r .sized)
     (λ c good s t r. push-related l s t r c)
     (λ s t r. flush-related l s t r)
-    g m n
-    (λ a b. any-events g m n (sortedEdgeEvents m n a b))
-    xs Nowhere (firstPage l) nothingDrawn (first-shows l)
+    (any-pushed ms) (firstPage l) nothingDrawn (first-shows l)
 
 -- a trace ends with a flush, so nothing is pending
-abbrev NonePending : Step Drawing → Type 0
+abbrev NonePending : Outcome Drawing → Type 0
 NonePending = Holding (λ (d : Drawing). d .segment ≡ [])
 
 flush-ends : (room : Room) (d : Drawing) → NonePending (flushSegment room d)
@@ -73,36 +68,21 @@ flush-ends room d = go (leb 2 (length (d .segment))) (ltb (length (d .starts)) (
     go true false = tt
     go false b = refl
 
-follow-ends : (x : Step Drawing) (k : Drawing → Step Drawing) → ((d : Drawing) → NonePending (k d)) → NonePending (follow x k)
+follow-ends : (x : Outcome Drawing) (k : Drawing → Outcome Drawing) → ((d : Drawing) → NonePending (k d)) → NonePending (follow x k)
 follow-ends (on d) k h = h d
 follow-ends (off r d) k h = tt
 
-traced-ends : (room : Room) (g : List Float) (m n : ℕ) (xs : List Sample) (p : Previous) (d : Drawing) → NonePending (traced (pushSegmentPoint room) (flushSegment room) g m n xs p d)
-unfolding traced
-traced-ends room g m n [] p d = flush-ends room d
-traced-ends room g m n (x ∷ xs) p d =
-    follow-ends (sampled (pushSegmentPoint room) (flushSegment room) g m n p x d) (traced (pushSegmentPoint room) (flushSegment room) g m n xs (afterSample x)) (traced-ends room g m n xs (afterSample x))
-
--- the answer and the counts of a walk: one that was refused draws nothing
-abbrev pub answerOf : Penned → Trace
-answerOf (Down pen) = Drawn (pen .count) (pen .lines)
-answerOf (Stop k) = Refused k
-
-abbrev pub countIn : Penned → ℕ
-countIn (Down pen) = pen .count
-countIn (Stop k) = 0
-
-abbrev pub linesIn : Penned → ℕ
-linesIn (Down pen) = pen .lines
-linesIn (Stop k) = 0
+trace-flushed : (room : Room) (g : List Float) (k : Cells) (xs : List Sample) (p : Previous) (d : Drawing) → NonePending (draw room (traceMoves g k xs p) d)
+unfolding traceMoves
+trace-flushed room g k [] p d = rw (run-one (pushSegmentPoint room) (flushSegment room) flush d) (flush-ends room d)
+trace-flushed room g k (x ∷ xs) p d =
+    rw (run-append (pushSegmentPoint room) (flushSegment room) (visitMoves g k (visitOf p x)) (traceMoves g k xs (afterSample x)) d)
+    (follow-ends (draw room (visitMoves g k (visitOf p x)) d) (draw room (traceMoves g k xs (afterSample x))) (trace-flushed room g k xs (afterSample x)))
 
 -- what the open call is left to do: zero each list past its count
-pub record Ends (t : Traced) (r : Penned) (p : List Float) (s d : List ℕ) (f : List Float) : Type 0 where
-  pub answer : statedTrace (answerOf r) ≡ t .answer
-  pub points : zeroedFrom zero64 (3 * countIn r) p ≡ t .after .points
-  pub starts : zeroedFrom 0 (linesIn r) s ≡ t .after .starts
-  pub sides : zeroedFrom 0 (2 * countIn r) d ≡ t .after .sides
-  pub fractions : zeroedFrom zero64 (countIn r) f ≡ t .after .fractions
+abbrev pub zeroedPast : ℕ → ℕ → Lists → Lists
+zeroedPast count lines l =
+    lists (zeroedFrom zero64 (3 * count) (l .points)) (zeroedFrom 0 lines (l .starts)) (zeroedFrom 0 (2 * count) (l .sides)) (zeroedFrom zero64 count (l .fractions))
 
 -- a list whose front holds these points, zeroed past them
 zeroed-turn : {A : Type 0} (z : A) (w : ℕ) (f : Crossing → List A) (wide : (c : Crossing) → length (f c) ≡ w) (l lent : List A) (cs : List Crossing) (k : ℕ)
@@ -112,31 +92,25 @@ zeroed-turn z w f wide l lent cs k s h e =
     rw (e, ← n) (zeroed-filled z (inTurn f cs) l lent s (rw n h))
 
 -- what the walk in place leaves, where the page shows a drawing in which nothing is pending
-ended : (l : Lists) {x : Step Page} {y : Step Drawing} → Related (Shows l) (Sized l) x y → NonePending y
-    → Ends (finished y l) (pennedIn x) (pageIn x .points) (pageIn x .starts) (pageIn x .sides) (pageIn x .fractions)
-ended l (both-on {s = g} {t = d} h) e =
+ended : (l : Lists) {x : Outcome Page} {y : Outcome Drawing} → Related (Shows l) (SizedPage l) x y → NonePending y → {r : Penned} {m : Lists} → afterwards r m ≡ pageAfter x
+    → afterwards (statedTrace (answerOf r)) (zeroedPast (countIn r) (linesIn r) m) ≡ finished y l
+ended l (both-on {s = g} {t = d} h) e u =
     let all-drawn : all d ≡ d .drawn = rw e (append-nil (d .drawn)) in
     let n : g .pen .count ≡ length (d .drawn) = omega (arith, h .count, ap length e) in
-    record {
-      answer = rw (n, h .lines);
-      points = zeroed-turn zero64 3 pointOf (λ c. refl) (g .points) (l .points) (d .drawn) (3 * g .pen .count) (h .sized .points) (rw all-drawn at (h .points)) (omega arith);
-      starts = rw (h .lines) (zeroed-filled 0 (d .starts) (g .starts) (l .starts) (h .sized .starts) (h .starts));
-      sides = zeroed-turn 0 2 sideOf (λ c. refl) (g .sides) (l .sides) (d .drawn) (2 * g .pen .count) (h .sized .sides) (rw all-drawn at (h .sides)) (omega arith);
-      fractions = zeroed-turn zero64 1 fractionOf (λ c. refl) (g .fractions) (l .fractions) (d .drawn) (g .pen .count) (h .sized .fractions) (rw all-drawn at (h .fractions)) (omega arith);
-    }
-ended l (both-off {s = g} h) e =
-    record {
-      answer = refl;
-      points = zeroed-turn zero64 3 pointOf (λ c. refl) (g .points) (l .points) [] 0 (h .points) (unfold inTurn in refl) refl;
-      starts = zeroed-filled 0 [] (g .starts) (l .starts) (h .starts) refl;
-      sides = zeroed-turn 0 2 sideOf (λ c. refl) (g .sides) (l .sides) [] 0 (h .sides) (unfold inTurn in refl) refl;
-      fractions = zeroed-turn zero64 1 fractionOf (λ c. refl) (g .fractions) (l .fractions) [] 0 (h .fractions) (unfold inTurn in refl) refl;
-    }
+    let points = zeroed-turn zero64 3 pointOf (λ c. refl) (g .lists .points) (l .points) (d .drawn) (3 * g .pen .count) (h .sized .points) (rw all-drawn at (h .points)) (omega arith) in
+    let starts : zeroedFrom 0 (g .pen .lines) (g .lists .starts) ≡ filled 0 (d .starts) (l .starts) = rw (h .lines) (zeroed-filled 0 (d .starts) (g .lists .starts) (l .starts) (h .sized .starts) (h .starts)) in
+    let sides = zeroed-turn 0 2 sideOf (λ c. refl) (g .lists .sides) (l .sides) (d .drawn) (2 * g .pen .count) (h .sized .sides) (rw all-drawn at (h .sides)) (omega arith) in
+    let fractions = zeroed-turn zero64 1 fractionOf (λ c. refl) (g .lists .fractions) (l .fractions) (d .drawn) (g .pen .count) (h .sized .fractions) (rw all-drawn at (h .fractions)) (omega arith) in
+    rw (same-answer u, same-lists u, points, starts, sides, fractions, n, h .lines)
+ended l (both-off {s = g} h) e u =
+    let points = zeroed-turn zero64 3 pointOf (λ c. refl) (g .lists .points) (l .points) [] 0 (h .points) (unfold inTurn in refl) refl in
+    let starts = zeroed-filled 0 [] (g .lists .starts) (l .starts) (h .starts) refl in
+    let sides = zeroed-turn 0 2 sideOf (λ c. refl) (g .lists .sides) (l .sides) [] 0 (h .sides) (unfold inTurn in refl) refl in
+    let fractions = zeroed-turn zero64 1 fractionOf (λ c. refl) (g .lists .fractions) (l .fractions) [] 0 (h .fractions) (unfold inTurn in refl) refl in
+    rw (same-answer u, same-lists u, points, starts, sides, fractions)
 
 -- THE LAW: from what the inner walk ensures to what the open call promises
-pub trace-ends : (l : Lists) (g : List Float) (m n : ℕ) (pairs : List Float) (marks : List ℕ) {r : Penned} {p : List Float} {s d : List ℕ} {f : List Float}
-    → Pushed (traced pushPage flushPage g m n (samplesOf marks pairs) Nowhere (firstPage l)) r p s d f
-    → Ends (finished (drawingOf g m n pairs marks (roomOf l)) l) r p s d f
-trace-ends l g m n pairs marks h =
-    rw (h .answer, h .points, h .starts, h .sides, h .fractions)
-    (ended l (traces-related l g m n (samplesOf marks pairs)) (traced-ends (roomOf l) g m n (samplesOf marks pairs) Nowhere nothingDrawn))
+pub trace-ends : (l : Lists) (g : List Float) (k : Cells) (xs : List Sample) (p : Previous) {r : Penned} {m : Lists}
+    → afterwards r m ≡ pageAfter (run pushPage flushPage (traceMoves g k xs p) (firstPage l))
+    → afterwards (statedTrace (answerOf r)) (zeroedPast (countIn r) (linesIn r) m) ≡ finished (draw (roomIn l) (traceMoves g k xs p) nothingDrawn) l
+trace-ends l g k xs p u = ended l (moves-related l (traceMoves g k xs p)) (trace-flushed (roomIn l) g k xs p nothingDrawn) u

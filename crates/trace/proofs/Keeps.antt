@@ -1,23 +1,19 @@
--- What a walk keeps true of its drawing: a property that holds of nothing drawn, and that a pushed point, a kept line and a dropped line each leave true, holds of whatever
--- a trace draws. Assumes nothing.
+-- What moves keep true of a drawing: a property that holds of nothing drawn, and that a pushed point, a kept line and a dropped line each leave true.
 use mathlib.Core.Path.{_≡_, refl}
+use mathlib.Core.Bool.{Bool, true, false, cond}
 use mathlib.Core.List.{List, [], _∷_, _++_}
 use Prim.Native.Nat.{ℕ, _+_, _≤_}
 use lib.Dec.{ltb, leb}
 use lib.ListN.{length}
-use lib.Ieee.{Float}
 use borrow.Author.Tests.{leb-true}
-use Rattle.edges.specs.Events.{sortedEdgeEvents}
-use Rattle.edges.specs.declared.point.ParamPoint.{ParamPoint}
+use Rattle.refusal.specs.declared.Refusal.the-variants.{Full}
 use Rattle.crossing.specs.declared.Crossing.{Crossing}
-use Rattle.page.specs.Step.{Step, on, off}
-use Rattle.trace.specs.declared.curve.Previous.the-variants.{Nowhere}
-use Rattle.trace.specs.Curve.{Sample, traced}
-use Rattle.trace.specs.Drawing.{Drawing, drawing, nothingDrawn, Room, closeToLast, pushSegmentPoint, flushSegment}
-use Rattle.trace.proofs.Related.{Related, both-on, both-off, test-related, GoodEvents, traced-related}
+use Rattle.page.specs.Moves.{Move, Outcome, on, off}
+use Rattle.page.proofs.Moves.{AllPushed, run-keeps}
+use Rattle.trace.specs.Drawing.{Drawing, drawing, nothingDrawn, Room, closeToLast, pushSegmentPoint, flushSegment, draw}
 
--- P, of what a walk that was not refused drew
-abbrev pub Holding : (Drawing → Type 0) → Step Drawing → Type 0
+-- P, of what was drawn where no refusal ended it
+abbrev pub Holding : (Drawing → Type 0) → Outcome Drawing → Type 0
 Holding P (on d) = P d
 Holding P (off k d) = Unit {0}
 
@@ -28,48 +24,24 @@ module _ (P : Drawing → Type 0) (Good : Crossing → Type 0)
     (dropped : (d : Drawing) → P d → P (drawing (d .drawn) (d .starts) []))
     (room : Room)
   where
-    -- the same drawing twice, as `traced-related` takes it
-    abbrev Same : Drawing → Drawing → Type 0
-    Same d e = (d ≡ e) × P d
-
-    -- nothing is asked of what a refused walk drew
-    abbrev Ended : Drawing → Type 0
-    Ended d = Unit {0}
-
-    flush-keeps : (d e : Drawing) → Same d e → Related Same Ended (flushSegment room d) (flushSegment room e)
-    unfolding flushSegment
-    flush-keeps d e h = rw (← h .0) same
-      where
-        same : Related Same Ended (flushSegment room d) (flushSegment room d)
-        same =
-            test-related (leb 2 (length (d .segment))) (leb 2 (length (d .segment))) refl
-            (λ p. test-related (ltb (length (d .starts)) (room .lines)) (ltb (length (d .starts)) (room .lines)) refl
-            (λ q. both-on (refl, line d (h .1) (leb-true 2 (length (d .segment)) p)))
-            (λ q. both-off tt))
-            (λ p. both-on (refl, dropped d (h .1)))
-
-    push-keeps : (c : Crossing) → Good c → (d e : Drawing) → Same d e → Related Same Ended (pushSegmentPoint room c d) (pushSegmentPoint room c e)
+    push-keeps : (c : Crossing) → Good c → (d : Drawing) → P d → Holding P (pushSegmentPoint room c d)
     unfolding pushSegmentPoint
-    push-keeps c good d e h = rw (← h .0) same
+    push-keeps c good d h = go (closeToLast (d .segment) c) (ltb (length (d .drawn) + length (d .segment)) (room .points))
       where
-        same : Related Same Ended (pushSegmentPoint room c d) (pushSegmentPoint room c d)
-        same =
-            test-related (closeToLast (d .segment) c) (closeToLast (d .segment) c) refl
-            (λ p. both-on (refl, h .1))
-            (λ p. test-related (ltb (length (d .drawn) + length (d .segment)) (room .points)) (ltb (length (d .drawn) + length (d .segment)) (room .points)) refl
-            (λ q. both-on (refl, point c good d (h .1)))
-            (λ q. both-off tt))
+        go : (a b : Bool) → Holding P (cond a (on d) (cond b (on (drawing (d .drawn) (d .starts) (d .segment ++ (c ∷ [])))) (off Full d)))
+        go true b = h
+        go false true = point c good d h
+        go false false = tt
 
-    related-keeps : {x y : Step Drawing} → Related Same Ended x y → Holding P x
-    related-keeps (both-on h) = h .1
-    related-keeps (both-off q) = tt
+    flush-keeps : (d : Drawing) → P d → Holding P (flushSegment room d)
+    unfolding flushSegment
+    flush-keeps d h = go (leb 2 (length (d .segment))) (ltb (length (d .starts)) (room .lines)) refl
+      where
+        go : (a b : Bool) → leb 2 (length (d .segment)) ≡ a
+            → Holding P (cond a (cond b (on (drawing (d .drawn ++ d .segment) (d .starts ++ (length (d .drawn) ∷ [])) [])) (off Full d)) (on (drawing (d .drawn) (d .starts) [])))
+        go true true e = line d h (leb-true 2 (length (d .segment)) e)
+        go true false e = tt
+        go false b e = dropped d h
 
-    pub traced-keeps : (g : List Float) (m n : ℕ) → ((a b : ParamPoint) → GoodEvents g m n Good (sortedEdgeEvents m n a b)) → (xs : List Sample)
-        → Holding P (traced (pushSegmentPoint room) (flushSegment room) g m n xs Nowhere nothingDrawn)
-    traced-keeps g m n events xs =
-        related-keeps
-        (traced-related Same Ended Good (pushSegmentPoint room) (flushSegment room) (pushSegmentPoint room) (flushSegment room)
-        (λ d e h. tt)
-        push-keeps
-        flush-keeps
-        g m n events xs Nowhere nothingDrawn nothingDrawn (refl, start))
+    pub draw-keeps : {ms : List (Move Crossing)} → AllPushed Good ms → Holding P (draw room ms nothingDrawn)
+    draw-keeps good = run-keeps Good (Holding P) (pushSegmentPoint room) (flushSegment room) (λ k d h. tt) push-keeps flush-keeps good nothingDrawn start

@@ -1,12 +1,11 @@
 -- Laws that belong to no one function.
-pub mod Fits
 pub mod Sampled
 pub mod Checks
-pub mod Related
 pub mod Turns
 pub mod Shown
 pub mod Keeps
 pub mod Agree
+pub mod Pushed
 pub mod Drawn
 pub mod Kept
 pub mod Demands

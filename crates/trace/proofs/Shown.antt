@@ -1,5 +1,5 @@
 -- A page shows a drawing where the front of each lent list holds the drawing's points, the pending ones last, and the pen has its counts. Each push and each flush leaves it so: a push writes
--- one point after them, and a flush moves the count where the drawing moves its pending points. Assumes nothing.
+-- one point after them, and a flush moves the count where the drawing moves its pending points.
 use mathlib.Core.Path.{_≡_, refl, sym, ap, _∙_}
 use mathlib.Core.Logic.{_⊎_, inl, inr}
 use mathlib.Core.Bool.{Bool, true, false, _&&_}
@@ -17,18 +17,25 @@ use Rattle.basics.proofs.Tests.{and-both}
 use Rattle.vector.specs.Vectors.{allClose}
 use Rattle.grid.specs.Grid.{pointAt}
 use Rattle.crossing.specs.declared.Crossing.{Crossing}
-use Rattle.page.specs.Page.{Page, writePoint, writeSide, hasRoom, closeToPending, written, pushPage, kept, dropped, flushPage}
-use Rattle.trace.specs.Drawing.{Drawing, drawing, Room, roomIn, closeToLast, pushSegmentPoint, flushSegment}
-use Rattle.trace.specs.Trace.{pointOf, sideOf, fractionOf, Lists}
-use Rattle.trace.proofs.Related.{Related, both-on, both-off, test-related}
+use Rattle.page.specs.Page.{Lists, pointRoom, writePoint, writeSide, Page, hasRoom, closeToPending, written, pushPage, kept, dropped, flushPage}
+use Rattle.page.proofs.Moves.{Related, both-on, both-off, test-related}
+use Rattle.trace.specs.Drawing.{Drawing, drawing, roomIn, closeToLast, pushSegmentPoint, flushSegment}
+use Rattle.trace.specs.Trace.{pointOf, sideOf, fractionOf}
 use Rattle.trace.proofs.Turns.{Holds, holds-front, holds-more, last-at}
 
 -- the lists have the lengths that they were lent with
-pub record Sized (l : Lists) (g : Page) : Type 0 where
-  pub points : length (g .points) ≡ length (l .points)
-  pub starts : length (g .starts) ≡ length (l .starts)
-  pub sides : length (g .sides) ≡ length (l .sides)
-  pub fractions : length (g .fractions) ≡ length (l .fractions)
+pub record Sized (l m : Lists) : Type 0 where
+  pub points : length (m .points) ≡ length (l .points)
+  pub starts : length (m .starts) ≡ length (l .starts)
+  pub sides : length (m .sides) ≡ length (l .sides)
+  pub fractions : length (m .fractions) ≡ length (l .fractions)
+
+abbrev pub SizedPage : Lists → Page → Type 0
+SizedPage l g = Sized l (g .lists)
+
+-- so they have room for as many points
+same-room : (l m : Lists) → Sized l m → pointRoom m ≡ pointRoom l
+same-room l m z = rw (z .points, z .sides, z .fractions)
 
 -- the points that stand in the lists: the kept ones and after them the pending ones
 abbrev pub all : Drawing → List Crossing
@@ -36,18 +43,14 @@ all d = d .drawn ++ d .segment
 
 -- the page shows the drawing
 pub record Shows (l : Lists) (g : Page) (d : Drawing) : Type 0 where
-  pub sized : Sized l g
+  pub sized : SizedPage l g
   pub start : g .pen .start ≡ length (d .drawn)
   pub count : g .pen .count ≡ length (d .drawn) + length (d .segment)
   pub lines : g .pen .lines ≡ length (d .starts)
-  pub points : Holds 3 pointOf (g .points) (all d)
-  pub sides : Holds 2 sideOf (g .sides) (all d)
-  pub fractions : Holds 1 fractionOf (g .fractions) (all d)
-  pub starts : take (length (d .starts)) (g .starts) ≡ d .starts
-
--- how many points and lines the lent lists can hold
-abbrev pub roomOf : Lists → Room
-roomOf l = roomIn (l .points) (l .starts) (l .sides) (l .fractions)
+  pub points : Holds 3 pointOf (g .lists .points) (all d)
+  pub sides : Holds 2 sideOf (g .lists .sides) (all d)
+  pub fractions : Holds 1 fractionOf (g .lists .fractions) (all d)
+  pub starts : take (length (d .starts)) (g .lists .starts) ≡ d .starts
 
 -- ---- flush
 
@@ -75,14 +78,14 @@ module _ (l : Lists) (g : Page) (d : Drawing) (h : Shows l g d) where
         start = h .start;
         count = h .start ∙ omega arith;
         lines = h .lines;
-        points = rw append-nil (holds-front 3 pointOf (λ c. refl) (g .points) (d .drawn) (d .segment) (h .points));
-        sides = rw append-nil (holds-front 2 sideOf (λ c. refl) (g .sides) (d .drawn) (d .segment) (h .sides));
-        fractions = rw append-nil (holds-front 1 fractionOf (λ c. refl) (g .fractions) (d .drawn) (d .segment) (h .fractions));
+        points = rw append-nil (holds-front 3 pointOf (λ c. refl) (g .lists .points) (d .drawn) (d .segment) (h .points));
+        sides = rw append-nil (holds-front 2 sideOf (λ c. refl) (g .lists .sides) (d .drawn) (d .segment) (h .sides));
+        fractions = rw append-nil (holds-front 1 fractionOf (λ c. refl) (g .lists .fractions) (d .drawn) (d .segment) (h .fractions));
         starts = h .starts;
       }
 
   -- the pending points are kept where they stand
-  kept-shows : g .pen .lines < length (g .starts) → Shows l (kept g) (drawing (all d) (d .starts ++ (length (d .drawn) ∷ [])) [])
+  kept-shows : g .pen .lines < length (g .lists .starts) → Shows l (kept g) (drawing (all d) (d .starts ++ (length (d .drawn) ∷ [])) [])
   unfolding kept
   kept-shows k =
       record {
@@ -93,15 +96,15 @@ module _ (l : Lists) (g : Page) (d : Drawing) (h : Shows l g d) where
         points = rw append-nil (h .points);
         sides = rw append-nil (h .sides);
         fractions = rw append-nil (h .fractions);
-        starts = start-more (d .starts) (g .starts) (length (d .drawn)) (h .starts) (h .lines) (h .start) k;
+        starts = start-more (d .starts) (g .lists .starts) (length (d .drawn)) (h .starts) (h .lines) (h .start) k;
       }
 
-  pub flush-related : Related (Shows l) (Sized l) (flushPage g) (flushSegment (roomOf l) d)
+  pub flush-related : Related (Shows l) (SizedPage l) (flushPage g) (flushSegment (roomIn l) d)
   unfolding flushPage flushSegment
   flush-related =
       test-related (leb (g .pen .start + 2) (g .pen .count)) (leb 2 (length (d .segment)))
       (two-same (g .pen .start) (g .pen .count) (length (d .drawn)) (length (d .segment)) (h .start) (h .count))
-      (λ p. test-related (ltb (g .pen .lines) (length (g .starts))) (ltb (length (d .starts)) (length (l .starts))) (rw (h .lines, h .sized .starts))
+      (λ p. test-related (ltb (g .pen .lines) (length (g .lists .starts))) (ltb (length (d .starts)) (length (l .starts))) (rw (h .lines, h .sized .starts))
       (λ q. both-on (kept-shows (omega (arith, h .lines, h .sized .starts, ltb-true (length (d .starts)) (length (l .starts)) q))))
       (λ q. both-off (h .sized)))
       (λ p. both-on dropped-shows)
@@ -135,22 +138,6 @@ last-point l cs c h =
     let z : getD l (3 * length cs + 2) nan ≡ c .point .z = last-at 3 pointOf (λ c. refl) l cs c 2 nan (omega arith) h in
     rw (x, y, z)
 
--- below the smaller is below both
-ltb-min : (c a b : ℕ) → ltb c (min a b) ≡ ltb c a && ltb c b
-ltb-min c a b = go (ltb c a) (ltb c b) refl refl
-  where
-    go : (s t : Bool) → ltb c a ≡ s → ltb c b ≡ t → ltb c (min a b) ≡ s && t
-    go true true p q = lt-ltb c (min a b) (omega (arith, ltb-true c a p, ltb-true c b q))
-    go true false p q = le-ltb c (min a b) (omega (arith, ltb-false c b q))
-    go false t p q = le-ltb c (min a b) (omega (arith, ltb-false c a p))
-
--- what the room test says of the lengths
-room-means : (k p s f : ℕ) → ltb k (p / 3) && (ltb k (s / 2) && ltb k f) ≡ true → (3 * k + 3 ≤ p) × (2 * k + 2 ≤ s) × (k + 1 ≤ f)
-room-means k p s f h =
-    let a = and-both (ltb k (p / 3)) (ltb k (s / 2) && ltb k f) h in
-    let b = and-both (ltb k (s / 2)) (ltb k f) (a .1) in
-    (omega (arith, ltb-true k (p / 3) (a .0)), omega (arith, ltb-true k (s / 2) (b .0)), omega (arith, ltb-true k f (b .1)))
-
 -- the writes of one point, as one run of stores
 write-point : (l : List Float) (c : Crossing) {i k : ℕ} → i ≡ k → writePoint l i c ≡ sets l (3 * k) (pointOf c)
 write-point l c {i} {k} e =
@@ -183,35 +170,35 @@ module _ (l : Lists) (g : Page) (d : Drawing) (h : Shows l g d) (c : Crossing) w
           let more : length (d .segment) ≡ length ys + 1 = ap length (w .2) ∙ length-append ys (y ∷ []) in
           let some : g .pen .start < g .pen .count = omega (arith, h .count, h .start) in
           let at : g .pen .count - 1 ≡ length (d .drawn ++ ys) = omega (arith, h .count, length-append (d .drawn) ys) in
-          let last : Holds 3 pointOf (g .points) ((d .drawn ++ ys) ++ (y ∷ [])) = rw append-assoc (rw (w .2) at (h .points)) in
-          rw (lt-ltb (g .pen .start) (g .pen .count) some, at, last-point (g .points) (d .drawn ++ ys) y last, w .2, close-last ys y c)
+          let last : Holds 3 pointOf (g .lists .points) ((d .drawn ++ ys) ++ (y ∷ [])) = rw append-assoc (rw (w .2) at (h .points)) in
+          rw (lt-ltb (g .pen .start) (g .pen .count) some, at, last-point (g .lists .points) (d .drawn ++ ys) y last, w .2, close-last ys y c)
 
   -- room for one point more, in each list
-  room-same : hasRoom g ≡ ltb (length (d .drawn) + length (d .segment)) (roomOf l .points)
-  room-same = rw (h .count, h .sized .points, h .sized .sides, h .sized .fractions, ltb-min, ltb-min)
+  room-same : hasRoom g ≡ ltb (length (d .drawn) + length (d .segment)) (roomIn l .points)
+  room-same = rw (h .count, same-room l (g .lists) (h .sized))
 
   -- one point more, after the others
   written-shows : hasRoom g ≡ true → Shows l (written c g) (drawing (d .drawn) (d .starts) (d .segment ++ (c ∷ [])))
   unfolding written
   written-shows r =
       let n : g .pen .count ≡ length (all d) = h .count ∙ sym (length-append (d .drawn) (d .segment)) in
-      let fits = room-means (g .pen .count) (length (g .points)) (length (g .sides)) (length (g .fractions)) r in
+      let room = ltb-true (g .pen .count) (pointRoom (g .lists)) r in
       record {
         sized = record { points = simp length-set (h .sized .points); starts = h .sized .starts; sides = simp length-set (h .sized .sides); fractions = simp length-set (h .sized .fractions) };
         start = h .start;
         count = rw length-append (omega (arith, h .count));
         lines = h .lines;
-        points = rw (← append-assoc, write-point (g .points) c n) (holds-more 3 pointOf (λ c. refl) (g .points) (all d) c (omega (arith, fits .0)) (h .points));
-        sides = rw (← append-assoc, write-side (g .sides) c n) (holds-more 2 sideOf (λ c. refl) (g .sides) (all d) c (omega (arith, fits .1)) (h .sides));
-        fractions = rw (← append-assoc, write-fraction (g .fractions) c n) (holds-more 1 fractionOf (λ c. refl) (g .fractions) (all d) c (omega (arith, fits .2)) (h .fractions));
+        points = rw (← append-assoc, write-point (g .lists .points) c n) (holds-more 3 pointOf (λ c. refl) (g .lists .points) (all d) c (omega arith) (h .points));
+        sides = rw (← append-assoc, write-side (g .lists .sides) c n) (holds-more 2 sideOf (λ c. refl) (g .lists .sides) (all d) c (omega arith) (h .sides));
+        fractions = rw (← append-assoc, write-fraction (g .lists .fractions) c n) (holds-more 1 fractionOf (λ c. refl) (g .lists .fractions) (all d) c (omega arith) (h .fractions));
         starts = h .starts;
       }
 
-  pub push-related : Related (Shows l) (Sized l) (pushPage c g) (pushSegmentPoint (roomOf l) c d)
+  pub push-related : Related (Shows l) (SizedPage l) (pushPage c g) (pushSegmentPoint (roomIn l) c d)
   unfolding pushPage pushSegmentPoint
   push-related =
       test-related (closeToPending c g) (closeToLast (d .segment) c) close-same
       (λ p. both-on h)
-      (λ p. test-related (hasRoom g) (ltb (length (d .drawn) + length (d .segment)) (roomOf l .points)) room-same
+      (λ p. test-related (hasRoom g) (ltb (length (d .drawn) + length (d .segment)) (roomIn l .points)) room-same
       (λ q. both-on (written-shows (room-same ∙ q)))
       (λ q. both-off (h .sized)))

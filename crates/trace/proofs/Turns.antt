@@ -1,4 +1,4 @@
--- Points one after another in a list, w places each: the front of the list is unmoved by a drop, and grows by one point with a write. Over the width w. Assumes nothing.
+-- Points one after another in a list, w places each: the front of the list is unmoved by a drop, and grows by one point with a write. Over the width w.
 use mathlib.Core.Path.{_≡_, refl, sym, ap, _∙_}
 use mathlib.Core.List.{List, [], _∷_, _++_, append-assoc, append-nil}
 use Prim.Native.Nat.{ℕ, zero, suc, _+_, _*_, _≤_, _<_}
@@ -8,6 +8,7 @@ use native.Mathlib.Omega.{arith}
 use lib.ListN.{length, take, drop, getD, length-append, length-take, List·getD-append}
 use lib.Seq.{take-at, take-take, sets, sets-eq, getD-take, getD-append-add}
 use Rattle.crossing.specs.declared.Crossing.{Crossing}
+use Rattle.lent.specs.Lent.{filled}
 use Rattle.trace.specs.Trace.{inTurn}
 
 -- one after another, the first points and then the others
@@ -74,3 +75,11 @@ module _ {A : Type 0} (w : ℕ) (f : Crossing → List A) (wide : (c : Crossing)
   turn-at (c ∷ cs) (suc i) j z c₀ h k =
       let e : w * suc i + j ≡ length (f c) + (w * i + j) = rw (wide c, mul-suc) (omega arith) in
       rw (e, getD-append-add (f c) (inTurn f cs) (w * i + j) z) (turn-at cs i j z c₀ (omega arith) k)
+
+  -- the same, in a lent list that was filled with the points
+  pub filled-at : (cs : List Crossing) (lent : List A) (zero : A) (i j : ℕ) (z : A) (c₀ : Crossing) → i < length cs → j < w
+      → getD (filled zero (inTurn f cs) lent) (w * i + j) z ≡ getD (f (getD cs i c₀)) j z
+  filled-at cs lent zero i j z c₀ h k =
+      let most : w * suc i ≤ w * length cs = mul-le-mul-left w (omega arith) in
+      let below : w * i + j < length (inTurn f cs) = rw (length-turn cs) (omega (arith, mul-suc w i)) in
+      List·getD-append (inTurn f cs) _ z (w * i + j) below ∙ turn-at cs i j z c₀ h k

@@ -1,19 +1,21 @@
--- The walk over the samples, under the name of the Rust's function, over what holds the lines: any state with a way to push a point and one to flush the pending line.
--- Reference: `trace_parametric_edge_curve`. Assumes nothing.
+-- What a trace does to the lines: the moves of its samples in order, whatever the lines are held in. Reference: `trace_parametric_edge_curve`.
 use mathlib.Core.Bool.{cond}
-use mathlib.Core.List.{List, [], _∷_}
+use mathlib.Core.List.{List, [], _∷_, _++_}
 use Prim.Native.Nat.{ℕ}
 use lib.Dec.{eqb}
 use lib.Ieee.{Float}
-use Rattle.edges.specs.Param.{param}
-use Rattle.edges.specs.declared.point.ParamPoint.{ParamPoint}
+use Rattle.param.specs.declared.ParamPoint.{ParamPoint}
+use Rattle.param.specs.declared.Cells.{Cells}
+use Rattle.param.specs.Param.{param, leg}
 use Rattle.crossing.specs.declared.Crossing.{Crossing}
-use Rattle.page.specs.Step.{Step, on, follow}
-use Rattle.walk.specs.Walk.{appendEdgeCrossings}
+use Rattle.page.specs.Moves.{Move, flush}
+use Rattle.walk.specs.Walk.{legMoves}
 use Rattle.trace.specs.declared.curve.Previous.{Previous}
 use Rattle.trace.specs.declared.curve.Previous.the-variants.{At, Nowhere}
+use Rattle.trace.specs.declared.curve.Visit.{Visit}
+use Rattle.trace.specs.declared.curve.Visit.the-variants.{Break, Along, First}
 
--- "1 a point, 0 a break whose pair is ignored"
+-- mark 1 is a point, mark 0 a break, whose pair is not looked at
 pub record Sample : Type 0 where
   pub mark : ℕ
   pub point : ParamPoint
@@ -24,7 +26,7 @@ sampleAt k p = record { mark = k; point = p }
 abbrev pub sample : ℕ → Float → Float → Sample
 sample k u v = sampleAt k (param u v)
 
--- "Samples are a flat list of u, v pairs and a list of mark bytes" (lists of other lengths are refused before, by 2)
+-- the samples that a list of marks and a flat list of pairs stand for (lists of other lengths are refused before, by 2)
 unfoldable pub samplesOf : List ℕ → List Float → List Sample
 samplesOf [] ps = []
 samplesOf (k ∷ ks) [] = []
@@ -35,17 +37,21 @@ samplesOf (k ∷ ks) (u ∷ (v ∷ ps)) = sample k u v ∷ samplesOf ks ps
 abbrev pub afterSample : Sample → Previous
 afterSample x = cond (eqb (x .mark) 0) Nowhere (At (x .point))
 
-module _ {S : Type 0} (push : Crossing → S → Step S) (flush : S → Step S) (g : List Float) (m n : ℕ) where
-  -- a point, with p before it
-  abbrev pub paired : Previous → ParamPoint → S → Step S
-  paired (At a) b s = appendEdgeCrossings push flush g m n a b s
-  paired Nowhere b s = on s
+-- a point with p before it: the end of a leg, or the first after a break
+abbrev pub legFrom : Previous → ParamPoint → Visit
+legFrom (At a) b = Along (leg a b)
+legFrom Nowhere b = First
 
-  -- one sample: a break ends the line, a point after a point is a step
-  unfoldable pub sampled : Previous → Sample → S → Step S
-  sampled p x s = cond (eqb (x .mark) 0) (flush s) (paired p (x .point) s)
+abbrev pub visitOf : Previous → Sample → Visit
+visitOf p x = cond (eqb (x .mark) 0) Break (legFrom p (x .point))
 
-  -- `trace_parametric_edge_curve`
-  unfoldable pub traced : List Sample → Previous → S → Step S
-  traced [] p s = flush s
-  traced (x ∷ xs) p s = follow (sampled p x s) (traced xs (afterSample x))
+-- a break ends the line
+abbrev pub visitMoves : List Float → Cells → Visit → List (Move Crossing)
+visitMoves g k Break = flush ∷ []
+visitMoves g k (Along l) = legMoves g k l
+visitMoves g k First = []
+
+-- `trace_parametric_edge_curve`: the samples, with p before them; what is pending after the last one is flushed
+unfoldable pub traceMoves : List Float → Cells → List Sample → Previous → List (Move Crossing)
+traceMoves g k [] p = flush ∷ []
+traceMoves g k (x ∷ xs) p = visitMoves g k (visitOf p x) ++ traceMoves g k xs (afterSample x)

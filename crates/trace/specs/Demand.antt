@@ -1,35 +1,62 @@
--- Demand 3, whole: one claim about a grid and the whole list of samples (01, "Joinings that demand 3 covers", "A trace across the cells"). Its triangles, flipped pairs and
--- traced points are those that the contracts of `triangulate_grid` and `trace_flat` cite. Assumes nothing.
+-- Demand 3, whole: one claim about a grid and the whole list of samples. Its triangles, flipped pairs and traced points are those that the contracts of
+-- `triangulate_grid` and `trace_flat` cite.
+use mathlib.Core.Path.{_≡_}
 use mathlib.Core.List.{List}
 use Prim.Native.Nat.{ℕ, _+_, _*_, _<_}
 use lib.ListN.{getD}
-use lib.Ieee.{Float}
+use lib.Ieee.{Float, nan}
 use Rattle.refusal.specs.Refusals.{Answer, ok, refused}
-use Rattle.grid.specs.Grid.{Accepted}
+use Rattle.lent.specs.Lent.{Afterwards, Counts}
+use Rattle.grid.specs.Grid.{pointAt, Accepted}
+use Rattle.crossing.specs.Crossing.{blend}
 use Rattle.surface.specs.Surface.{Shape, triangles, Owns, StepsAround, Meets, Jₙ}
 use Rattle.surface.specs.Found.{surfaceOf, CoveredGrid}
-use Rattle.trace.specs.Trace.{Counts, Traced, Lists, traceFlat}
+use Rattle.page.specs.Page.{Lists}
+use Rattle.trace.specs.Trace.{traceFlat}
 
--- "A trace draws the points up to its point count; a refused one draws none."
+-- how many points a trace draws: up to its point count, and none where it is refused
 abbrev pub pointsIn : Answer Counts → ℕ
 pointsIn (ok c) = c .points
 pointsIn (refused k) = 0
 
--- "the two ends of a side": a and b follow each other, in either order, around some triangle
+-- P, of each point that a trace draws, by the lists that it leaves
+abbrev pub EachPoint : (Lists → ℕ → Type 0) → Afterwards (Answer Counts) Lists → Type 0
+EachPoint P t = (i : ℕ) → i < pointsIn (t .answer) → P (t .lists) i
+
+-- what stands beside point i: p and q, the numbers of two grid points, and t
+abbrev pub pOf : Lists → ℕ → ℕ
+pOf l i = getD (l .sides) (2 * i) 0
+
+abbrev pub qOf : Lists → ℕ → ℕ
+qOf l i = getD (l .sides) (2 * i + 1) 0
+
+abbrev pub tOf : Lists → ℕ → Float
+tOf l i = getD (l .fractions) i nan
+
+-- point i was made from p and q: they are grid points, and its three numbers are their blend by t
+pub record Made (g : List Float) (m n : ℕ) (l : Lists) (i : ℕ) : Type 0 where
+  pub p-there : pOf l i < (m + 1) * (n + 1)
+  pub q-there : qOf l i < (m + 1) * (n + 1)
+  pub blended : pointAt (l .points) i ≡ blend (pointAt g (pOf l i)) (pointAt g (qOf l i)) (tOf l i)
+
+-- the two ends of a side: a and b follow each other, in either order, around some triangle
 abbrev pub EndsOfSide : Shape → ℕ → ℕ → Type 0
 EndsOfSide s a b = (i : ℕ) × Owns (triangles s) a b i
 
--- "J of p and J of q are the two ends of a side", of every point that a trace draws: p and q of point i stand in the sides at 2·i and 2·i+1
-abbrev pub PointsOnSides : Shape → Traced → Type 0
-PointsOnSides s t =
-    (i : ℕ) → i < pointsIn (t .answer) → EndsOfSide s (Jₙ s (getD (t .after .sides) (2 * i) 0)) (Jₙ s (getD (t .after .sides) (2 * i + 1) 0))
+-- J of p and J of q are the ends of a side
+abbrev pub OnSide : Shape → Lists → ℕ → Type 0
+OnSide s l i = EndsOfSide s (Jₙ s (pOf l i)) (Jₙ s (qOf l i))
 
--- for a grid: its sides and flipped pairs, and the points of every trace across it, whatever the samples and whatever the lists lent; where a seam joins,
--- 2 steps around are needed, for with 1 J can take p and q to one point
+-- of a covered joining: its sides and flipped pairs, and the points of every trace across it, whatever the samples and whatever the lists lent; where a
+-- seam joins, 2 steps around are needed, for with 1 J can take p and q to one point
 pub record DemandMet (g : List Float) (m n : ℕ) : Type 0 where
   pub surface : Meets (surfaceOf g m n)
-  pub points : StepsAround 2 (surfaceOf g m n) → (pairs : List Float) (marks : List ℕ) (l : Lists) → PointsOnSides (surfaceOf g m n) (traceFlat g m n pairs marks l)
+  pub points : StepsAround 2 (surfaceOf g m n) → (pairs : List Float) (marks : List ℕ) (l : Lists) → EachPoint (OnSide (surfaceOf g m n)) (traceFlat g m n pairs marks l)
 
--- for every accepted grid whose found seams are a covered joining
+-- of an accepted grid: the points of every trace were made from their p and q; and the above where its found seams are a covered joining
+pub record GridMet (g : List Float) (m n : ℕ) : Type 0 where
+  pub made : (pairs : List Float) (marks : List ℕ) (l : Lists) → EachPoint (Made g m n) (traceFlat g m n pairs marks l)
+  pub covered : CoveredGrid g m n → DemandMet g m n
+
 abbrev pub Demand3 : List Float → ℕ → ℕ → Type 0
-Demand3 g m n = Accepted g m n → CoveredGrid g m n → DemandMet g m n
+Demand3 g m n = Accepted g m n → GridMet g m n

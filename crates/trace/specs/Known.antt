@@ -1,9 +1,9 @@
 -- 01's "Table of known results", its starred rows, in 01's order and words: one theorem a row, about the definitions that the contracts cite. Each is the theorem by computation
--- of the layer that it is about (`Table` of `cyclic`, `surface`, `edges`, `crossing` and `trace`). Assumes nothing.
+-- of the layer that it is about (`Table` of `cyclic`, `surface`, `edges`, `crossing` and `trace`).
 use mathlib.Core.Path.{_≡_, ap}
 use mathlib.Core.List.{[], _∷_}
 use lib.Ieee.{binary64, ofBits, neg}
-use Rattle.refusal.specs.Refusals.{ok}
+use Rattle.refusal.specs.Refusals.{Answer, ok}
 use Rattle.float.specs.Consts.{eps, zero64, one64, half64}
 use Rattle.cyclic.specs.declared.mapping.CyclicMapping.the-variants.{Forward, Reverse}
 use Rattle.cyclic.specs.declared.seam.Seam.the-variants.{Joined, Unjoined}
@@ -15,16 +15,17 @@ use Rattle.surface.specs.Surface.{tri, triangles, pair, flipped}
 use Rattle.surface.specs.Found.{surfaceWith}
 use Rattle.surface.specs.Table as surfaces
 use Rattle.edges.specs.declared.event.ParamEdge.the-variants.{U, «V», Diagonal}
-use Rattle.edges.specs.Param.{param}
+use Rattle.param.specs.Param.{param, leg, cells}
 use Rattle.edges.specs.Events.{event, sortedEdgeEvents}
 use Rattle.edges.specs.Table as events
 use Rattle.edges.specs.Table.{quarter, three-quarters, minus-half, minus-zero}
 use Rattle.crossing.specs.declared.StepIndex.the-variants.{At, Nothing}
 use Rattle.crossing.specs.Crossing.{stepIndex}
 use Rattle.crossing.specs.Table as crossing
-use Rattle.trace.specs.Trace.{Traced}
+use Rattle.lent.specs.Lent.{Afterwards, Counts}
+use Rattle.page.specs.Page.{Lists}
 use Rattle.trace.specs.Table as traces
-use Rattle.trace.specs.Table.{step}
+use Rattle.trace.specs.Table.{traced}
 
 -- "`step_index`(4, 4) = (3, 1); (−EPS, 4) = (0, 0); (0, 0) none."
 pub step-index : (stepIndex (ofBits binary64 0x4010000000000000) 4 ≡ At 3 one64) × (stepIndex (neg eps) 4 ≡ At 0 zero64) × (stepIndex zero64 0 ≡ Nothing)
@@ -58,14 +59,14 @@ no-seam = surfaces.no-seam
 pub u-reversed : flipped (surfaceWith 3 3 (Joined (Reverse 0 3)) Unjoined) ≡ pair 0 17 ∷ pair 2 15 ∷ pair 4 13 ∷ []
 u-reversed = surfaces.reversed-u
 
--- "M=N=1, (0, 0.25) to (0.75, 0.25): events U(0) at 0, Diagonal(0,0) at 1; sides (0,1), (2,1), t 0.25 both." `step` traces the two samples across a unit square into lists
+-- "M=N=1, (0, 0.25) to (0.75, 0.25): events U(0) at 0, Diagonal(0,0) at 1; sides (0,1), (2,1), t 0.25 both." `traced` traces the two samples across a unit square into lists
 -- with room for two points; the sides stand in one of them, the t in another.
 pub along-u :
-    (sortedEdgeEvents 1 1 (param zero64 quarter) (param three-quarters quarter) ≡ event zero64 (U 0) ∷ event one64 (Diagonal 0 0) ∷ [])
-    × (step zero64 quarter three-quarters quarter .after .sides ≡ 0 ∷ 1 ∷ 2 ∷ 1 ∷ [])
-    × (step zero64 quarter three-quarters quarter .after .fractions ≡ quarter ∷ quarter ∷ [])
-along-u = (events.along-u, ap (λ (t : Traced). t .after .sides) traces.along-u, ap (λ (t : Traced). t .after .fractions) traces.along-u)
+    (sortedEdgeEvents (cells 1 1) (leg (param zero64 quarter) (param three-quarters quarter)) ≡ event zero64 (U 0) ∷ event one64 (Diagonal 0 0) ∷ [])
+    × (traced zero64 quarter three-quarters quarter .lists .sides ≡ 0 ∷ 1 ∷ 2 ∷ 1 ∷ [])
+    × (traced zero64 quarter three-quarters quarter .lists .fractions ≡ quarter ∷ quarter ∷ [])
+along-u = (events.along-u, ap (λ (t : Afterwards (Answer Counts) Lists). t .lists .sides) traces.along-u, ap (λ (t : Afterwards (Answer Counts) Lists). t .lists .fractions) traces.along-u)
 
 -- "M=N=1, (0, 0) to (0.5, −0.5): first event V(0) at −0, not U(0)." It is the only one: U(0) at 0 is close to it, and dropped.
-pub minus-zero-first : sortedEdgeEvents 1 1 (param zero64 zero64) (param half64 minus-half) ≡ event minus-zero («V» 0) ∷ []
+pub minus-zero-first : sortedEdgeEvents (cells 1 1) (leg (param zero64 zero64) (param half64 minus-half)) ≡ event minus-zero («V» 0) ∷ []
 minus-zero-first = events.minus-zero-first

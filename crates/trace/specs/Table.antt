@@ -1,23 +1,26 @@
--- 01's known results on traces, by computation. Assumes nothing.
+-- Known results on traces, by computation.
 use mathlib.Core.Path.{_≡_, refl}
 use mathlib.Core.Bool.{Bool, true}
 use mathlib.Core.List.{List, [], _∷_}
 use lib.Ieee.{Float, binary64, ofBits, add}
-use Rattle.refusal.specs.Refusals.{ok, refused}
+use Rattle.refusal.specs.Refusals.{Answer, ok, refused}
 use Rattle.float.specs.Consts.{eps, zero64, one64}
 use Rattle.float.specs.Order.{larger}
 use Rattle.vector.specs.Vectors.{allClose}
 use Rattle.grid.specs.Grid.{coordinatesFit, gridCheck}
 use Rattle.edges.specs.Table.{quarter, three-quarters}
 use Rattle.crossing.specs.Table as crossing
-use Rattle.walk.specs.Walk.{beforeInside, afterInside, crossed, crossings, appendEdgeCrossings}
-use Rattle.trace.specs.Curve.{samplesOf, sampled, traced}
+use Rattle.lent.specs.Lent.{Afterwards, afterwards, Counts, counts}
+use Rattle.page.specs.Moves.{run}
+use Rattle.page.specs.Page.{Lists, lists}
+use Rattle.walk.specs.Walk.{beforeInside, afterInside, decide, eventsMoves, legMoves}
+use Rattle.trace.specs.Curve.{samplesOf, traceMoves}
 use Rattle.trace.specs.Drawing.{pushSegmentPoint, flushSegment}
-use Rattle.trace.specs.Trace.{marksFit, pairsFit, traceCheck, Lists, lists, inTurn, Traced, traceFlat}
+use Rattle.trace.specs.Trace.{marksFit, pairsFit, traceCheck, inTurn, traceFlat}
 
 -- `unfolding computed` opens every definition that a closed result needs
 unfoldable pub computed : Bool
-unfolding crossing.computed larger allClose coordinatesFit gridCheck samplesOf beforeInside afterInside crossed crossings appendEdgeCrossings sampled traced pushSegmentPoint flushSegment marksFit pairsFit traceCheck inTurn traceFlat
+unfolding crossing.computed larger allClose coordinatesFit gridCheck samplesOf beforeInside afterInside decide eventsMoves legMoves traceMoves run pushSegmentPoint flushSegment marksFit pairsFit traceCheck inTurn traceFlat
 computed = true
 
 -- a unit square as a grid of M = N = 1, and the trace of two samples in lists with room for two points and one line
@@ -27,28 +30,24 @@ square = zero64 ∷ zero64 ∷ zero64 ∷ zero64 ∷ one64 ∷ zero64 ∷ one64 
 abbrev room : Lists
 room = lists (one64 ∷ one64 ∷ one64 ∷ one64 ∷ one64 ∷ one64 ∷ []) (7 ∷ []) (7 ∷ 7 ∷ 7 ∷ 7 ∷ []) (one64 ∷ one64 ∷ [])
 
-abbrev pub step : Float → Float → Float → Float → Traced
-step u v u′ v′ = traceFlat square 1 1 (u ∷ v ∷ u′ ∷ v′ ∷ []) (1 ∷ 1 ∷ []) room
+abbrev pub traced : Float → Float → Float → Float → Afterwards (Answer Counts) Lists
+traced u v u′ v′ = traceFlat square 1 1 (u ∷ v ∷ u′ ∷ v′ ∷ []) (1 ∷ 1 ∷ []) room
 
--- "(0, 0.25) to (0.75, 0.25): .. sides (0,1), (2,1), t 0.25 both"
-pub along-u : step zero64 quarter three-quarters quarter
-    ≡ record {
-      answer = ok (record { points = 2; lines = 1 });
-      after = lists (zero64 ∷ quarter ∷ zero64 ∷ three-quarters ∷ quarter ∷ zero64 ∷ []) (0 ∷ []) (0 ∷ 1 ∷ 2 ∷ 1 ∷ []) (quarter ∷ quarter ∷ []);
-    }
+-- (0, 0.25) to (0.75, 0.25): sides (0,1) and (2,1), t 0.25 both
+pub along-u : traced zero64 quarter three-quarters quarter
+    ≡ afterwards (ok (counts 2 1))
+    (lists (zero64 ∷ quarter ∷ zero64 ∷ three-quarters ∷ quarter ∷ zero64 ∷ []) (0 ∷ []) (0 ∷ 1 ∷ 2 ∷ 1 ∷ []) (quarter ∷ quarter ∷ []))
 unfolding computed
 along-u = refl
 
--- "(0.25, 0.25) to (0.75, 0.75): one event at 0.5, no line"
-no-line : step quarter quarter three-quarters three-quarters .answer ≡ ok (record { points = 0; lines = 0 })
+-- (0.25, 0.25) to (0.75, 0.75): one event at 0.5, no line
+no-line : traced quarter quarter three-quarters three-quarters .answer ≡ ok (counts 0 0)
 unfolding computed
 no-line = refl
 
--- "(1, 1048576) to (1, 1+EPS): 11", and all zero
-no-step : step one64 (ofBits binary64 0x4130000000000000) one64 (add binary64 one64 eps)
-    ≡ record {
-      answer = refused 11;
-      after = lists (zero64 ∷ zero64 ∷ zero64 ∷ zero64 ∷ zero64 ∷ zero64 ∷ []) (0 ∷ []) (0 ∷ 0 ∷ 0 ∷ 0 ∷ []) (zero64 ∷ zero64 ∷ []);
-    }
+-- (1, 1048576) to (1, 1+EPS): 11, and all zero
+no-step : traced one64 (ofBits binary64 0x4130000000000000) one64 (add binary64 one64 eps)
+    ≡ afterwards (refused 11)
+    (lists (zero64 ∷ zero64 ∷ zero64 ∷ zero64 ∷ zero64 ∷ zero64 ∷ []) (0 ∷ []) (0 ∷ 0 ∷ 0 ∷ 0 ∷ []) (zero64 ∷ zero64 ∷ []))
 unfolding computed
 no-step = refl

@@ -1,25 +1,36 @@
 // The walk over all samples, which fills the lent lists.
-use edges::point::ParamPoint;
 use page::Pen;
 use page::Penned;
 use page::flush_segment;
+use param::Cells;
+use param::Leg;
+use param::ParamPoint;
 use walk::append_edge_crossings;
 ghost use mathlib.Core.Path.{_≡_};
 ghost use Prim.Native.Nat.{_+_, _*_, _≤_};
 ghost use lib.ListN.{length, getD};
 ghost use lib.Ieee.{nan};
-ghost use Rattle.edges.specs.Param.{param};
+ghost use Rattle.lent.specs.Lent.{afterwards};
+ghost use Rattle.param.specs.Param.{param};
 ghost use Rattle.crossing.specs.Crossing.{GridFits};
-ghost use Rattle.page.specs.Page.{penAt, pageOf, pushPage, flushPage, Pushed, PenFits};
-ghost use Rattle.trace.specs.Curve.{sampleAt, samplesOf, afterSample, sampled, traced};
+ghost use Rattle.page.specs.Moves.{run};
+ghost use Rattle.page.specs.Page.{lists, penAt, page, pushPage, flushPage, pageAfter, PenFits};
+ghost use Rattle.trace.specs.Curve.{sampleAt, samplesOf, afterSample, visitOf, visitMoves, traceMoves};
 
-// The most candidates of a step: 2 ends, 256 U and 256 V lines, 509 diagonals.
+// The most candidates of a leg: 2 ends, 256 U and 256 V lines, 509 diagonals.
 const MAX_EVENTS: usize = 1023;
 
 // What stands before a sample: a point, or nothing after a break and at the start.
 pub enum Previous {
     At(ParamPoint),
     Nowhere,
+}
+
+// What a sample is to the walk: a break, the end of a leg, or a point with nothing before it.
+pub enum Visit {
+    Break,
+    Along(Leg),
+    First,
 }
 
 // The pair of sample i.
@@ -43,57 +54,52 @@ fn after_sample(mark: u8, point: ParamPoint) -> Previous
     Previous::At(point)
 }
 
-// One sample: a break ends the line, a point after a point is a step.
+fn visit_of(previous: Previous, mark: u8, point: ParamPoint) -> Visit
+    ensures { λ r. ⌜ r ≡ visitOf previous (sampleAt mark point) ⌝ }
+{
+    if mark == 0 {
+        return Visit::Break;
+    }
+    match previous {
+        Previous::At(a) => Visit::Along(Leg { a, b: point }),
+        Previous::Nowhere => Visit::First,
+    }
+}
+
+// One sample: a break ends the line, a leg is walked along.
 fn trace_sample(
     lambdas: &mut [f64],
     codes: &mut [u32],
     grid: &[f64],
-    m: usize,
-    n: usize,
+    cells: Cells,
+    visit: Visit,
     points: &mut [f64],
     starts: &mut [usize],
     sides: &mut [usize],
     fractions: &mut [f64],
     pen: Pen,
-    previous: Previous,
-    mark: u8,
-    point: ParamPoint,
 ) -> Penned
     requires { ⌜ (length (now lambdas) ≡ 1023) × (length (now codes) ≡ 1023) ⌝ }
-    requires { ⌜ GridFits (now grid) m n ⌝ }
+    requires { ⌜ GridFits (now grid) cells ⌝ }
     requires { ⌜ PenFits (now points) pen ⌝ }
-    ensures { λ r. ⌜ Pushed (sampled pushPage flushPage (now (grid .entry)) m n previous (sampleAt mark point)
-        (pageOf (now (points .entry)) (now (starts .entry)) (now (sides .entry)) (now (fractions .entry)) pen)) r
-        (now (points .exit)) (now (starts .exit)) (now (sides .exit)) (now (fractions .exit)) ⌝ }
+    ensures { λ r. ⌜ afterwards r (lists (now (points .exit)) (now (starts .exit)) (now (sides .exit)) (now (fractions .exit)))
+        ≡ pageAfter (run pushPage flushPage (visitMoves (now (grid .entry)) cells visit)
+        (page (lists (now (points .entry)) (now (starts .entry)) (now (sides .entry)) (now (fractions .entry))) pen)) ⌝ }
 {
-    if mark == 0 {
-        return flush_segment(starts, pen);
-    }
-    match previous {
-        Previous::At(a) => append_edge_crossings(
-            lambdas,
-            codes,
-            grid,
-            m,
-            n,
-            points,
-            starts,
-            sides,
-            fractions,
-            pen,
-            a,
-            point,
+    match visit {
+        Visit::Break => flush_segment(starts, pen),
+        Visit::Along(leg) => append_edge_crossings(
+            lambdas, codes, grid, cells, leg, points, starts, sides, fractions, pen,
         ),
-        Previous::Nowhere => Penned::Down(pen),
+        Visit::First => Penned::Down(pen),
     }
 }
 
 // All samples in order, from a pen at the start of the lists; what is pending after the last one is flushed.
-// The scratch lists for a step's events are made once: clearing them for each step would cost more than the walk.
+// The scratch lists for a leg's events are made once: clearing them for each leg would cost more than the walk.
 pub fn trace_parametric_edge_curve(
     grid: &[f64],
-    m: usize,
-    n: usize,
+    cells: Cells,
     pairs: &[f64],
     marks: &[u8],
     points: &mut [f64],
@@ -101,11 +107,11 @@ pub fn trace_parametric_edge_curve(
     sides: &mut [usize],
     fractions: &mut [f64],
 ) -> Penned
-    requires { ⌜ GridFits (now grid) m n ⌝ }
+    requires { ⌜ GridFits (now grid) cells ⌝ }
     requires { ⌜ (length (now pairs) ≡ 2 * length (now marks)) × (length (now marks) ≤ 65537) ⌝ }
-    ensures { λ r. ⌜ Pushed (traced pushPage flushPage (now (grid .entry)) m n (samplesOf (now (marks .entry)) (now (pairs .entry))) Previous.Nowhere
-        (pageOf (now (points .entry)) (now (starts .entry)) (now (sides .entry)) (now (fractions .entry)) (penAt 0 0 0))) r
-        (now (points .exit)) (now (starts .exit)) (now (sides .exit)) (now (fractions .exit)) ⌝ }
+    ensures { λ r. ⌜ afterwards r (lists (now (points .exit)) (now (starts .exit)) (now (sides .exit)) (now (fractions .exit)))
+        ≡ pageAfter (run pushPage flushPage (traceMoves (now (grid .entry)) cells (samplesOf (now (marks .entry)) (now (pairs .entry))) Previous.Nowhere)
+        (page (lists (now (points .entry)) (now (starts .entry)) (now (sides .entry)) (now (fractions .entry))) (penAt 0 0 0))) ⌝ }
 {
     let mut lambdas = [0.0; MAX_EVENTS];
     let mut codes = [0u32; MAX_EVENTS];
@@ -119,20 +125,18 @@ pub fn trace_parametric_edge_curve(
     while i < marks.len() {
         let mark = marks[i];
         let point = point_of(pairs, i);
+        let visit = visit_of(previous, mark, point);
         match trace_sample(
             &mut lambdas,
             &mut codes,
             grid,
-            m,
-            n,
+            cells,
+            visit,
             points,
             starts,
             sides,
             fractions,
             pen,
-            previous,
-            mark,
-            point,
         ) {
             Penned::Down(traced) => {
                 pen = traced;

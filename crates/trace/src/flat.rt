@@ -4,14 +4,14 @@ use crate::samples::check_trace;
 use lent::zero_floats;
 use lent::zero_numbers;
 use page::Penned;
+use param::Cells;
 use refusal::Check;
 use refusal::Refusal;
 ghost use mathlib.Core.Path.{_≡_};
-ghost use Prim.Native.Nat.{_*_, _≤_};
-ghost use lib.ListN.{length};
-ghost use Rattle.float.specs.Consts.{zero64};
-ghost use Rattle.lent.specs.Lent.{zeroedFrom};
-ghost use Rattle.trace.specs.Trace.{lists, traceFlat, Traces};
+ghost use Rattle.lent.specs.Lent.{afterwards};
+ghost use Rattle.page.specs.Page.{lists};
+ghost use Rattle.trace.specs.Ended.{countIn, linesIn, answerOf};
+ghost use Rattle.trace.specs.Trace.{statedTrace, traceFlat};
 ghost use Rattle.trace.specs.Demand.{Demand3};
 
 // The counts of points and lines, or a refusal.
@@ -20,25 +20,33 @@ pub enum Trace {
     Refused(Refusal),
 }
 
-// Zero past `count` points and `lines` starts.
-fn zero_past(
-    points: &mut [f64],
-    starts: &mut [usize],
-    sides: &mut [usize],
-    fractions: &mut [f64],
-    count: usize,
-    lines: usize,
-)
-    requires { ⌜ 3 * count ≤ length (now points) ⌝ }
-    ensures { λ _. ⌜ (now (points .exit) ≡ zeroedFrom zero64 (3 * count) (now (points .entry)))
-        × (now (starts .exit) ≡ zeroedFrom 0 lines (now (starts .entry)))
-        × (now (sides .exit) ≡ zeroedFrom 0 (2 * count) (now (sides .entry)))
-        × (now (fractions .exit) ≡ zeroedFrom zero64 count (now (fractions .entry))) ⌝ }
+// The points that a walk drew: none where it was refused.
+fn count_in(ended: Penned) -> usize
+    ensures { λ r. ⌜ r ≡ countIn ended ⌝ }
 {
-    zero_floats(points, 3 * count);
-    zero_numbers(starts, lines);
-    zero_numbers(sides, 2 * count);
-    zero_floats(fractions, count);
+    match ended {
+        Penned::Down(pen) => pen.count,
+        Penned::Stop(_) => 0,
+    }
+}
+
+// The lines that it kept.
+fn lines_in(ended: Penned) -> usize
+    ensures { λ r. ⌜ r ≡ linesIn ended ⌝ }
+{
+    match ended {
+        Penned::Down(pen) => pen.lines,
+        Penned::Stop(_) => 0,
+    }
+}
+
+fn answer_of(ended: Penned) -> Trace
+    ensures { λ r. ⌜ r ≡ answerOf ended ⌝ }
+{
+    match ended {
+        Penned::Down(pen) => Trace::Drawn(pen.count, pen.lines),
+        Penned::Stop(refusal) => Trace::Refused(refusal),
+    }
 }
 
 // Traces a curve across the cells of a grid and draws its lines into the four lent lists: x, y, z of
@@ -55,24 +63,22 @@ pub fn trace_flat(
     sides: &mut [usize],
     fractions: &mut [f64],
 ) -> Trace
-    ensures answer { λ r. ⌜ Traces (traceFlat (now (grid .entry)) m n (now (pairs .entry)) (now (marks .entry))
-        (lists (now (points .entry)) (now (starts .entry)) (now (sides .entry)) (now (fractions .entry)))) r
-        (now (points .exit)) (now (starts .exit)) (now (sides .exit)) (now (fractions .exit)) ⌝ }
+    ensures answer { λ r. ⌜ afterwards (statedTrace r) (lists (now (points .exit)) (now (starts .exit)) (now (sides .exit)) (now (fractions .exit)))
+        ≡ traceFlat (now (grid .entry)) m n (now (pairs .entry)) (now (marks .entry))
+        (lists (now (points .entry)) (now (starts .entry)) (now (sides .entry)) (now (fractions .entry))) ⌝ }
     ensures demand { λ _. ⌜ Demand3 (now (grid .entry)) m n ⌝ }
 {
     if let Check::Failed(refusal) = check_trace(grid, m, n, pairs, marks) {
         return Trace::Refused(refusal);
     }
-    match trace_parametric_edge_curve(grid, m, n, pairs, marks, points, starts, sides, fractions) {
-        Penned::Down(pen) => {
-            let count = pen.count;
-            let lines = pen.lines;
-            zero_past(points, starts, sides, fractions, count, lines);
-            Trace::Drawn(count, lines)
-        }
-        Penned::Stop(refusal) => {
-            zero_past(points, starts, sides, fractions, 0, 0);
-            Trace::Refused(refusal)
-        }
-    }
+    let cells = Cells { m, n };
+    let ended = trace_parametric_edge_curve(
+        grid, cells, pairs, marks, points, starts, sides, fractions,
+    );
+    let count = count_in(ended);
+    zero_floats(points, 3 * count);
+    zero_numbers(starts, lines_in(ended));
+    zero_numbers(sides, 2 * count);
+    zero_floats(fractions, count);
+    answer_of(ended)
 }

@@ -1,4 +1,4 @@
 -- Laws that belong to no one function.
-pub mod Fits
-pub mod Crossed
+pub mod Decided
+pub mod Drawn
 pub mod Walked

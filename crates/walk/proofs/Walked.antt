@@ -1,4 +1,5 @@
--- One turn of the walk over the events: the events from i on are the one at i and those after it. The whole step is the walk over its events, which are on the grid, and what follows it. Assumes nothing.
+-- One turn of the walk along a leg: the events from i on are the one at i and those after it. What is left of the leg after i events are the moves of the
+-- others, and its end.
 use mathlib.Core.Path.{_≡_, refl, sym, ap, _∙_}
 use mathlib.Core.Bool.{Bool, true, false, cond}
 use mathlib.Core.List.{List, [], _∷_}
@@ -9,35 +10,43 @@ use lib.Dec.{ltb, lit≤}
 use lib.ListN.{length, drop, getD, drop-of-length-le}
 use lib.Ieee.{Float, nan}
 use borrow.Author.Tests.{ltb-true, ltb-false}
+use Rattle.basics.specs.Lists.{Each}
+use Rattle.basics.proofs.Lists.{each-at}
 use Rattle.refusal.specs.declared.Refusal.{Refusal}
+use Rattle.lent.specs.Lent.{afterwards}
 use Rattle.float.specs.Consts.{zero64, one64}
-use Rattle.edges.specs.Param.{paramInBounds}
-use Rattle.edges.specs.Events.{Each, OnGrid, sortedEdgeEvents}
-use Rattle.edges.specs.Scratch.{eventOf, eventsIn}
-use Rattle.edges.specs.declared.point.ParamPoint.{ParamPoint}
+use Rattle.param.specs.declared.Cells.{Cells}
+use Rattle.param.specs.declared.Leg.{Leg}
+use Rattle.param.specs.Param.{paramInBounds}
 use Rattle.edges.specs.declared.event.EdgeEvent.{EdgeEvent}
+use Rattle.edges.specs.Events.{OnGrid, sortedEdgeEvents}
+use Rattle.edges.specs.Scratch.{eventOf, eventsIn}
 use Rattle.edges.proofs.Places.{event-in, events-length}
 use Rattle.edges.proofs.Kept.{next-event}
-use Rattle.edges.proofs.Each.{each-at}
 use Rattle.edges.proofs.Laws.{events-inside}
 use Rattle.page.specs.declared.Pen.{Pen}
 use Rattle.page.specs.declared.Penned.{Penned}
 use Rattle.page.specs.declared.Penned.the-variants.{Down, Stop}
-use Rattle.page.specs.Step.{Step, on, follow}
-use Rattle.page.specs.Page.{Page, pageOf, pushPage, flushPage, Pushed}
-use Rattle.page.proofs.Follow.{down, stops, as-well}
-use Rattle.walk.specs.Walk.{nextLambda, crossed, crossings, flushUnless, appendEdgeCrossings}
+use Rattle.page.specs.Moves.{Outcome, on, off, follow, run}
+use Rattle.page.specs.Page.{Lists, Page, page, pushPage, flushPage, pageAfter}
+use Rattle.page.proofs.Follow.{down, stops}
+use Rattle.page.proofs.Moves.{run-append, run-none}
+use Rattle.walk.specs.declared.Decision.{Decision}
+use Rattle.walk.specs.Walk.{nextLambda, decide, movesOf, endMoves, eventsMoves, legMoves}
+use Rattle.walk.proofs.Drawn.{end-run}
+
+-- ---- events as the two scratch lists hold them
 
 module _ (ls : List Float) (cs : List ℕ) (count i : ℕ) (h : count ≤ length ls) (s : length ls ≡ length cs) where
   -- the event at i is on the grid
-  pub event-inside : (m n : ℕ) {v : EdgeEvent} → Each (OnGrid m n) (eventsIn ls cs count) → i < count → v ≡ eventOf (getD ls i nan) (getD cs i 0) → OnGrid m n v
-  event-inside m n o k ev =
+  pub event-inside : (k : Cells) {v : EdgeEvent} → Each (OnGrid k) (eventsIn ls cs count) → i < count → v ≡ eventOf (getD ls i nan) (getD cs i 0) → OnGrid k v
+  event-inside k o t ev =
       let d = eventOf nan 0 in
-      rw (ev ∙ event-in ls cs count i d s h k) (each-at (OnGrid m n) (eventsIn ls cs count) i d o (omega (arith, events-length ls cs count s h)))
+      rw (ev ∙ event-in ls cs count i d s h t) (each-at (OnGrid k) (eventsIn ls cs count) i d o (omega (arith, events-length ls cs count s h)))
 
   -- no event is left past the last
   ended : count ≤ i → drop i (eventsIn ls cs count) ≡ []
-  ended k = let past : length (eventsIn ls cs count) ≤ i = omega (arith, events-length ls cs count s h) in drop-of-length-le (eventsIn ls cs count) past
+  ended t = let past : length (eventsIn ls cs count) ≤ i = omega (arith, events-length ls cs count s h) in drop-of-length-le (eventsIn ls cs count) past
 
   -- the lambda at i, or 1 past the last
   next-is : {x : Float} → x ≡ cond (ltb i count) (getD ls i nan) one64 → nextLambda (drop i (eventsIn ls cs count)) ≡ x
@@ -47,58 +56,56 @@ module _ (ls : List Float) (cs : List ℕ) (count i : ℕ) (h : count ≤ length
       go true p q = ap nextLambda (next-event ls cs count i s h (ltb-true i count p)) ∙ sym q
       go false p q = ap nextLambda (ended (ltb-false i count p)) ∙ sym q
 
-module _ (g : List Float) (m n : ℕ) (a b : ParamPoint) (ls : List Float) (cs : List ℕ) (count : ℕ) where
-  -- what is left of the walk: the events from i on, after one at `previous`
-  abbrev left : ℕ → Float → Page → Step Page
-  left i previous = crossings pushPage flushPage g m n a b previous (drop i (eventsIn ls cs count))
+-- every event of a leg is on the grid
+pub leg-inside : (k : Cells) (l : Leg) {es : List EdgeEvent} → k .m ≤ 255 → k .n ≤ 255 → es ≡ sortedEdgeEvents k l → Each (OnGrid k) es
+leg-inside k l hm hn e = rw e (events-inside k l (le-trans hm (lit≤ tt)) (le-trans hn (lit≤ tt)))
 
-  module _ (i : ℕ) (h : count ≤ length ls) (s : length ls ≡ length cs) where
-    pub walk-ends : (previous : Float) (w : Page) → count ≤ i → left i previous w ≡ on w
-    unfolding crossings
-    walk-ends previous w k = rw (ended ls cs count i h s k)
+-- ---- what is left of a leg
 
-    module _ (k : i < count) (previous : Float) (w : Page) {v : EdgeEvent} {x : Float}
-        (ev : v ≡ eventOf (getD ls i nan) (getD cs i 0)) (ex : x ≡ cond (ltb (i + 1) count) (getD ls (i + 1) nan) one64)
+follow-follow : {S : Type 0} (x : Outcome S) (h k : S → Outcome S) → follow (follow x h) k ≡ follow x (λ s. follow (h s) k)
+follow-follow (on s) h k = refl
+follow-follow (off r s) h k = refl
+
+module _ (g : List Float) (k : Cells) (l : Leg) where
+  -- the line's end where the leg leaves the grid
+  abbrev ending : Page → Outcome Page
+  ending = run pushPage flushPage (endMoves (paramInBounds k (l .b)))
+
+  -- the events es, after one at `previous`, and the end
+  abbrev pub left : List EdgeEvent → Float → Page → Outcome Page
+  left es previous w = follow (run pushPage flushPage (eventsMoves g k l previous es) w) ending
+
+  pub leg-starts : (w : Page) {es : List EdgeEvent} → es ≡ sortedEdgeEvents k l → run pushPage flushPage (legMoves g k l) w ≡ left es zero64 w
+  unfolding legMoves
+  leg-starts w e = rw e (run-append pushPage flushPage _ _ w)
+
+  module _ (ls : List Float) (cs : List ℕ) (count i : ℕ) (h : count ≤ length ls) (s : length ls ≡ length cs) where
+    -- the events from i on
+    abbrev rest : ℕ → List EdgeEvent
+    rest j = drop j (eventsIn ls cs count)
+
+    pub leg-ends : (previous : Float) (w : Page) → count ≤ i → left (rest i) previous w ≡ cond (paramInBounds k (l .b)) (on w) (flushPage w)
+    unfolding eventsMoves
+    leg-ends previous w t = rw (ended ls cs count i h s t, run-none pushPage flushPage w) (end-run (paramInBounds k (l .b)) w)
+
+    module _ (t : i < count) (previous : Float) (w : Page) {v : EdgeEvent} {x : Float} {d : Decision}
+        (ev : v ≡ eventOf (getD ls i nan) (getD cs i 0)) (ex : x ≡ cond (ltb (i + 1) count) (getD ls (i + 1) nan) one64) (ed : d ≡ decide g k l previous v x)
       where
         -- the event at i
-        abbrev here : Step Page
-        here = crossed pushPage flushPage g m n a b previous v x w
+        abbrev here : Outcome Page
+        here = run pushPage flushPage (movesOf d) w
 
-        turn : left i previous w ≡ follow here (left (i + 1) (v .lambda))
-        unfolding crossings
+        turn : left (rest i) previous w ≡ follow here (left (rest (i + 1)) (v .lambda))
+        unfolding eventsMoves
         turn =
-            let first : drop i (eventsIn ls cs count) ≡ v ∷ drop (i + 1) (eventsIn ls cs count) = rw ev (next-event ls cs count i s h k) in
-            rw (first, next-is ls cs count (i + 1) h s ex)
+            let first : rest i ≡ v ∷ rest (i + 1) = rw ev (next-event ls cs count i s h t) in
+            rw (first, next-is ls cs count (i + 1) h s ex, ← ed, run-append pushPage flushPage) (follow-follow here _ ending)
 
-        module _ {z : Step Page} (ez : z ≡ left i previous w) {r : Penned} {p : List Float} {t d : List ℕ} {f : List Float} (u : Pushed here r p t d f) where
+        module _ {z : Outcome Page} (ez : z ≡ left (rest i) previous w) {r : Penned} {m : Lists} (u : afterwards r m ≡ pageAfter here) where
           -- the walk goes on
-          pub turn-goes : {pen : Pen} → r ≡ Down pen → z ≡ left (i + 1) (v .lambda) (pageOf p t d f pen)
-          turn-goes {pen} er = ez ∙ turn ∙ down here (left (i + 1) (v .lambda)) u pen er
+          pub turn-goes : {pen : Pen} → r ≡ Down pen → z ≡ left (rest (i + 1)) (v .lambda) (page m pen)
+          turn-goes {pen} er = ez ∙ turn ∙ down here (left (rest (i + 1)) (v .lambda)) u pen er
 
           -- it is refused
-          pub turn-stops : {k : Refusal} → r ≡ Stop k → Pushed z (Stop k) p t d f
-          turn-stops {k} er = stops here (left (i + 1) (v .lambda)) u k (ez ∙ turn) er
-
--- ---- the whole step
-
--- its events are on the grid
-pub events-stand : (m n : ℕ) (a b : ParamPoint) {es : List EdgeEvent} → m ≤ 255 → n ≤ 255 → es ≡ sortedEdgeEvents m n a b → Each (OnGrid m n) es
-events-stand m n a b hm hn e = rw e (events-inside m n a b (le-trans hm (lit≤ tt)) (le-trans hn (lit≤ tt)))
-
-module _ (g : List Float) (m n : ℕ) (a b : ParamPoint) (w : Page) {es : List EdgeEvent} (ee : es ≡ sortedEdgeEvents m n a b)
-    {r : Penned} {p : List Float} {t d : List ℕ} {f : List Float} (u : Pushed (crossings pushPage flushPage g m n a b zero64 es w) r p t d f)
-  where
-    -- the line's end where b is outside
-    abbrev ending : Page → Step Page
-    ending = flushUnless flushPage (paramInBounds m n b)
-
-    step-is : appendEdgeCrossings pushPage flushPage g m n a b w ≡ follow (crossings pushPage flushPage g m n a b zero64 es w) ending
-    unfolding appendEdgeCrossings
-    step-is = rw ee
-
-    pub step-goes : {pen : Pen} → r ≡ Down pen → {inside : Bool} → inside ≡ paramInBounds m n b → {r' : Penned} {p' : List Float} {t' d' : List ℕ} {f' : List Float} →
-        Pushed (flushUnless flushPage inside (pageOf p t d f pen)) r' p' t' d' f' → Pushed (appendEdgeCrossings pushPage flushPage g m n a b w) r' p' t' d' f'
-    step-goes {pen} er ei v = as-well (step-is ∙ down (crossings pushPage flushPage g m n a b zero64 es w) ending u pen er) (rw ei at v)
-
-    pub step-stops : {k : Refusal} → r ≡ Stop k → Pushed (appendEdgeCrossings pushPage flushPage g m n a b w) (Stop k) p t d f
-    step-stops {k} er = stops (crossings pushPage flushPage g m n a b zero64 es w) ending u k step-is er
+          pub turn-stops : {n : Refusal} → r ≡ Stop n → afterwards (Stop n) m ≡ pageAfter z
+          turn-stops {n} er = rw (ez, turn) (stops here (left (rest (i + 1)) (v .lambda)) u n er)

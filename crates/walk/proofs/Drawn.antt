@@ -1,0 +1,48 @@
+-- What is decided of one event, done to the lists: a push and what follows it, by what the calls gave.
+use mathlib.Core.Path.{_≡_, refl, sym, ap, _∙_}
+use mathlib.Core.Bool.{Bool, true, false, cond}
+use Rattle.refusal.specs.declared.Refusal.{Refusal}
+use Rattle.refusal.specs.declared.Refusal.the-variants as refusals
+use Rattle.lent.specs.Lent.{afterwards}
+use Rattle.crossing.specs.declared.Crossing.{Crossing}
+use Rattle.page.specs.declared.Pen.{Pen}
+use Rattle.page.specs.declared.Penned.{Penned}
+use Rattle.page.specs.declared.Penned.the-variants as penned
+use Rattle.page.specs.Moves.{push, flush, Outcome, on, run}
+use Rattle.page.specs.Page.{Lists, Page, page, pushPage, flushPage, pageAfter}
+use Rattle.page.proofs.Follow.{down, stops}
+use Rattle.page.proofs.Moves.{run-append, run-none, run-one}
+use Rattle.walk.specs.declared.EventPoint.the-variants.{Push, Pass, Stop}
+use Rattle.walk.specs.declared.Decision.{Decision}
+use Rattle.walk.specs.Walk.{pointMoves, endMoves, movesOf}
+
+-- the line's end
+pub end-run : (inside : Bool) (w : Page) → run pushPage flushPage (endMoves inside) w ≡ cond inside (on w) (flushPage w)
+end-run true w = run-none pushPage flushPage w
+end-run false w = run-one pushPage flushPage flush w
+
+module _ (d : Decision) (w : Page) where
+  abbrev done : Outcome Page
+  done = run pushPage flushPage (movesOf d) w
+
+  parted : done ≡ _
+  parted = run-append pushPage flushPage (pointMoves (d .point)) (endMoves (d .inside)) w
+
+  -- no point
+  pub draws-end : d .point ≡ Pass → {r : Penned} {l : Lists} → afterwards r l ≡ pageAfter (cond (d .inside) (on w) (flushPage w)) → afterwards r l ≡ pageAfter done
+  draws-end e u = u ∙ ap pageAfter (sym (parted ∙ rw (e, run-none pushPage flushPage w) (end-run (d .inside) w)))
+
+  -- no answer for its point
+  pub draws-stop : d .point ≡ Stop → afterwards (penned.Stop refusals.NoStep) (w .lists) ≡ pageAfter done
+  draws-stop e = ap pageAfter (sym (parted ∙ rw (e, run-one pushPage flushPage)))
+
+  module _ {c : Crossing} (e : d .point ≡ Push c) {r : Penned} {l : Lists} (u : afterwards r l ≡ pageAfter (pushPage c w)) where
+    -- the point is pushed
+    pub draws-point : {pen : Pen} → r ≡ penned.Down pen → {r′ : Penned} {l′ : Lists} → afterwards r′ l′ ≡ pageAfter (cond (d .inside) (on (page l pen)) (flushPage (page l pen))) →
+        afterwards r′ l′ ≡ pageAfter done
+    draws-point {pen} er v =
+        v ∙ ap pageAfter (sym (parted ∙ rw (e, run-one pushPage flushPage (push c) w) (down (pushPage c w) _ u pen er) ∙ end-run (d .inside) (page l pen)))
+
+    -- it is refused
+    pub draws-full : {k : Refusal} → r ≡ penned.Stop k → afterwards (penned.Stop k) l ≡ pageAfter done
+    draws-full {k} er = stops (pushPage c w) (run pushPage flushPage (endMoves (d .inside))) u k er ∙ ap pageAfter (sym (parted ∙ rw (e, run-one pushPage flushPage (push c) w)))
