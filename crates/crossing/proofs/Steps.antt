@@ -1,4 +1,4 @@
--- `stepIndex` by the tests of the code, and the law for its callers: the cell is one of the steps. Assumes nothing.
+-- `stepIndex` by the tests of the code, and the law for its callers: the cell is one of the steps.
 use mathlib.Core.Path.{_≡_, refl}
 use mathlib.Core.Bool.{Bool, true, false, _||_, cond}
 use Prim.Native.Nat.{ℕ, _-_, _^_, _≤_, _<_}

@@ -1,5 +1,5 @@
 -- "Each point is (1 − t) times p plus t times q. U(u) takes p, q at (u,v), (u,v+1); V(v) at (u,v), (u+1,v); the missing index and t come from `step_index`.
--- Diagonal takes p at (u+1,v), q at (u,v+1)." References: `step_index`, `edge_point`. Assumes nothing.
+-- Diagonal takes p at (u+1,v), q at (u,v+1)." References: `step_index`, `edge_point`.
 use mathlib.Core.Path.{_≡_}
 use mathlib.Core.Bool.{Bool, _||_, cond}
 use mathlib.Core.List.{List}
@@ -15,7 +15,8 @@ use Rattle.float.specs.Cast.{natFloat, count}
 use Rattle.vector.specs.declared.Vector.{Vector}
 use Rattle.vector.specs.Vectors.{plus, scaled}
 use Rattle.grid.specs.Grid.{pointNumber, pointAt}
-use Rattle.edges.specs.declared.point.ParamPoint.{ParamPoint}
+use Rattle.param.specs.declared.ParamPoint.{ParamPoint}
+use Rattle.param.specs.declared.Cells.{Cells}
 use Rattle.edges.specs.declared.event.ParamEdge.{ParamEdge}
 use Rattle.edges.specs.declared.event.ParamEdge.the-variants.{U, «V», Diagonal}
 use Rattle.crossing.specs.declared.StepIndex.{StepIndex}
@@ -72,11 +73,11 @@ onDiagonal g n u v y =
     On (crossing g (pointNumber n (u + 1) v) (pointNumber n u (v + 1)) (clamped (sub binary64 y (natFloat v)) zero64 one64))
 
 -- `edge_point`: the point of an event on its side
-unfoldable pub edgePoint : List Float → ℕ → ℕ → ParamEdge → ParamPoint → EdgePoint
-edgePoint g m n (U u) x = onU g n u (stepIndex (x .v) n)
-edgePoint g m n («V» v) x = onV g n v (stepIndex (x .u) m)
-edgePoint g m n (Diagonal u v) x = onDiagonal g n u v (x .v)
+unfoldable pub edgePoint : List Float → Cells → ParamEdge → ParamPoint → EdgePoint
+edgePoint g k (U u) x = onU g (k .n) u (stepIndex (x .v) (k .n))
+edgePoint g k («V» v) x = onV g (k .n) v (stepIndex (x .u) (k .m))
+edgePoint g k (Diagonal u v) x = onDiagonal g (k .n) u v (x .v)
 
--- what the inner functions ask for: a grid of M and N steps, by its length
-abbrev pub GridFits : List Float → ℕ → ℕ → Type 0
-GridFits g m n = (m ≤ 255) × (n ≤ 255) × (length g ≡ 3 * ((m + 1) * (n + 1)))
+-- what the inner functions ask for: a grid of these cells, by its length
+abbrev pub GridFits : List Float → Cells → Type 0
+GridFits g k = (k .m ≤ 255) × (k .n ≤ 255) × (length g ≡ 3 * ((k .m + 1) * (k .n + 1)))

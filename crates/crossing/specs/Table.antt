@@ -1,4 +1,4 @@
--- 01's known results on `step_index`, by computation. Assumes nothing.
+-- 01's known results on `step_index`, by computation.
 use mathlib.Core.Path.{_≡_, refl}
 use mathlib.Core.Bool.{Bool, true}
 use lib.Ieee.{binary64, ofBits, neg}

@@ -1,11 +1,12 @@
 // Where an event's point lies on its side: the two grid points, the fraction between them, and the point.
 use edges::event::ParamEdge;
-use edges::point::ParamPoint;
 use float::cast::to_f64;
 use float::consts::EPS;
 use float::order::clamp;
 use float::sign::abs;
 use float::whole::floor_i64;
+use param::Cells;
+use param::ParamPoint;
 use vector::Vector;
 ghost use mathlib.Core.Path.{_≡_};
 ghost use Prim.Native.Nat.{_+_, _*_, _≤_};
@@ -73,17 +74,18 @@ fn between(grid: &[f64], n: usize, u0: usize, v0: usize, u1: usize, v1: usize, t
 }
 
 // The point of an event on its side.
-pub fn edge_point(grid: &[f64], m: usize, n: usize, edge: ParamEdge, point: ParamPoint) -> EdgePoint
-    requires { ⌜ GridFits (now grid) m n ⌝ }
-    requires { ⌜ Inside m n edge ⌝ }
-    ensures { λ r. ⌜ r ≡ edgePoint (now (grid .entry)) m n edge point ⌝ }
+pub fn edge_point(grid: &[f64], cells: Cells, edge: ParamEdge, point: ParamPoint) -> EdgePoint
+    requires { ⌜ GridFits (now grid) cells ⌝ }
+    requires { ⌜ Inside cells edge ⌝ }
+    ensures { λ r. ⌜ r ≡ edgePoint (now (grid .entry)) cells edge point ⌝ }
 {
+    let n = cells.n;
     match edge {
         ParamEdge::U(u) => match step_index(point.v, n) {
             StepIndex::At(v, t) => EdgePoint::On(between(grid, n, u, v, u, v + 1, t)),
             StepIndex::Nothing => EdgePoint::NoStep,
         },
-        ParamEdge::V(v) => match step_index(point.u, m) {
+        ParamEdge::V(v) => match step_index(point.u, cells.m) {
             StepIndex::At(u, t) => EdgePoint::On(between(grid, n, u, v, u + 1, v, t)),
             StepIndex::Nothing => EdgePoint::NoStep,
         },

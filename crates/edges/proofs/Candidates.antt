@@ -1,10 +1,13 @@
--- `edgeAtPoint` and the candidates by what the code found, each fact an argument. Assumes nothing.
+-- `edgeAtPoint` and the candidates by what the code found, each fact an argument.
 use mathlib.Core.Path.{_≡_, sym, _∙_}
 use mathlib.Core.Bool.{true, false}
 use Prim.Native.Nat.{ℕ}
 use lib.Ieee.{Float}
-use Rattle.edges.specs.declared.point.ParamPoint.{ParamPoint}
-use Rattle.edges.specs.declared.point.Axis.{Axis}
+use Rattle.param.specs.declared.ParamPoint.{ParamPoint}
+use Rattle.param.specs.declared.Leg.{Leg}
+use Rattle.param.specs.declared.Cells.{Cells}
+use Rattle.param.specs.declared.Axis.{Axis}
+use Rattle.param.specs.Param.{across, onLeg, stepsOff, paramInBounds}
 use Rattle.edges.specs.declared.point.WholeStep.the-variants.{Step, Between}
 use Rattle.edges.specs.declared.event.ParamEdge.{ParamEdge}
 use Rattle.edges.specs.declared.event.ParamEdge.the-variants.{U, «V»}
@@ -13,49 +16,50 @@ use Rattle.edges.specs.declared.event.NormalizedLambda.{NormalizedLambda
 use Rattle.edges.specs.declared.event.NormalizedLambda.the-variants.{Lambda, Outside}
 use Rattle.edges.specs.declared.event.Candidate.{Candidate}
 use Rattle.edges.specs.declared.event.Candidate.the-variants.{NoEvent}
-use Rattle.edges.specs.Param.{lerp, across, paramInBounds, integerStep}
+use Rattle.edges.specs.Near.{integerStep}
 use Rattle.edges.specs.Cell.{diagonalCellAt}
 use Rattle.edges.specs.Events.{event, diagonalAt, edgeAtPoint, onLine, lineAt, lineCrossing, diagonalEvent, diagonalCrossing}
 
 -- ---- the side at a point
-module _ (m n : ℕ) (p : ParamPoint) where
-  pub edge-out : paramInBounds m n p ≡ false → NoEdge ≡ edgeAtPoint m n p
+module _ (k : Cells) (p : ParamPoint) where
+  pub edge-out : paramInBounds k p ≡ false → NoEdge ≡ edgeAtPoint k p
   unfolding edgeAtPoint
   edge-out h = rw h
 
-  module _ (h : paramInBounds m n p ≡ true) where
-    pub edge-u : {u : ℕ} → integerStep (p .u) m ≡ Step u → Edge (U u) ≡ edgeAtPoint m n p
+  module _ (h : paramInBounds k p ≡ true) where
+    pub edge-u : {u : ℕ} → integerStep (p .u) (k .m) ≡ Step u → Edge (U u) ≡ edgeAtPoint k p
     unfolding edgeAtPoint
     edge-u d = rw (h, d)
 
-    module _ (d : integerStep (p .u) m ≡ Between) where
-      pub edge-v : {v : ℕ} → integerStep (p .v) n ≡ Step v → Edge («V» v) ≡ edgeAtPoint m n p
+    module _ (d : integerStep (p .u) (k .m) ≡ Between) where
+      pub edge-v : {v : ℕ} → integerStep (p .v) (k .n) ≡ Step v → Edge («V» v) ≡ edgeAtPoint k p
       unfolding edgeAtPoint
       edge-v e = rw (h, d, e)
 
-      pub edge-diagonal : integerStep (p .v) n ≡ Between → diagonalAt (diagonalCellAt m n p) ≡ edgeAtPoint m n p
+      pub edge-diagonal : integerStep (p .v) (k .n) ≡ Between → diagonalAt (diagonalCellAt k p) ≡ edgeAtPoint k p
       unfolding edgeAtPoint
       edge-diagonal e = rw (h, d, e)
 
 -- ---- candidates: r is the lambda that was found, and q the point there
-module _ (a b : ParamPoint) {L r : NormalizedLambda} (e : r ≡ L) where
-  pub line-off : (x : Axis) (n step : ℕ) → r ≡ Outside → NoEvent ≡ lineCrossing x n a b step L
+module _ (k : Cells) (leg : Leg) {L r : NormalizedLambda} (e : r ≡ L) where
+  pub line-off : (x : Axis) (step : ℕ) → r ≡ Outside → NoEvent ≡ lineCrossing x k leg step L
   unfolding lineCrossing
-  line-off x n step h = rw (sym e ∙ h)
+  line-off x step h = rw (sym e ∙ h)
 
-  pub crossing-off : (m n : ℕ) → r ≡ Outside → NoEvent ≡ diagonalCrossing m n a b L
+  pub crossing-off : r ≡ Outside → NoEvent ≡ diagonalCrossing k leg L
   unfolding diagonalCrossing
-  crossing-off m n h = rw (sym e ∙ h)
+  crossing-off h = rw (sym e ∙ h)
 
-  module _ {l : Float} {q : ParamPoint} (h : r ≡ Lambda l) (k : q ≡ lerp a b l) where
-    pub line-on : (x : Axis) (n step : ℕ) {y : Float} {s : ParamEdge} {c : Candidate} → y ≡ across x q → s ≡ lineAt x step → c ≡ onLine y n (event l s) → c ≡ lineCrossing x n a b step L
+  module _ {l : Float} {q : ParamPoint} (h : r ≡ Lambda l) (there : q ≡ onLeg leg l) where
+    pub line-on : (x : Axis) (step : ℕ) {y : Float} {n : ℕ} {s : ParamEdge} {c : Candidate} →
+        y ≡ across x q → n ≡ stepsOff x k → s ≡ lineAt x step → c ≡ onLine y n (event l s) → c ≡ lineCrossing x k leg step L
     unfolding lineCrossing
-    line-on x n step hy hs t = rw (sym e ∙ h, ← k, ← hy, ← hs) t
+    line-on x step hy hn hs t = rw (sym e ∙ h, ← there, ← hy, ← hn, ← hs) t
 
-    pub crossing-out : (m n : ℕ) → paramInBounds m n q ≡ false → NoEvent ≡ diagonalCrossing m n a b L
+    pub crossing-out : paramInBounds k q ≡ false → NoEvent ≡ diagonalCrossing k leg L
     unfolding diagonalCrossing
-    crossing-out m n t = rw (sym e ∙ h, ← k, t)
+    crossing-out t = rw (sym e ∙ h, ← there, t)
 
-    pub crossing-in : (m n : ℕ) → paramInBounds m n q ≡ true → diagonalEvent l (diagonalCellAt m n q) ≡ diagonalCrossing m n a b L
+    pub crossing-in : paramInBounds k q ≡ true → diagonalEvent l (diagonalCellAt k q) ≡ diagonalCrossing k leg L
     unfolding diagonalCrossing
-    crossing-in m n t = rw (sym e ∙ h, ← k, t)
+    crossing-in t = rw (sym e ∙ h, ← there, t)

@@ -1,15 +1,17 @@
--- The code of a side of the grid says which side it is, and what the bound on a side says of its indices. Assumes nothing.
+-- The code of a side of the grid says which side it is, and what the bound on a side says of its indices.
 use mathlib.Core.Path.{_≡_}
 use Prim.Native.Nat.{ℕ, _+_, _*_, _-_, _/_, _%_, _≤_, _<_}
 use native.Mathlib.Omega.{arith}
 use borrow.Author.Tests.{lt-ltb, le-ltb}
+use Rattle.param.specs.declared.Cells.{Cells}
+use Rattle.param.specs.Param.{cells}
 use Rattle.edges.specs.declared.event.ParamEdge.{ParamEdge}
 use Rattle.edges.specs.declared.event.ParamEdge.the-variants.{U, «V», Diagonal}
 use Rattle.edges.specs.declared.event.EdgeEvent.{EdgeEvent}
 use Rattle.edges.specs.Events.{Inside}
 use Rattle.edges.specs.Scratch.{codeOf, edgeOf, eventOf}
 
-pub code-back : (e : ParamEdge) → Inside 255 255 e → edgeOf (codeOf e) ≡ e
+pub code-back : (e : ParamEdge) → Inside (cells 255 255) e → edgeOf (codeOf e) ≡ e
 unfolding codeOf edgeOf
 code-back (U u) h = let t : u < 256 = omega arith in simp (lt-ltb u 256 t)
 code-back («V» v) h =
@@ -24,16 +26,16 @@ code-back (Diagonal u v) h =
     let r : (512 + 256 * u + v - 512) % 256 ≡ v = omega arith in
     simp (le-ltb (512 + 256 * u + v) 256 t, le-ltb (512 + 256 * u + v) 512 s, q, r)
 
-pub event-back : (e : EdgeEvent) {code : ℕ} → code ≡ codeOf (e .edge) → Inside 255 255 (e .edge) → eventOf (e .lambda) code ≡ e
+pub event-back : (e : EdgeEvent) {code : ℕ} → code ≡ codeOf (e .edge) → Inside (cells 255 255) (e .edge) → eventOf (e .lambda) code ≡ e
 event-back e q h = rw (q, code-back (e .edge) h)
 
 -- what the grid's bound says of each kind
-module _ (m n : ℕ) {e : ParamEdge} where
-  pub inside-u : {u : ℕ} → e ≡ U u → Inside m n e → u ≤ m
+module _ (k : Cells) {e : ParamEdge} where
+  pub inside-u : {u : ℕ} → e ≡ U u → Inside k e → u ≤ k .m
   inside-u q h = rw q at h
 
-  pub inside-v : {v : ℕ} → e ≡ «V» v → Inside m n e → v ≤ n
+  pub inside-v : {v : ℕ} → e ≡ «V» v → Inside k e → v ≤ k .n
   inside-v q h = rw q at h
 
-  pub inside-diagonal : {u v : ℕ} → e ≡ Diagonal u v → Inside m n e → (u < m) × (v < n)
+  pub inside-diagonal : {u v : ℕ} → e ≡ Diagonal u v → Inside k e → (u < k .m) × (v < k .n)
   inside-diagonal q h = rw q at h

@@ -1,27 +1,27 @@
--- What holds of every candidate holds of every event, and there are no more events than candidates: sorting keeps to the candidates, and dropping to what was sorted. Assumes nothing.
+-- What holds of every candidate holds of every event, and there are no more events than candidates: sorting keeps to the candidates, and dropping to what was sorted.
 use mathlib.Core.Path.{_≡_, refl}
 use mathlib.Core.Bool.{Bool, cond}
 use mathlib.Core.List.{List, [], _∷_, _++_}
 use Prim.Native.Nat.{ℕ, zero, suc, _+_, _-_, _≤_, _<_}
 use native.Mathlib.Omega.{arith}
-use lib.ListN.{length, getD, length-append}
+use lib.ListN.{length, length-append}
 use lib.Ieee.{Float}
 use Rattle.float.specs.Consts.{zero64, one64}
 use Rattle.float.specs.Order.{totalOrder}
+use Rattle.basics.specs.Lists.{Each}
 use Rattle.basics.proofs.Tests.{cond-keeps}
-use Rattle.edges.specs.declared.point.ParamPoint.{ParamPoint}
-use Rattle.edges.specs.declared.point.Axis.{Axis}
-use Rattle.edges.specs.declared.point.Axis.the-variants.{AxisU, AxisV}
+use Rattle.basics.proofs.Lists.{each-append}
+use Rattle.param.specs.declared.Leg.{Leg}
+use Rattle.param.specs.declared.Cells.{Cells}
+use Rattle.param.specs.declared.Axis.{Axis}
+use Rattle.param.specs.declared.Axis.the-variants.{AxisU, AxisV}
+use Rattle.param.specs.Param.{stepsOn}
 use Rattle.edges.specs.declared.event.EdgeEvent.{EdgeEvent}
 use Rattle.edges.specs.declared.event.Candidate.{Candidate}
 use Rattle.edges.specs.declared.event.Candidate.the-variants.{Event, NoEvent}
-use Rattle.edges.specs.Events.{edgeAtPoint, endCandidate, change, lineCandidate, changeOfSum, diagonalCandidate, moves, listed, listFrom, firstSum, pastSum, ends, lines, diagonals, candidates, precedes, insert, sortInto, closeBy, uniqueAfter, unique, sortedEdgeEvents, IfEvent, Each}
+use Rattle.edges.specs.Events.{edgeAtPoint, endCandidate, change, lineCandidate, changeOfSum, diagonalCandidate, moves, listed, listFrom, firstSum, pastSum, ends, lines, diagonals, candidates, precedes, insert, sortInto, closeBy, uniqueAfter, unique, sortedEdgeEvents, IfEvent}
 
 module _ (P : EdgeEvent → Type 0) where
-  each-append : (xs ys : List EdgeEvent) → Each P xs → Each P ys → Each P (xs ++ ys)
-  each-append [] ys h k = k
-  each-append (x ∷ xs) ys h k = (h .0, each-append xs ys (h .1) k)
-
   each-listed : (c : Candidate) (es : List EdgeEvent) → IfEvent P c → Each P es → Each P (listed c es)
   each-listed (Event e) es h k = (h, k)
   each-listed NoEvent es h k = k
@@ -55,43 +55,32 @@ module _ (P : EdgeEvent → Type 0) where
   each-unique [] h = tt
   each-unique (e ∷ es) h = (h .0, each-after (e .lambda) es (h .1))
 
-  each-lines : (x : Axis) (m n : ℕ) (a b : ParamPoint) → ((j : ℕ) → j < m + 1 → IfEvent P (lineCandidate x n a b j)) → Each P (lines x m n a b)
+  each-lines : (x : Axis) (k : Cells) (leg : Leg) → ((j : ℕ) → j < stepsOn x k + 1 → IfEvent P (lineCandidate x k leg j)) → Each P (lines x k leg)
   unfolding lines
-  each-lines x m n a b h = each-tried (moves (change x a b)) (lineCandidate x n a b) (m + 1) 0 (λ j l. h j (omega arith))
+  each-lines x k leg h = each-tried (moves (change x leg)) (lineCandidate x k leg) (stepsOn x k + 1) 0 (λ j l. h j (omega arith))
 
-  -- the event at i
-  pub each-at : (es : List EdgeEvent) (i : ℕ) (d : EdgeEvent) → Each P es → i < length es → P (getD es i d)
-  each-at [] i d h k = absurd (omega arith)
-  each-at (e ∷ es) zero d h k = h .0
-  each-at (e ∷ es) (suc i) d h k = each-at es i d (h .1) (omega arith)
-
-  -- the candidates of a step
-  module _ (m n : ℕ) (a b : ParamPoint) (start : IfEvent P (endCandidate zero64 (edgeAtPoint m n a))) (end : IfEvent P (endCandidate one64 (edgeAtPoint m n b)))
-      (u : (j : ℕ) → j < m + 1 → IfEvent P (lineCandidate AxisU n a b j)) (v : (j : ℕ) → j < n + 1 → IfEvent P (lineCandidate AxisV m a b j)) (d : (j : ℕ) → IfEvent P (diagonalCandidate m n a b j)) where
-    each-ends : Each P (ends m n a b)
+  -- the candidates of a leg
+  module _ (k : Cells) (leg : Leg) (start : IfEvent P (endCandidate zero64 (edgeAtPoint k (leg .a)))) (end : IfEvent P (endCandidate one64 (edgeAtPoint k (leg .b))))
+      (line : (x : Axis) (j : ℕ) → j < stepsOn x k + 1 → IfEvent P (lineCandidate x k leg j)) (d : (j : ℕ) → IfEvent P (diagonalCandidate k leg j)) where
+    each-ends : Each P (ends k leg)
     unfolding ends
-    each-ends = each-listed (endCandidate zero64 (edgeAtPoint m n a)) _ start (each-listed (endCandidate one64 (edgeAtPoint m n b)) [] end tt)
+    each-ends = each-listed (endCandidate zero64 (edgeAtPoint k (leg .a))) _ start (each-listed (endCandidate one64 (edgeAtPoint k (leg .b))) [] end tt)
 
-    each-diagonals : Each P (diagonals m n a b)
+    each-diagonals : Each P (diagonals k leg)
     unfolding diagonals
-    each-diagonals = each-tried (moves (changeOfSum a b)) (diagonalCandidate m n a b) (pastSum m n a b - firstSum a b) (firstSum a b) (λ j h. d j)
+    each-diagonals = each-tried (moves (changeOfSum leg)) (diagonalCandidate k leg) (pastSum k leg - firstSum leg) (firstSum leg) (λ j h. d j)
 
-    pub each-candidate : Each P (candidates m n a b)
+    pub each-candidate : Each P (candidates k leg)
     unfolding candidates
     each-candidate =
-        let us = lines AxisU m n a b in
-        let vs = lines AxisV n m a b in
-        let ds = diagonals m n a b in
-        each-append (ends m n a b) (us ++ (vs ++ ds)) each-ends (each-append us (vs ++ ds) (each-lines AxisU m n a b u) (each-append vs ds (each-lines AxisV n m a b v) each-diagonals))
+        let us = lines AxisU k leg in
+        let vs = lines AxisV k leg in
+        let ds = diagonals k leg in
+        each-append P (ends k leg) (us ++ (vs ++ ds)) each-ends (each-append P us (vs ++ ds) (each-lines AxisU k leg (line AxisU)) (each-append P vs ds (each-lines AxisV k leg (line AxisV)) each-diagonals))
 
-    pub each-event : Each P (sortedEdgeEvents m n a b)
+    pub each-event : Each P (sortedEdgeEvents k leg)
     unfolding sortedEdgeEvents
-    each-event = each-unique (sortInto (candidates m n a b) []) (each-sort (candidates m n a b) [] each-candidate tt)
-
--- what implies what, event by event
-pub each-implies : (P Q : EdgeEvent → Type 0) → ((e : EdgeEvent) → P e → Q e) → (es : List EdgeEvent) → Each P es → Each Q es
-each-implies P Q f [] h = tt
-each-implies P Q f (e ∷ es) h = (f e (h .0), each-implies P Q f es (h .1))
+    each-event = each-unique (sortInto (candidates k leg) []) (each-sort (candidates k leg) [] each-candidate tt)
 
 -- ---- how many
 length-listed : (c : Candidate) (es : List EdgeEvent) → length (listed c es) ≤ length es + 1
@@ -130,25 +119,25 @@ length-unique (e ∷ es) = omega (arith, length-after (e .lambda) es)
 length-tried : (moved : Bool) (f : ℕ → Candidate) (k i : ℕ) → length (cond moved (listFrom f k i) []) ≤ k
 length-tried moved f k i = cond-keeps (λ (r : List EdgeEvent). length r ≤ k) moved _ [] (length-from f k i) (omega arith)
 
-length-ends : (m n : ℕ) (a b : ParamPoint) → length (ends m n a b) ≤ 2
+length-ends : (k : Cells) (leg : Leg) → length (ends k leg) ≤ 2
 unfolding ends
-length-ends m n a b =
-    let start = endCandidate zero64 (edgeAtPoint m n a) in
-    let end = endCandidate one64 (edgeAtPoint m n b) in
+length-ends k leg =
+    let start = endCandidate zero64 (edgeAtPoint k (leg .a)) in
+    let end = endCandidate one64 (edgeAtPoint k (leg .b)) in
     omega (arith, length-listed start (listed end []), length-listed end [])
 
-length-lines : (x : Axis) (m n : ℕ) (a b : ParamPoint) → length (lines x m n a b) ≤ m + 1
+length-lines : (x : Axis) (k : Cells) (leg : Leg) → length (lines x k leg) ≤ stepsOn x k + 1
 unfolding lines
-length-lines x m n a b = length-tried (moves (change x a b)) (lineCandidate x n a b) (m + 1) 0
+length-lines x k leg = length-tried (moves (change x leg)) (lineCandidate x k leg) (stepsOn x k + 1) 0
 
-length-diagonals : (m n : ℕ) (a b : ParamPoint) → length (diagonals m n a b) ≤ m + n - 1
+length-diagonals : (k : Cells) (leg : Leg) → length (diagonals k leg) ≤ k .m + k .n - 1
 unfolding diagonals
-length-diagonals m n a b =
-    let first = firstSum a b in
-    let past = pastSum m n a b in
-    omega (arith, length-tried (moves (changeOfSum a b)) (diagonalCandidate m n a b) (past - first) first)
+length-diagonals k leg =
+    let first = firstSum leg in
+    let past = pastSum k leg in
+    omega (arith, length-tried (moves (changeOfSum leg)) (diagonalCandidate k leg) (past - first) first)
 
-pub length-candidates : (m n : ℕ) (a b : ParamPoint) → length (candidates m n a b) ≤ 2 + (m + 1) + (n + 1) + (m + n - 1)
+pub length-candidates : (k : Cells) (leg : Leg) → length (candidates k leg) ≤ 2 + (k .m + 1) + (k .n + 1) + (k .m + k .n - 1)
 unfolding candidates
-length-candidates m n a b =
-    simp length-append (omega (arith, length-ends m n a b, length-lines AxisU m n a b, length-lines AxisV n m a b, length-diagonals m n a b))
+length-candidates k leg =
+    simp length-append (omega (arith, length-ends k leg, length-lines AxisU k leg, length-lines AxisV k leg, length-diagonals k leg))

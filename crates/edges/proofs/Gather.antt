@@ -1,4 +1,4 @@
--- Candidates are sorted in one by one: what remains to be sorted into the events that stand there gives the whole. Assumes nothing.
+-- Candidates are sorted in one by one: what remains to be sorted into the events that stand there gives the whole.
 use mathlib.Core.Path.{_≡_, refl}
 use mathlib.Core.Bool.{true, false}
 use mathlib.Core.List.{List, [], _∷_, _++_}
@@ -7,9 +7,11 @@ use native.Mathlib.Omega.{arith}
 use lib.ListN.{length}
 use lib.Ieee.{Float}
 use Rattle.float.specs.Consts.{zero64, one64}
-use Rattle.edges.specs.declared.point.ParamPoint.{ParamPoint}
-use Rattle.edges.specs.declared.point.Axis.{Axis}
-use Rattle.edges.specs.declared.point.Axis.the-variants.{AxisU, AxisV}
+use Rattle.param.specs.declared.Leg.{Leg}
+use Rattle.param.specs.declared.Cells.{Cells}
+use Rattle.param.specs.declared.Axis.{Axis}
+use Rattle.param.specs.declared.Axis.the-variants.{AxisU, AxisV}
+use Rattle.param.specs.Param.{stepsOn}
 use Rattle.edges.specs.declared.event.EdgeEvent.{EdgeEvent}
 use Rattle.edges.specs.declared.event.Candidate.{Candidate}
 use Rattle.edges.specs.declared.event.Candidate.the-variants.{Event, NoEvent}
@@ -69,32 +71,32 @@ module _ {f : ℕ → Candidate} {first end : ℕ} {whole : List EdgeEvent} {cou
   gather-ends h = let s : end - i ≡ 0 = omega arith in rw (g .left, s)
 
 -- ---- the four groups
-module _ (x : Axis) (m n : ℕ) (a b : ParamPoint) (acc : List EdgeEvent) where
-  pub lines-none : moves (change x a b) ≡ false → acc ≡ sortInto (lines x m n a b) acc
+module _ (x : Axis) (k : Cells) (leg : Leg) (acc : List EdgeEvent) where
+  pub lines-none : moves (change x leg) ≡ false → acc ≡ sortInto (lines x k leg) acc
   unfolding lines sortInto
   lines-none h = rw h
 
-  pub lines-start : moves (change x a b) ≡ true → sortInto (lines x m n a b) acc ≡ sortInto (listFrom (lineCandidate x n a b) (m + 1 - 0) 0) acc
+  pub lines-start : moves (change x leg) ≡ true → {n : ℕ} → n ≡ stepsOn x k → sortInto (lines x k leg) acc ≡ sortInto (listFrom (lineCandidate x k leg) (n + 1 - 0) 0) acc
   unfolding lines
-  lines-start h = let all : m + 1 - 0 ≡ m + 1 = omega arith in rw (h, all)
+  lines-start h {n} q = let all : n + 1 - 0 ≡ stepsOn x k + 1 = omega arith in rw (h, all)
 
-module _ (m n : ℕ) (a b : ParamPoint) where
-  pub ends-pushed : {x y : EdgeAtPoint} {c d : Candidate} {r s : List EdgeEvent} → x ≡ edgeAtPoint m n a → y ≡ edgeAtPoint m n b → c ≡ endCandidate zero64 x → d ≡ endCandidate one64 y →
-      r ≡ pushed c [] → s ≡ pushed d r → s ≡ sortInto (ends m n a b) []
+module _ (k : Cells) (leg : Leg) where
+  pub ends-pushed : {x y : EdgeAtPoint} {c d : Candidate} {r s : List EdgeEvent} → x ≡ edgeAtPoint k (leg .a) → y ≡ edgeAtPoint k (leg .b) → c ≡ endCandidate zero64 x → d ≡ endCandidate one64 y →
+      r ≡ pushed c [] → s ≡ pushed d r → s ≡ sortInto (ends k leg) []
   unfolding ends sortInto
   ends-pushed hx hy hc hd hr hs = rw (hs, hr, hd, hc, hy, hx, sort-listed, sort-listed)
 
   module _ (acc : List EdgeEvent) where
-    pub diagonals-none : moves (changeOfSum a b) ≡ false → acc ≡ sortInto (diagonals m n a b) acc
+    pub diagonals-none : moves (changeOfSum leg) ≡ false → acc ≡ sortInto (diagonals k leg) acc
     unfolding diagonals sortInto
     diagonals-none h = rw h
 
-    pub diagonals-start : moves (changeOfSum a b) ≡ true → {first past : ℕ} → first ≡ firstSum a b → past ≡ pastSum m n a b →
-        sortInto (diagonals m n a b) acc ≡ sortInto (listFrom (diagonalCandidate m n a b) (past - first) first) acc
+    pub diagonals-start : moves (changeOfSum leg) ≡ true → {first past : ℕ} → first ≡ firstSum leg → past ≡ pastSum k leg →
+        sortInto (diagonals k leg) acc ≡ sortInto (listFrom (diagonalCandidate k leg) (past - first) first) acc
     unfolding diagonals
     diagonals-start h p q = rw (h, p, q)
 
-  pub groups-sorted : {r s t w : List EdgeEvent} → r ≡ sortInto (ends m n a b) [] → s ≡ sortInto (lines AxisU m n a b) r → t ≡ sortInto (lines AxisV n m a b) s → w ≡ sortInto (diagonals m n a b) t →
-      w ≡ sortInto (candidates m n a b) []
+  pub groups-sorted : {r s t w : List EdgeEvent} → r ≡ sortInto (ends k leg) [] → s ≡ sortInto (lines AxisU k leg) r → t ≡ sortInto (lines AxisV k leg) s → w ≡ sortInto (diagonals k leg) t →
+      w ≡ sortInto (candidates k leg) []
   unfolding candidates
   groups-sorted hr hs ht hw = rw (hw, ht, hs, hr, sort-append, sort-append, sort-append)

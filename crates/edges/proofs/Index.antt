@@ -1,4 +1,4 @@
--- `indexOf` by the tests of the code, on signed numbers; `tryCell` and `diagonalCellAt` by what the code found; and a diagonal's cell is in the grid. Assumes nothing.
+-- `indexOf` by the tests of the code, on signed numbers; `tryCell` and `diagonalCellAt` by what the code found; and a diagonal's cell is in the grid.
 use mathlib.Core.Path.{_≡_, refl, sym, _∙_}
 use Prim.Native.Nat.{ℕ, zero, suc, _≤_, _<_}
 use native.Mathlib.Nat.{lt-of-le-of-lt, le-suc}
@@ -15,12 +15,13 @@ use Rattle.float.specs.Consts.{one64}
 use Rattle.float.specs.Whole.{floorZ}
 use Rattle.float.specs.Cast.{count, natFloat}
 use Rattle.basics.proofs.Tests.{cond-keeps, cond-case}
-use Rattle.edges.specs.declared.point.ParamPoint.{ParamPoint}
+use Rattle.param.specs.declared.ParamPoint.{ParamPoint}
+use Rattle.param.specs.declared.Cells.{Cells}
+use Rattle.param.specs.Param.{within}
 use Rattle.edges.specs.declared.cell.CellIndex.{CellIndex}
 use Rattle.edges.specs.declared.cell.CellIndex.the-variants.{Index, Outside}
 use Rattle.edges.specs.declared.cell.DiagonalCell.{DiagonalCell}
 use Rattle.edges.specs.declared.cell.DiagonalCell.the-variants.{Cell, NoCell}
-use Rattle.edges.specs.Param.{within}
 use Rattle.edges.specs.Cell.{indexOf, onDiagonal, tryCell, inCell, orCell, diagonalCellAt}
 
 -- ---- the cast
@@ -107,10 +108,10 @@ not-in-v p (Index u) (Index v) h = rw (h, and-false)
 pub record FirstOf (p : ParamPoint) (u0 u1 v0 v1 : CellIndex) (w : DiagonalCell) : Type 0 where
   pub in-order : w ≡ orCell (tryCell p u0 v0) (orCell (tryCell p u0 v1) (orCell (tryCell p u1 v0) (tryCell p u1 v1)))
 
-pub four-cells : (m n : ℕ) (p : ParamPoint) {x y : ℤ} {u0 u1 v0 v1 : CellIndex} → x ≡ floorZ (p .u) → y ≡ floorZ (p .v) →
-    u0 ≡ indexOf (x -ℤ pos 1) m → u1 ≡ indexOf x m → v0 ≡ indexOf (y -ℤ pos 1) n → v1 ≡ indexOf y n → FirstOf p u0 u1 v0 v1 (diagonalCellAt m n p)
+pub four-cells : (k : Cells) (p : ParamPoint) {x y : ℤ} {u0 u1 v0 v1 : CellIndex} → x ≡ floorZ (p .u) → y ≡ floorZ (p .v) →
+    u0 ≡ indexOf (x -ℤ pos 1) (k .m) → u1 ≡ indexOf x (k .m) → v0 ≡ indexOf (y -ℤ pos 1) (k .n) → v1 ≡ indexOf y (k .n) → FirstOf p u0 u1 v0 v1 (diagonalCellAt k p)
 unfolding diagonalCellAt
-four-cells m n p hx hy h0 h1 k0 k1 = record { in-order = cc }
+four-cells k p hx hy h0 h1 k0 k1 = record { in-order = cc }
 
 module _ {p : ParamPoint} {u0 u1 v0 v1 : CellIndex} {w : DiagonalCell} (h : FirstOf p u0 u1 v0 v1 w) where
   pub first-fits : {u v : ℕ} → tryCell p u0 v0 ≡ Cell u v → Cell u v ≡ w
@@ -131,38 +132,38 @@ abbrev IndexBelow : ℕ → CellIndex → Type 0
 IndexBelow n (Index k) = k < n
 IndexBelow n Outside = Unit
 
-abbrev pub CellInside : ℕ → ℕ → DiagonalCell → Type 0
-CellInside m n (Cell u v) = (u < m) × (v < n)
-CellInside m n NoCell = Unit
+abbrev pub CellInside : Cells → DiagonalCell → Type 0
+CellInside k (Cell u v) = (u < k .m) × (v < k .n)
+CellInside k NoCell = Unit
 
 index-below : (z : ℤ) (n : ℕ) → IndexBelow n (indexOf z n)
 unfolding indexOf
 index-below (pos k) n = cond-case (IndexBelow n) (ltb k n) _ Outside (ltb-true k n) (λ t. tt)
 index-below (negsuc k) n = tt
 
-try-inside : (p : ParamPoint) (i j : CellIndex) (m n : ℕ) → IndexBelow m i → IndexBelow n j → CellInside m n (tryCell p i j)
+try-inside : (p : ParamPoint) (i j : CellIndex) (k : Cells) → IndexBelow (k .m) i → IndexBelow (k .n) j → CellInside k (tryCell p i j)
 unfolding tryCell
-try-inside p Outside j m n h k = tt
-try-inside p (Index u) Outside m n h k = tt
-try-inside p (Index u) (Index v) m n h k = cond-keeps (CellInside m n) (onDiagonal p u v) _ NoCell (h, k) tt
+try-inside p Outside j k hu hv = tt
+try-inside p (Index u) Outside k hu hv = tt
+try-inside p (Index u) (Index v) k hu hv = cond-keeps (CellInside k) (onDiagonal p u v) _ NoCell (hu, hv) tt
 
-first-inside : (m n : ℕ) (a b c d : DiagonalCell) → CellInside m n a → CellInside m n b → CellInside m n c → CellInside m n d → CellInside m n (orCell a (orCell b (orCell c d)))
-first-inside m n (Cell u v) b c d ha hb hc hd = ha
-first-inside m n NoCell (Cell u v) c d ha hb hc hd = hb
-first-inside m n NoCell NoCell (Cell u v) d ha hb hc hd = hc
-first-inside m n NoCell NoCell NoCell d ha hb hc hd = hd
+first-inside : (k : Cells) (a b c d : DiagonalCell) → CellInside k a → CellInside k b → CellInside k c → CellInside k d → CellInside k (orCell a (orCell b (orCell c d)))
+first-inside k (Cell u v) b c d ha hb hc hd = ha
+first-inside k NoCell (Cell u v) c d ha hb hc hd = hb
+first-inside k NoCell NoCell (Cell u v) d ha hb hc hd = hc
+first-inside k NoCell NoCell NoCell d ha hb hc hd = hd
 
-pub diagonal-inside : (m n : ℕ) (p : ParamPoint) → CellInside m n (diagonalCellAt m n p)
+pub diagonal-inside : (k : Cells) (p : ParamPoint) → CellInside k (diagonalCellAt k p)
 unfolding diagonalCellAt
-diagonal-inside m n p =
+diagonal-inside k p =
     let u = floorZ (p .u) in
     let v = floorZ (p .v) in
     let before-u = u -ℤ pos 1 in
     let before-v = v -ℤ pos 1 in
-    first-inside m n (cell before-u before-v) (cell before-u v) (cell u before-v) (cell u v) (inside before-u before-v) (inside before-u v) (inside u before-v) (inside u v)
+    first-inside k (cell before-u before-v) (cell before-u v) (cell u before-v) (cell u v) (inside before-u before-v) (inside before-u v) (inside u before-v) (inside u v)
   where
     cell : ℤ → ℤ → DiagonalCell
-    cell x y = tryCell p (indexOf x m) (indexOf y n)
+    cell x y = tryCell p (indexOf x (k .m)) (indexOf y (k .n))
 
-    inside : (x y : ℤ) → CellInside m n (cell x y)
-    inside x y = try-inside p (indexOf x m) (indexOf y n) m n (index-below x m) (index-below y n)
+    inside : (x y : ℤ) → CellInside k (cell x y)
+    inside x y = try-inside p (indexOf x (k .m)) (indexOf y (k .n)) k (index-below x (k .m)) (index-below y (k .n))

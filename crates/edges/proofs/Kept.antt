@@ -1,4 +1,4 @@
--- Dropping close events in place: what is kept so far, and the events that are left, make the answer. A store below the place that is read does not touch what is left. Assumes nothing.
+-- Dropping close events in place: what is kept so far, and the events that are left, make the answer. A store below the place that is read does not touch what is left.
 use mathlib.Core.Path.{_≡_, refl, _∙_}
 use mathlib.Core.Bool.{Bool, true, false, cond}
 use mathlib.Core.List.{List, [], _∷_, _++_, append-assoc, append-nil}

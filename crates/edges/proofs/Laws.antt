@@ -1,4 +1,4 @@
--- What holds of the events of every step: each is on a side of the grid, lambdas are from 0 to 1 and ascend in the total order, neighbours are at least EPS apart, and there are at most 1,023. Assumes nothing.
+-- What holds of the events of every leg: each is on a side of the grid, lambdas are from 0 to 1 and ascend in the total order, neighbours are at least EPS apart, and there are at most 1,023.
 use mathlib.Core.Path.{_≡_, refl, ap}
 use mathlib.Core.Bool.{true, false}
 use mathlib.Core.List.{List, [], _∷_}
@@ -8,13 +8,16 @@ use lib.ListN.{length}
 use lib.Ieee.{Float, binary64, ofBits, lt, le, eq, neg, add, isNan}
 use Rattle.float.specs.Consts.{eps, zero64, one64}
 use Rattle.float.specs.Order.{totalOrder}
+use Rattle.basics.specs.Lists.{Each}
+use Rattle.basics.proofs.Lists.{each-implies}
 use Rattle.basics.proofs.Tests.{and-both, cond-keeps, cond-case}
 use Rattle.float.proofs.Less.{le-not-nan}
 use Rattle.float.proofs.Bounds.{clamp-above, clamp-below}
 use Rattle.float.proofs.Orders.{order-self}
-use Rattle.edges.specs.declared.point.ParamPoint.{ParamPoint}
-use Rattle.edges.specs.declared.point.Axis.{Axis}
-use Rattle.edges.specs.declared.point.Axis.the-variants.{AxisU, AxisV}
+use Rattle.param.specs.declared.Leg.{Leg}
+use Rattle.param.specs.declared.Cells.{Cells}
+use Rattle.param.specs.declared.Axis.{Axis}
+use Rattle.param.specs.Param.{along, across, onLeg, stepsOff, within, paramInBounds}
 use Rattle.edges.specs.declared.cell.DiagonalCell.{DiagonalCell}
 use Rattle.edges.specs.declared.cell.DiagonalCell.the-variants.{Cell, NoCell}
 use Rattle.edges.specs.declared.event.EdgeEvent.{EdgeEvent}
@@ -23,85 +26,82 @@ use Rattle.edges.specs.declared.event.EdgeAtPoint.the-variants.{Edge, No
 use Rattle.edges.specs.declared.event.NormalizedLambda.{NormalizedLambda}
 use Rattle.edges.specs.declared.event.NormalizedLambda.the-variants.{Lambda, Outside}
 use Rattle.edges.specs.declared.event.Candidate.the-variants.{NoEvent}
-use Rattle.edges.specs.Param.{lerp, across, within, paramInBounds, normalizeLambda}
+use Rattle.edges.specs.Near.{normalizeLambda}
 use Rattle.edges.specs.Cell.{diagonalCellAt}
-use Rattle.edges.specs.Events.{event, edgeAtPoint, endCandidate, lambdaAt, lineAt, lineCrossing, change, diagonalEvent, diagonalCrossing, sumOf, changeOfSum, candidates, precedes, sortInto, closeBy, uniqueAfter, unique, sortedEdgeEvents, IfEvent, Each, OnGrid}
+use Rattle.edges.specs.Events.{event, edgeAtPoint, endCandidate, lambdaAt, lineAt, lineCrossing, change, diagonalEvent, diagonalCrossing, sumOf, changeOfSum, candidates, precedes, sortInto, closeBy, uniqueAfter, unique, sortedEdgeEvents, IfEvent, OnGrid}
 use Rattle.edges.specs.Scratch.{AscendFrom, Ascend}
 use Rattle.edges.proofs.Order.{not-precedes-transitive, sort-ascends}
 use Rattle.edges.proofs.Grid.{on-line, end-on-grid, line-on-grid, diagonal-on-grid}
-use Rattle.edges.proofs.Each.{each-event, each-candidate, each-sort, each-unique, each-implies, length-sort, length-unique, length-candidates}
+use Rattle.edges.proofs.Each.{each-event, each-candidate, each-sort, each-unique, length-sort, length-unique, length-candidates}
 
 -- ---- each side is on the grid
-module _ (m n : ℕ) (a b : ParamPoint) where
-  pub events-inside : m ≤ 2 ^ 53 → n ≤ 2 ^ 53 → Each (OnGrid m n) (sortedEdgeEvents m n a b)
-  events-inside hm hn =
-      each-event (OnGrid m n) m n a b (end-on-grid m n zero64 a hm hn) (end-on-grid m n one64 b hm hn)
-      (λ j h. line-on-grid AxisU m n n a b j (lambdaAt j (a .u) (change AxisU a b)) (omega arith))
-      (λ j h. line-on-grid AxisV m n m a b j (lambdaAt j (a .v) (change AxisV a b)) (omega arith))
-      (λ j. diagonal-on-grid m n a b (lambdaAt j (sumOf a) (changeOfSum a b)))
+pub events-inside : (k : Cells) (leg : Leg) → k .m ≤ 2 ^ 53 → k .n ≤ 2 ^ 53 → Each (OnGrid k) (sortedEdgeEvents k leg)
+events-inside k leg hm hn =
+    each-event (OnGrid k) k leg (end-on-grid k zero64 (leg .a) hm hn) (end-on-grid k one64 (leg .b) hm hn)
+    (λ x j h. line-on-grid k leg x j (lambdaAt j (along x (leg .a)) (change x leg)) (omega arith))
+    (λ j. diagonal-on-grid k leg (lambdaAt j (sumOf (leg .a)) (changeOfSum leg)))
 
 -- ---- lambdas are from 0 to 1
 abbrev pub ZeroToOne : Float → Type 0
 ZeroToOne l = (le zero64 l ≡ true) × (le l one64 ≡ true)
 
-abbrev pub OnStep : EdgeEvent → Type 0
-OnStep e = ZeroToOne (e .lambda)
+abbrev pub OnLeg : EdgeEvent → Type 0
+OnLeg e = ZeroToOne (e .lambda)
 
-abbrev LambdaOnStep : NormalizedLambda → Type 0
-LambdaOnStep (Lambda l) = ZeroToOne l
-LambdaOnStep Outside = Unit
+abbrev LambdaOnLeg : NormalizedLambda → Type 0
+LambdaOnLeg (Lambda l) = ZeroToOne l
+LambdaOnLeg Outside = Unit
 
-pub zero-on-step : ZeroToOne zero64
+pub zero-on-leg : ZeroToOne zero64
 unfolding le lt eq ofBits
-zero-on-step = (refl, refl)
+zero-on-leg = (refl, refl)
 
-pub one-on-step : ZeroToOne one64
+pub one-on-leg : ZeroToOne one64
 unfolding le lt eq ofBits
-one-on-step = (refl, refl)
+one-on-leg = (refl, refl)
 
 within-not-nan : (x top : Float) → within x top ≡ true → isNan x ≡ false
 unfolding within
 within-not-nan x top h = le-not-nan (neg eps) x (and-both (le (neg eps) x) (le x (add binary64 top eps)) h .0) .1
 
-pub normalized : (l : Float) → LambdaOnStep (normalizeLambda l)
+pub normalized : (l : Float) → LambdaOnLeg (normalizeLambda l)
 unfolding normalizeLambda
 normalized l =
-    cond-case LambdaOnStep (within l one64) _ Outside
-    (λ p. let n = within-not-nan l one64 p in (clamp-above l zero64 one64 n (zero-on-step .1), clamp-below l zero64 one64 n (zero-on-step .1)))
+    cond-case LambdaOnLeg (within l one64) _ Outside
+    (λ p. let n = within-not-nan l one64 p in (clamp-above l zero64 one64 n (zero-on-leg .1), clamp-below l zero64 one64 n (zero-on-leg .1)))
     (λ p. tt)
 
-pub end-on-step : (l : Float) (e : EdgeAtPoint) → ZeroToOne l → IfEvent OnStep (endCandidate l e)
-end-on-step l (Edge e) h = h
-end-on-step l NoEdge h = tt
+pub end-on-leg : (l : Float) (e : EdgeAtPoint) → ZeroToOne l → IfEvent OnLeg (endCandidate l e)
+end-on-leg l (Edge e) h = h
+end-on-leg l NoEdge h = tt
 
-pub line-on-step : (a b : ParamPoint) (x : Axis) (steps k : ℕ) (r : NormalizedLambda) → LambdaOnStep r → IfEvent OnStep (lineCrossing x steps a b k r)
-unfolding lineCrossing
-line-on-step a b x steps k Outside h = tt
-line-on-step a b x steps k (Lambda l) h = on-line OnStep (across x (lerp a b l)) steps (event l (lineAt x k)) h
+module _ (k : Cells) (leg : Leg) where
+  pub line-on-leg : (x : Axis) (step : ℕ) (r : NormalizedLambda) → LambdaOnLeg r → IfEvent OnLeg (lineCrossing x k leg step r)
+  unfolding lineCrossing
+  line-on-leg x step Outside h = tt
+  line-on-leg x step (Lambda l) h = on-line OnLeg (across x (onLeg leg l)) (stepsOff x k) (event l (lineAt x step)) h
 
-module _ (m n : ℕ) (a b : ParamPoint) where
-  pub diagonal-on-step : (r : NormalizedLambda) → LambdaOnStep r → IfEvent OnStep (diagonalCrossing m n a b r)
+  pub diagonal-on-leg : (r : NormalizedLambda) → LambdaOnLeg r → IfEvent OnLeg (diagonalCrossing k leg r)
   unfolding diagonalCrossing
-  diagonal-on-step Outside h = tt
-  diagonal-on-step (Lambda l) h = cond-keeps (IfEvent OnStep) (paramInBounds m n (lerp a b l)) _ NoEvent (at (diagonalCellAt m n (lerp a b l))) tt
+  diagonal-on-leg Outside h = tt
+  diagonal-on-leg (Lambda l) h = cond-keeps (IfEvent OnLeg) (paramInBounds k (onLeg leg l)) _ NoEvent (at (diagonalCellAt k (onLeg leg l))) tt
     where
-      at : (c : DiagonalCell) → IfEvent OnStep (diagonalEvent l c)
+      at : (c : DiagonalCell) → IfEvent OnLeg (diagonalEvent l c)
       at (Cell u v) = h
       at NoCell = tt
 
-  candidates-on-step : Each OnStep (candidates m n a b)
-  candidates-on-step =
-      each-candidate OnStep m n a b (end-on-step zero64 (edgeAtPoint m n a) zero-on-step) (end-on-step one64 (edgeAtPoint m n b) one-on-step)
-      (λ j h. line-on-step a b AxisU n j (lambdaAt j (a .u) (change AxisU a b)) (normalized _))
-      (λ j h. line-on-step a b AxisV m j (lambdaAt j (a .v) (change AxisV a b)) (normalized _))
-      (λ j. diagonal-on-step (lambdaAt j (sumOf a) (changeOfSum a b)) (normalized _))
+  candidates-on-leg : Each OnLeg (candidates k leg)
+  candidates-on-leg =
+      each-candidate OnLeg k leg (end-on-leg zero64 (edgeAtPoint k (leg .a)) zero-on-leg) (end-on-leg one64 (edgeAtPoint k (leg .b)) one-on-leg)
+      (λ x j h. line-on-leg x j (lambdaAt j (along x (leg .a)) (change x leg)) (normalized _))
+      (λ j. diagonal-on-leg (lambdaAt j (sumOf (leg .a)) (changeOfSum leg)) (normalized _))
 
-  sorted-on-step : Each OnStep (sortInto (candidates m n a b) [])
-  sorted-on-step = each-sort OnStep (candidates m n a b) [] candidates-on-step tt
+  sorted-on-leg : Each OnLeg (sortInto (candidates k leg) [])
+  sorted-on-leg = each-sort OnLeg (candidates k leg) [] candidates-on-leg tt
 
-  pub events-on-step : Each OnStep (sortedEdgeEvents m n a b)
+  pub events-on-leg : Each OnLeg (sortedEdgeEvents k leg)
   unfolding sortedEdgeEvents
-  events-on-step = each-unique OnStep (sortInto (candidates m n a b) []) sorted-on-step
+  events-on-leg = each-unique OnLeg (sortInto (candidates k leg) []) sorted-on-leg
 
 -- ---- they ascend and are apart
 -- events of which none is closer than EPS to the one before it, the first not to x
@@ -134,21 +134,21 @@ unfolding unique
 kept-ascend [] n h = (tt, tt)
 kept-ascend (e ∷ es) n h = kept-after (e .lambda) (e .lambda) es (n .0) (n .0) (n .1) (ap precedes (order-self (e .lambda))) h
 
-module _ (m n : ℕ) (a b : ParamPoint) where
-  kept-in-order : Ascend (sortedEdgeEvents m n a b) × Apart (sortedEdgeEvents m n a b)
+module _ (k : Cells) (leg : Leg) where
+  kept-in-order : Ascend (sortedEdgeEvents k leg) × Apart (sortedEdgeEvents k leg)
   unfolding sortedEdgeEvents
   kept-in-order =
-      let es = sortInto (candidates m n a b) [] in
-      kept-ascend es (each-implies OnStep NotNan (λ e h. le-not-nan zero64 (e .lambda) (h .0) .1) es (sorted-on-step m n a b)) (sort-ascends (candidates m n a b) [] tt)
+      let es = sortInto (candidates k leg) [] in
+      kept-ascend es (each-implies OnLeg NotNan (λ e h. le-not-nan zero64 (e .lambda) (h .0) .1) es (sorted-on-leg k leg)) (sort-ascends (candidates k leg) [] tt)
 
-  pub events-ascend : Ascend (sortedEdgeEvents m n a b)
+  pub events-ascend : Ascend (sortedEdgeEvents k leg)
   events-ascend = kept-in-order .0
 
-  pub events-apart : Apart (sortedEdgeEvents m n a b)
+  pub events-apart : Apart (sortedEdgeEvents k leg)
   events-apart = kept-in-order .1
 
   -- ---- there are at most 1,023
-  pub events-few : m ≤ 255 → n ≤ 255 → length (sortedEdgeEvents m n a b) ≤ 1023
+  pub events-few : k .m ≤ 255 → k .n ≤ 255 → length (sortedEdgeEvents k leg) ≤ 1023
   unfolding sortedEdgeEvents
   events-few hm hn =
-      omega (arith, length-candidates m n a b, length-sort (candidates m n a b) [], length-unique (sortInto (candidates m n a b) []))
+      omega (arith, length-candidates k leg, length-sort (candidates k leg) [], length-unique (sortInto (candidates k leg) []))

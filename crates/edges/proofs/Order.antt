@@ -1,4 +1,4 @@
--- Events in order: an insertion keeps them so, and an event goes to the place that is after what it does not precede and before what it precedes. Assumes nothing.
+-- Events in order: an insertion keeps them so, and an event goes to the place that is after what it does not precede and before what it precedes.
 use mathlib.Core.Path.{_≡_, refl, sym, ap, _∙_}
 use mathlib.Core.Bool.{Bool, true, false, true≢false}
 use mathlib.Core.List.{List, [], _∷_}
@@ -9,11 +9,12 @@ use lib.Ieee.{Float, nan, isNan}
 use Rattle.float.specs.Order.{totalOrder}
 use Rattle.float.specs.declared.order.Ordering.{Ordering}
 use Rattle.float.specs.declared.order.Ordering.the-variants.{Less, Equal, Greater}
+use Rattle.basics.specs.Lists.{putAt, Each}
 use Rattle.basics.proofs.Tests.{cannot, cond-case}
 use Rattle.float.proofs.Orders.{less-greater, not-less-transitive}
 use Rattle.edges.specs.declared.event.EdgeEvent.{EdgeEvent}
-use Rattle.edges.specs.Events.{precedes, insert, sortInto, Each}
-use Rattle.edges.specs.Scratch.{eventOf, eventsIn, putAt, PlaceOf, AscendFrom, Ascend, Storable, Sorted}
+use Rattle.edges.specs.Events.{precedes, insert, sortInto}
+use Rattle.edges.specs.Scratch.{eventOf, eventsIn, PlaceOf, AscendFrom, Ascend, Storable, Sorted}
 use Rattle.edges.proofs.Places.{event-in, events-length}
 use Rattle.edges.proofs.Each.{each-insert}
 

@@ -1,4 +1,4 @@
--- Events as one list: a store to both lists is a store of an event. Room for a value is made by moving up what stands from its place on; and a value put at a place of both lists is an event put there. Assumes nothing.
+-- Events as one list: a store to both lists is a store of an event. Room for a value is made by moving up what stands from its place on; and a value put at a place of both lists is an event put there.
 use mathlib.Core.Path.{_≡_, refl, ap, sym, _∙_}
 use mathlib.Core.List.{List, [], _∷_}
 use Prim.Native.Nat.{ℕ, zero, suc, _+_, _-_, _<_, _≤_}
@@ -7,8 +7,9 @@ use native.Mathlib.Numerals.{add-one}
 use lib.ListN.{length, take, drop, getD, set, length-set, drop-of-length-le}
 use lib.Seq.{drop-cons, getD-take, getD-set-same, set-split, take-take, take-set-le, take-set-lt, drop-set-lt, length-take-le}
 use lib.Ieee.{Float, nan}
+use Rattle.basics.specs.Lists.{putAt}
 use Rattle.edges.specs.declared.event.EdgeEvent.{EdgeEvent}
-use Rattle.edges.specs.Scratch.{eventOf, held, eventsIn, putAt}
+use Rattle.edges.specs.Scratch.{eventOf, held, eventsIn}
 
 -- ---- the two lists as one
 pub held-length : (ls : List Float) (cs : List ℕ) → length ls ≡ length cs → length (held ls cs) ≡ length ls

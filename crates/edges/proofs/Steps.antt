@@ -1,4 +1,4 @@
--- What lies on an axis of whole steps: a whole step that a value is close to is at most the last. Assumes nothing.
+-- What lies on an axis of whole steps: a whole step that a value is close to is at most the last.
 use mathlib.Core.Bool.{_&&_}
 use Prim.Native.Nat.{ℕ, _^_, _≤_}
 use lib.Ieee.{Float, binary64, lt, le, sub}
@@ -8,7 +8,7 @@ use Rattle.float.specs.Whole.{rounded}
 use Rattle.float.specs.Cast.{natFloat}
 use Rattle.basics.proofs.Tests.{and-both, cond-case}
 use Rattle.float.proofs.Range.{counted}
-use Rattle.edges.specs.Param.{integerStep}
+use Rattle.edges.specs.Near.{integerStep}
 use Rattle.edges.specs.declared.point.WholeStep.{WholeStep}
 use Rattle.edges.specs.declared.point.WholeStep.the-variants.{Step, Between}
 

@@ -1,4 +1,4 @@
--- Every candidate that the code finds, on a grid of at most 255 steps, is an event that the lists take. Assumes nothing.
+-- Every candidate that the code finds, on a grid of at most 255 steps, is an event that the lists take.
 use mathlib.Core.Path.{_≡_, ap, _∙_}
 use Prim.Native.Nat.{ℕ, _+_, _≤_, _<_}
 use native.Mathlib.Omega.{arith}
@@ -7,49 +7,45 @@ use lib.Dec.{lit≤}
 use lib.Ieee.{Float}
 use Rattle.float.specs.Consts.{zero64}
 use Rattle.float.proofs.Less.{le-not-nan}
-use Rattle.edges.specs.declared.point.ParamPoint.{ParamPoint}
-use Rattle.edges.specs.declared.point.Axis.{Axis}
-use Rattle.edges.specs.declared.point.Axis.the-variants.{AxisU, AxisV}
+use Rattle.param.specs.declared.ParamPoint.{ParamPoint}
+use Rattle.param.specs.declared.Leg.{Leg}
+use Rattle.param.specs.declared.Cells.{Cells}
+use Rattle.param.specs.declared.Axis.{Axis}
+use Rattle.param.specs.Param.{cells, along, stepsOn}
 use Rattle.edges.specs.declared.event.ParamEdge.{ParamEdge}
 use Rattle.edges.specs.declared.event.ParamEdge.the-variants.{U, «V», Diagonal}
 use Rattle.edges.specs.declared.event.EdgeAtPoint.{EdgeAtPoint}
 use Rattle.edges.specs.declared.event.Candidate.{Candidate}
 use Rattle.edges.specs.declared.event.Candidate.the-variants.{Event, NoEvent}
-use Rattle.edges.specs.Param.{along}
-use Rattle.edges.specs.Events.{edgeAtPoint, endCandidate, lambdaAt, lineAt, change, lineCandidate, sumOf, changeOfSum, diagonalCandidate, Inside, IfEvent, OnGrid}
+use Rattle.edges.specs.Events.{edgeAtPoint, endCandidate, lambdaAt, change, lineCandidate, sumOf, changeOfSum, diagonalCandidate, Inside, IfEvent, OnGrid}
 use Rattle.edges.specs.Scratch.{Storable}
 use Rattle.edges.proofs.Grid.{end-on-grid, line-on-grid, diagonal-on-grid}
-use Rattle.edges.proofs.Laws.{ZeroToOne, OnStep, normalized, end-on-step, line-on-step, diagonal-on-step}
+use Rattle.edges.proofs.Laws.{ZeroToOne, OnLeg, normalized, end-on-leg, line-on-leg, diagonal-on-leg}
 
 -- a side of a grid of at most 255 steps has a code
-wider : (m n : ℕ) (e : ParamEdge) → m ≤ 255 → n ≤ 255 → Inside m n e → Inside 255 255 e
-wider m n (U u) hm hn h = le-trans h hm
-wider m n («V» v) hm hn h = le-trans h hn
-wider m n (Diagonal u v) hm hn h = (lt-of-lt-of-le (h .0) hm, lt-of-lt-of-le (h .1) hn)
+wider : (k : Cells) (e : ParamEdge) → k .m ≤ 255 → k .n ≤ 255 → Inside k e → Inside (cells 255 255) e
+wider k (U u) hm hn h = le-trans h hm
+wider k («V» v) hm hn h = le-trans h hn
+wider k (Diagonal u v) hm hn h = (lt-of-lt-of-le (h .0) hm, lt-of-lt-of-le (h .1) hn)
 
 -- the candidate c that the code found
-module _ (m n : ℕ) (hm : m ≤ 255) (hn : n ≤ 255) {c : Candidate} where
-  is-storable : {d : Candidate} → c ≡ d → IfEvent (OnGrid m n) d → IfEvent OnStep d → IfEvent Storable c
-  is-storable {d} q h k = rw q (go d h k)
+module _ (k : Cells) (hm : k .m ≤ 255) (hn : k .n ≤ 255) {c : Candidate} where
+  is-storable : {d : Candidate} → c ≡ d → IfEvent (OnGrid k) d → IfEvent OnLeg d → IfEvent Storable c
+  is-storable {d} q h s = rw q (go d h s)
     where
-      go : (x : Candidate) → IfEvent (OnGrid m n) x → IfEvent OnStep x → IfEvent Storable x
-      go (Event e) g s = (wider m n (e .edge) hm hn g, le-not-nan zero64 (e .lambda) (s .0) .1)
-      go NoEvent g s = tt
+      go : (x : Candidate) → IfEvent (OnGrid k) x → IfEvent OnLeg x → IfEvent Storable x
+      go (Event e) g l = (wider k (e .edge) hm hn g, le-not-nan zero64 (e .lambda) (l .0) .1)
+      go NoEvent g l = tt
 
-  pub end-storable : (l : Float) (p : ParamPoint) {e : EdgeAtPoint} → ZeroToOne l → e ≡ edgeAtPoint m n p → c ≡ endCandidate l e → IfEvent Storable c
-  end-storable l p s q h = is-storable (h ∙ ap (endCandidate l) q) (end-on-grid m n l p (le-trans hm (lit≤ tt)) (le-trans hn (lit≤ tt))) (end-on-step l (edgeAtPoint m n p) s)
+  pub end-storable : (l : Float) (p : ParamPoint) {e : EdgeAtPoint} → ZeroToOne l → e ≡ edgeAtPoint k p → c ≡ endCandidate l e → IfEvent Storable c
+  end-storable l p s q h = is-storable (h ∙ ap (endCandidate l) q) (end-on-grid k l p (le-trans hm (lit≤ tt)) (le-trans hn (lit≤ tt))) (end-on-leg l (edgeAtPoint k p) s)
 
-  pub diagonal-storable : (a b : ParamPoint) (sum : ℕ) → c ≡ diagonalCandidate m n a b sum → IfEvent Storable c
-  diagonal-storable a b sum q =
-      let l = lambdaAt sum (sumOf a) (changeOfSum a b) in
-      is-storable q (diagonal-on-grid m n a b l) (diagonal-on-step m n a b l (normalized _))
+  pub line-storable : (leg : Leg) (x : Axis) (step : ℕ) {n : ℕ} → n ≡ stepsOn x k → step < n + 1 → c ≡ lineCandidate x k leg step → IfEvent Storable c
+  line-storable leg x step e h q =
+      let l = lambdaAt step (along x (leg .a)) (change x leg) in
+      is-storable q (line-on-grid k leg x step l (omega arith)) (line-on-leg k leg x step l (normalized _))
 
--- a line of at most 255 steps
-pub line-storable : (x : Axis) (m n : ℕ) (a b : ParamPoint) (k : ℕ) → m ≤ 255 → k < m + 1 → {c : Candidate} → c ≡ lineCandidate x n a b k → IfEvent Storable c
-line-storable x m n a b k hm h q =
-    let l = lambdaAt k (along x a) (change x a b) in
-    is-storable 255 255 (omega arith) (omega arith) q (line-on-grid x 255 255 n a b k l (inside x)) (line-on-step a b x n k l (normalized _))
-  where
-    inside : (y : Axis) → Inside 255 255 (lineAt y k)
-    inside AxisU = omega arith
-    inside AxisV = omega arith
+  pub diagonal-storable : (leg : Leg) (sum : ℕ) → c ≡ diagonalCandidate k leg sum → IfEvent Storable c
+  diagonal-storable leg sum q =
+      let l = lambdaAt sum (sumOf (leg .a)) (changeOfSum leg) in
+      is-storable q (diagonal-on-grid k leg l) (diagonal-on-leg k leg l (normalized _))

@@ -1,4 +1,4 @@
--- The cell on whose diagonal a point lies (reference: `diagonal_cell_at`). "Floors give signed whole numbers: −0.25 gives −1." Assumes nothing.
+-- The cell on whose diagonal a point lies (reference: `diagonal_cell_at`). "Floors give signed whole numbers: −0.25 gives −1."
 use mathlib.Core.Bool.{Bool, false, _&&_, cond}
 use Prim.Native.Nat.{ℕ}
 use lib.IntN.{ℤ, pos, negsuc, _-ℤ_}
@@ -8,12 +8,13 @@ use Rattle.float.specs.Consts.{eps, one64}
 use Rattle.float.specs.Sign.{absolute}
 use Rattle.float.specs.Whole.{floorZ}
 use Rattle.float.specs.Cast.{natFloat}
-use Rattle.edges.specs.declared.point.ParamPoint.{ParamPoint}
+use Rattle.param.specs.declared.ParamPoint.{ParamPoint}
+use Rattle.param.specs.declared.Cells.{Cells}
+use Rattle.param.specs.Param.{within}
 use Rattle.edges.specs.declared.cell.CellIndex.{CellIndex}
 use Rattle.edges.specs.declared.cell.CellIndex.the-variants.{Index, Outside}
 use Rattle.edges.specs.declared.cell.DiagonalCell.{DiagonalCell}
 use Rattle.edges.specs.declared.cell.DiagonalCell.the-variants.{Cell, NoCell}
-use Rattle.edges.specs.Param.{within}
 
 -- z where it is from 0 to n − 1
 unfoldable pub indexOf : ℤ → ℕ → CellIndex
@@ -44,10 +45,10 @@ orCell (Cell u v) b = Cell u v
 orCell NoCell b = b
 
 -- u of the floor's cell and the one before it, the earlier first; for each, v alike
-unfoldable pub diagonalCellAt : ℕ → ℕ → ParamPoint → DiagonalCell
-diagonalCellAt m n p =
-    let u0 = indexOf (floorZ (p .u) -ℤ pos 1) m in
-    let u1 = indexOf (floorZ (p .u)) m in
-    let v0 = indexOf (floorZ (p .v) -ℤ pos 1) n in
-    let v1 = indexOf (floorZ (p .v)) n in
+unfoldable pub diagonalCellAt : Cells → ParamPoint → DiagonalCell
+diagonalCellAt k p =
+    let u0 = indexOf (floorZ (p .u) -ℤ pos 1) (k .m) in
+    let u1 = indexOf (floorZ (p .u)) (k .m) in
+    let v0 = indexOf (floorZ (p .v) -ℤ pos 1) (k .n) in
+    let v1 = indexOf (floorZ (p .v)) (k .n) in
     orCell (tryCell p u0 v0) (orCell (tryCell p u0 v1) (orCell (tryCell p u1 v0) (tryCell p u1 v1)))

@@ -1,5 +1,5 @@
 -- Events (01, "An event is a lambda and the side it falls on: U(u), V(v) or Diagonal(u,v)"). `sorted_edge_events` "fixes the candidates and their order: end
--- events first, then U, V, diagonals; a stable sort by IEEE 754 totalOrder, so −0 precedes +0; an event closer than EPS to the last one kept is dropped". Assumes nothing.
+-- events first, then U, V, diagonals; a stable sort by IEEE 754 totalOrder, so −0 precedes +0; an event closer than EPS to the last one kept is dropped".
 use mathlib.Core.Bool.{Bool, true, false, cond}
 use mathlib.Core.List.{List, [], _∷_, _++_}
 use Prim.Native.Nat.{ℕ, zero, suc, _+_, _-_, _≤_, _<_, min, max}
@@ -11,9 +11,12 @@ use Rattle.float.specs.declared.order.Ordering.{Ordering}
 use Rattle.float.specs.declared.order.Ordering.the-variants.{Less, Equal, Greater}
 use Rattle.float.specs.Whole.{floorZ, ceilZ}
 use Rattle.float.specs.Cast.{natFloat, count}
-use Rattle.edges.specs.declared.point.ParamPoint.{ParamPoint}
-use Rattle.edges.specs.declared.point.Axis.{Axis}
-use Rattle.edges.specs.declared.point.Axis.the-variants.{AxisU, AxisV}
+use Rattle.param.specs.declared.ParamPoint.{ParamPoint}
+use Rattle.param.specs.declared.Leg.{Leg}
+use Rattle.param.specs.declared.Cells.{Cells}
+use Rattle.param.specs.declared.Axis.{Axis}
+use Rattle.param.specs.declared.Axis.the-variants.{AxisU, AxisV}
+use Rattle.param.specs.Param.{along, across, onLeg, stepsOn, stepsOff, within, paramInBounds}
 use Rattle.edges.specs.declared.point.WholeStep.{WholeStep}
 use Rattle.edges.specs.declared.point.WholeStep.the-variants.{Step, Between}
 use Rattle.edges.specs.declared.cell.DiagonalCell.{DiagonalCell}
@@ -27,7 +30,7 @@ use Rattle.edges.specs.declared.event.NormalizedLambda.{NormalizedLambda
 use Rattle.edges.specs.declared.event.NormalizedLambda.the-variants.{Lambda, Outside}
 use Rattle.edges.specs.declared.event.Candidate.{Candidate}
 use Rattle.edges.specs.declared.event.Candidate.the-variants.{Event, NoEvent}
-use Rattle.edges.specs.Param.{lerp, along, across, within, paramInBounds, integerStep, normalizeLambda}
+use Rattle.edges.specs.Near.{integerStep, normalizeLambda}
 use Rattle.edges.specs.Cell.{diagonalCellAt}
 
 abbrev pub event : Float → ParamEdge → EdgeEvent
@@ -47,13 +50,13 @@ abbrev pub orU : WholeStep → EdgeAtPoint → EdgeAtPoint
 orU (Step u) e = Edge (U u)
 orU Between e = e
 
-unfoldable pub edgeAtPoint : ℕ → ℕ → ParamPoint → EdgeAtPoint
-edgeAtPoint m n p =
-    cond (paramInBounds m n p)
-    (orU (integerStep (p .u) m) (orV (integerStep (p .v) n) (diagonalAt (diagonalCellAt m n p))))
+unfoldable pub edgeAtPoint : Cells → ParamPoint → EdgeAtPoint
+edgeAtPoint k p =
+    cond (paramInBounds k p)
+    (orU (integerStep (p .u) (k .m)) (orV (integerStep (p .v) (k .n)) (diagonalAt (diagonalCellAt k p))))
     NoEdge
 
--- ---- candidates of the step from a to b
+-- ---- candidates of a leg
 
 abbrev pub endCandidate : Float → EdgeAtPoint → Candidate
 endCandidate l (Edge e) = Event (event l e)
@@ -72,37 +75,37 @@ abbrev pub lineAt : Axis → ℕ → ParamEdge
 lineAt AxisU u = U u
 lineAt AxisV v = «V» v
 
--- U(u) or V(v), where the crossing is within EPS of the grid on the other axis, which has so many steps
-unfoldable pub lineCrossing : Axis → ℕ → ParamPoint → ParamPoint → ℕ → NormalizedLambda → Candidate
-lineCrossing x steps a b step Outside = NoEvent
-lineCrossing x steps a b step (Lambda l) = onLine (across x (lerp a b l)) steps (event l (lineAt x step))
+-- U(u) or V(v), where the crossing is within EPS of the grid on the other axis
+unfoldable pub lineCrossing : Axis → Cells → Leg → ℕ → NormalizedLambda → Candidate
+lineCrossing x k leg step Outside = NoEvent
+lineCrossing x k leg step (Lambda l) = onLine (across x (onLeg leg l)) (stepsOff x k) (event l (lineAt x step))
 
 abbrev pub diagonalEvent : Float → DiagonalCell → Candidate
 diagonalEvent l (Cell u v) = Event (event l (Diagonal u v))
 diagonalEvent l NoCell = NoEvent
 
 -- a diagonal, where the crossing is in bounds and a cell's diagonal is there
-unfoldable pub diagonalCrossing : ℕ → ℕ → ParamPoint → ParamPoint → NormalizedLambda → Candidate
-diagonalCrossing m n a b Outside = NoEvent
-diagonalCrossing m n a b (Lambda l) =
-    cond (paramInBounds m n (lerp a b l)) (diagonalEvent l (diagonalCellAt m n (lerp a b l))) NoEvent
+unfoldable pub diagonalCrossing : Cells → Leg → NormalizedLambda → Candidate
+diagonalCrossing k leg Outside = NoEvent
+diagonalCrossing k leg (Lambda l) =
+    cond (paramInBounds k (onLeg leg l)) (diagonalEvent l (diagonalCellAt k (onLeg leg l))) NoEvent
 
--- by how much an axis changes along the step
-abbrev pub change : Axis → ParamPoint → ParamPoint → Float
-change x a b = sub binary64 (along x b) (along x a)
+-- by how much an axis changes along the leg
+abbrev pub change : Axis → Leg → Float
+change x leg = sub binary64 (along x (leg .b)) (along x (leg .a))
 
-abbrev pub lineCandidate : Axis → ℕ → ParamPoint → ParamPoint → ℕ → Candidate
-lineCandidate x steps a b step = lineCrossing x steps a b step (lambdaAt step (along x a) (change x a b))
+abbrev pub lineCandidate : Axis → Cells → Leg → ℕ → Candidate
+lineCandidate x k leg step = lineCrossing x k leg step (lambdaAt step (along x (leg .a)) (change x leg))
 
--- u + v along the step: where it starts, where it ends, and by how much it changes
+-- u + v along the leg: where it starts, where it ends, and by how much it changes
 abbrev pub sumOf : ParamPoint → Float
 sumOf p = add binary64 (p .u) (p .v)
 
-abbrev pub changeOfSum : ParamPoint → ParamPoint → Float
-changeOfSum a b = add binary64 (sub binary64 (b .u) (a .u)) (sub binary64 (b .v) (a .v))
+abbrev pub changeOfSum : Leg → Float
+changeOfSum leg = add binary64 (sub binary64 (leg .b .u) (leg .a .u)) (sub binary64 (leg .b .v) (leg .a .v))
 
-abbrev pub diagonalCandidate : ℕ → ℕ → ParamPoint → ParamPoint → ℕ → Candidate
-diagonalCandidate m n a b sum = diagonalCrossing m n a b (lambdaAt sum (sumOf a) (changeOfSum a b))
+abbrev pub diagonalCandidate : Cells → Leg → ℕ → Candidate
+diagonalCandidate k leg sum = diagonalCrossing k leg (lambdaAt sum (sumOf (leg .a)) (changeOfSum leg))
 
 -- ---- their order
 
@@ -114,39 +117,39 @@ abbrev pub listed : Candidate → List EdgeEvent → List EdgeEvent
 listed (Event e) es = e ∷ es
 listed NoEvent es = es
 
--- k candidates from number i on
+-- n candidates from number i on
 unfoldable pub listFrom : (ℕ → Candidate) → ℕ → ℕ → List EdgeEvent
 listFrom f zero i = []
-listFrom f (suc k) i = listed (f i) (listFrom f k (i + 1))
+listFrom f (suc n) i = listed (f i) (listFrom f n (i + 1))
 
--- the smaller and the larger of two sums
-abbrev pub lowSum : ParamPoint → ParamPoint → Float
-lowSum a b = cond (lt (sumOf b) (sumOf a)) (sumOf b) (sumOf a)
+-- the smaller and the larger of the sums at the ends
+abbrev pub lowSum : Leg → Float
+lowSum leg = cond (lt (sumOf (leg .b)) (sumOf (leg .a))) (sumOf (leg .b)) (sumOf (leg .a))
 
-abbrev pub highSum : ParamPoint → ParamPoint → Float
-highSum a b = cond (lt (sumOf a) (sumOf b)) (sumOf b) (sumOf a)
+abbrev pub highSum : Leg → Float
+highSum leg = cond (lt (sumOf (leg .a)) (sumOf (leg .b))) (sumOf (leg .b)) (sumOf (leg .a))
 
 -- whole sums from the ceiling of the smaller to the floor of the larger; those outside 1 to M+N−1 are skipped
-abbrev pub firstSum : ParamPoint → ParamPoint → ℕ
-firstSum a b = max 1 (count (ceilZ (lowSum a b)))
+abbrev pub firstSum : Leg → ℕ
+firstSum leg = max 1 (count (ceilZ (lowSum leg)))
 
-abbrev pub pastSum : ℕ → ℕ → ParamPoint → ParamPoint → ℕ
-pastSum m n a b = min (m + n) (count (floorZ (highSum a b)) + 1)
+abbrev pub pastSum : Cells → Leg → ℕ
+pastSum k leg = min (k .m + k .n) (count (floorZ (highSum leg)) + 1)
 
-unfoldable pub ends : ℕ → ℕ → ParamPoint → ParamPoint → List EdgeEvent
-ends m n a b = listed (endCandidate zero64 (edgeAtPoint m n a)) (listed (endCandidate one64 (edgeAtPoint m n b)) [])
+unfoldable pub ends : Cells → Leg → List EdgeEvent
+ends k leg = listed (endCandidate zero64 (edgeAtPoint k (leg .a))) (listed (endCandidate one64 (edgeAtPoint k (leg .b))) [])
 
--- the lines of an axis of m steps, the other having n
-unfoldable pub lines : Axis → ℕ → ℕ → ParamPoint → ParamPoint → List EdgeEvent
-lines x m n a b = cond (moves (change x a b)) (listFrom (lineCandidate x n a b) (m + 1) 0) []
+-- the lines of an axis, from its first to its last
+unfoldable pub lines : Axis → Cells → Leg → List EdgeEvent
+lines x k leg = cond (moves (change x leg)) (listFrom (lineCandidate x k leg) (stepsOn x k + 1) 0) []
 
-unfoldable pub diagonals : ℕ → ℕ → ParamPoint → ParamPoint → List EdgeEvent
-diagonals m n a b =
-    cond (moves (changeOfSum a b)) (listFrom (diagonalCandidate m n a b) (pastSum m n a b - firstSum a b) (firstSum a b)) []
+unfoldable pub diagonals : Cells → Leg → List EdgeEvent
+diagonals k leg =
+    cond (moves (changeOfSum leg)) (listFrom (diagonalCandidate k leg) (pastSum k leg - firstSum leg) (firstSum leg)) []
 
 -- "the candidates and their order: end events first, then U, V, diagonals"
-unfoldable pub candidates : ℕ → ℕ → ParamPoint → ParamPoint → List EdgeEvent
-candidates m n a b = ends m n a b ++ (lines AxisU m n a b ++ (lines AxisV n m a b ++ diagonals m n a b))
+unfoldable pub candidates : Cells → Leg → List EdgeEvent
+candidates k leg = ends k leg ++ (lines AxisU k leg ++ (lines AxisV k leg ++ diagonals k leg))
 
 -- "a stable sort by IEEE 754 totalOrder": each event in turn goes before the first that it precedes, so after its equals
 abbrev pub precedes : Ordering → Bool
@@ -178,26 +181,21 @@ unfoldable pub unique : List EdgeEvent → List EdgeEvent
 unique [] = []
 unique (e ∷ es) = e ∷ uniqueAfter (e .lambda) es
 
-unfoldable pub sortedEdgeEvents : ℕ → ℕ → ParamPoint → ParamPoint → List EdgeEvent
-sortedEdgeEvents m n a b = unique (sortInto (candidates m n a b) [])
+unfoldable pub sortedEdgeEvents : Cells → Leg → List EdgeEvent
+sortedEdgeEvents k leg = unique (sortInto (candidates k leg) [])
 
 -- ---- what holds of every event
 
 -- a side of the grid: U(u) up to M, V(v) up to N, a diagonal in a cell
-abbrev pub Inside : ℕ → ℕ → ParamEdge → Type 0
-Inside m n (U u) = u ≤ m
-Inside m n («V» v) = v ≤ n
-Inside m n (Diagonal u v) = (u < m) × (v < n)
+abbrev pub Inside : Cells → ParamEdge → Type 0
+Inside k (U u) = u ≤ k .m
+Inside k («V» v) = v ≤ k .n
+Inside k (Diagonal u v) = (u < k .m) × (v < k .n)
 
 -- P, of a candidate that is an event
 abbrev pub IfEvent : (EdgeEvent → Type 0) → Candidate → Type 0
 IfEvent P (Event e) = P e
 IfEvent P NoEvent = Unit
 
--- P, of every event of a list
-abbrev pub Each : (EdgeEvent → Type 0) → List EdgeEvent → Type 0
-Each P [] = Unit
-Each P (e ∷ es) = P e × Each P es
-
-abbrev pub OnGrid : ℕ → ℕ → EdgeEvent → Type 0
-OnGrid m n e = Inside m n (e .edge)
+abbrev pub OnGrid : Cells → EdgeEvent → Type 0
+OnGrid k e = Inside k (e .edge)

@@ -1,5 +1,5 @@
 -- The definitions that the contracts of this crate cite.
-pub mod Param
+pub mod Near
 pub mod Cell
 pub mod Events
 pub mod Scratch

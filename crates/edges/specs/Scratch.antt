@@ -1,16 +1,19 @@
--- Where the events of a step stand ("`Vec` of events: an array of 1,023 with a count"): their lambdas in one list and the codes of their sides in another. Assumes nothing.
+-- Where the events of a leg stand ("`Vec` of events: an array of 1,023 with a count"): their lambdas in one list and the codes of their sides in another.
 use mathlib.Core.Bool.{true, false, cond}
-use mathlib.Core.List.{List, [], _∷_, _++_}
+use mathlib.Core.List.{List, [], _∷_}
 use mathlib.Core.Path.{_≡_}
 use Prim.Native.Nat.{ℕ, _+_, _-_, _*_, _/_, _%_, _≤_, _<_}
 use lib.Dec.{ltb}
-use lib.ListN.{length, take, drop, getD}
+use lib.ListN.{length, take, getD}
 use lib.Ieee.{Float, nan, isNan}
+use Rattle.basics.specs.Lists.{Each}
 use Rattle.float.specs.Order.{totalOrder}
+use Rattle.param.specs.declared.Cells.{Cells}
+use Rattle.param.specs.Param.{cells}
 use Rattle.edges.specs.declared.event.ParamEdge.{ParamEdge}
 use Rattle.edges.specs.declared.event.ParamEdge.the-variants.{U, «V», Diagonal}
 use Rattle.edges.specs.declared.event.EdgeEvent.{EdgeEvent}
-use Rattle.edges.specs.Events.{event, precedes, Each, OnGrid}
+use Rattle.edges.specs.Events.{event, precedes, OnGrid}
 
 -- a side as one number, and back: indices are below 256
 unfoldable pub codeOf : ParamEdge → ℕ
@@ -34,10 +37,6 @@ held (l ∷ ls) (c ∷ cs) = eventOf l c ∷ held ls cs
 abbrev pub eventsIn : List Float → List ℕ → ℕ → List EdgeEvent
 eventsIn lambdas codes count = take count (held lambdas codes)
 
--- x put at place p of a list
-abbrev pub putAt : {A : Type 0} → ℕ → A → List A → List A
-putAt p x xs = take p xs ++ (x ∷ drop p xs)
-
 -- a place among the first `count` lambdas: l does not precede the one before it, and precedes the one that stands there
 pub record PlaceOf (l : Float) (lambdas : List Float) (count place : ℕ) : Type 0 where
   pub most : place ≤ count
@@ -55,7 +54,7 @@ Ascend (e ∷ es) = AscendFrom (e .lambda) es
 
 -- an event that the lists take: its side has a code, and its lambda is no NaN
 abbrev pub Storable : EdgeEvent → Type 0
-Storable e = OnGrid 255 255 e × (isNan (e .lambda) ≡ false)
+Storable e = OnGrid (cells 255 255) e × (isNan (e .lambda) ≡ false)
 
 -- such events, in order
 pub record Sorted (es : List EdgeEvent) : Type 0 where
@@ -63,9 +62,9 @@ pub record Sorted (es : List EdgeEvent) : Type 0 where
   pub storable : Each Storable es
 
 -- for M and N up to 255, two lists of 1,023 that hold `count` events and have room for so many more: ends, U, V and diagonals are at most 2 + (M+1) + (N+1) + (M+N−1)
-pub record ScratchRoom (m n : ℕ) (lambdas : List Float) (codes : List ℕ) (count more : ℕ) : Type 0 where
-  pub u-steps : m ≤ 255
-  pub v-steps : n ≤ 255
+pub record ScratchRoom (k : Cells) (lambdas : List Float) (codes : List ℕ) (count more : ℕ) : Type 0 where
+  pub u-steps : k .m ≤ 255
+  pub v-steps : k .n ≤ 255
   pub lambdas-length : length lambdas ≡ 1023
   pub codes-length : length codes ≡ 1023
   pub room : count + more ≤ 1023

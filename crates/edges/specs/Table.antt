@@ -1,4 +1,4 @@
--- 01's known results on events, by computation, each at M = N = 1. Assumes nothing.
+-- 01's known results on events, by computation, each at M = N = 1.
 use mathlib.Core.Path.{_≡_, refl}
 use mathlib.Core.Bool.{Bool, true}
 use mathlib.Core.List.{[], _∷_}
@@ -8,8 +8,9 @@ use Rattle.float.specs.Sign.{negative, absolute}
 use Rattle.float.specs.Order.{clamped, totalOrder}
 use Rattle.float.specs.Whole.{floorZ, ceilZ, rounded}
 use Rattle.float.specs.Cast.{natFloat}
+use Rattle.param.specs.Param.{param, leg, cells, lerp, within, paramInBounds}
 use Rattle.edges.specs.declared.event.ParamEdge.the-variants.{U, «V», Diagonal}
-use Rattle.edges.specs.Param.{param, lerp, within, paramInBounds, integerStep, normalizeLambda}
+use Rattle.edges.specs.Near.{integerStep, normalizeLambda}
 use Rattle.edges.specs.Cell.{indexOf, onDiagonal, tryCell, diagonalCellAt}
 use Rattle.edges.specs.Events.{event, edgeAtPoint, lineCrossing, diagonalCrossing, listFrom, ends, lines, diagonals, candidates, insert, sortInto, uniqueAfter, unique, sortedEdgeEvents}
 
@@ -31,17 +32,17 @@ abbrev pub minus-zero : Float
 minus-zero = ofBits binary64 0x8000000000000000
 
 -- "(0, 0.25) to (0.75, 0.25): events U(0) at 0, Diagonal(0,0) at 1"
-pub along-u : sortedEdgeEvents 1 1 (param zero64 quarter) (param three-quarters quarter) ≡ event zero64 (U 0) ∷ (event one64 (Diagonal 0 0) ∷ [])
+pub along-u : sortedEdgeEvents (cells 1 1) (leg (param zero64 quarter) (param three-quarters quarter)) ≡ event zero64 (U 0) ∷ (event one64 (Diagonal 0 0) ∷ [])
 unfolding computed
 along-u = refl
 
 -- "(0, 0) to (0.5, −0.5): first event V(0) at −0, not U(0)": U(0) at 0 is close to it, and dropped
-pub minus-zero-first : sortedEdgeEvents 1 1 (param zero64 zero64) (param half64 minus-half) ≡ event minus-zero («V» 0) ∷ []
+pub minus-zero-first : sortedEdgeEvents (cells 1 1) (leg (param zero64 zero64) (param half64 minus-half)) ≡ event minus-zero («V» 0) ∷ []
 unfolding computed
 minus-zero-first = refl
 
 -- "(0.25, 0.25) to (0.75, 0.75): one event at 0.5"
-across : sortedEdgeEvents 1 1 (param quarter quarter) (param three-quarters three-quarters) ≡ event half64 (Diagonal 0 0) ∷ []
+across : sortedEdgeEvents (cells 1 1) (leg (param quarter quarter) (param three-quarters three-quarters)) ≡ event half64 (Diagonal 0 0) ∷ []
 unfolding computed
 across = refl
 

@@ -1,10 +1,11 @@
 // The cell on whose diagonal a point lies.
-use crate::point::ParamPoint;
-use crate::point::is_within;
 use float::cast::to_f64;
 use float::consts::EPS;
 use float::sign::abs;
 use float::whole::floor_i64;
+use param::Cells;
+use param::ParamPoint;
+use param::is_within;
 ghost use mathlib.Core.Path.{_≡_};
 ghost use lib.IntN.{pos, _-ℤ_};
 ghost use Rattle.edges.specs.Cell.{indexOf, onDiagonal, tryCell, inCell, diagonalCellAt};
@@ -83,15 +84,15 @@ fn is_in_cell(x: f64, index: CellIndex) -> bool
 
 // Of the cell of the point's floors and the three before it, the first on whose diagonal the
 // point lies: u - 1 before u, and for each v - 1 before v.
-pub fn diagonal_cell_at(m: usize, n: usize, point: ParamPoint) -> DiagonalCell
-    ensures { λ r. ⌜ r ≡ diagonalCellAt m n point ⌝ }
+pub fn diagonal_cell_at(cells: Cells, point: ParamPoint) -> DiagonalCell
+    ensures { λ r. ⌜ r ≡ diagonalCellAt cells point ⌝ }
 {
     let u_floor = floor_i64(point.u);
     let v_floor = floor_i64(point.v);
-    let u0 = index_before(u_floor, m);
-    let u1 = index_of(u_floor, m);
-    let v0 = index_before(v_floor, n);
-    let v1 = index_of(v_floor, n);
+    let u0 = index_before(u_floor, cells.m);
+    let u1 = index_of(u_floor, cells.m);
+    let v0 = index_before(v_floor, cells.n);
+    let v1 = index_of(v_floor, cells.n);
     if is_in_cell(point.u, u0) {
         if let DiagonalCell::Cell(u, v) = try_cell(point, u0, v0) {
             return DiagonalCell::Cell(u, v);

@@ -1,16 +1,18 @@
 // Events: a lambda and the side it falls on.
 use crate::cell::DiagonalCell;
 use crate::cell::diagonal_cell_at;
-use crate::point::Axis;
-use crate::point::ParamPoint;
 use crate::point::WholeStep;
 use crate::point::integer_step;
-use crate::point::is_within;
-use crate::point::param_in_bounds;
 use float::cast::to_f64;
 use float::order::clamp;
+use param::Axis;
+use param::Cells;
+use param::Leg;
+use param::ParamPoint;
+use param::is_within;
+use param::param_in_bounds;
 ghost use mathlib.Core.Path.{_≡_};
-ghost use Rattle.edges.specs.Param.{normalizeLambda};
+ghost use Rattle.edges.specs.Near.{normalizeLambda};
 ghost use Rattle.edges.specs.Events.{edgeAtPoint, endCandidate, lambdaAt, onLine, lineAt, lineCandidate, diagonalCandidate};
 
 pub enum ParamEdge {
@@ -40,25 +42,25 @@ pub enum Candidate {
 }
 
 // The side that a point lies on: a U line, else a V line, else a diagonal.
-pub fn edge_at_point(m: usize, n: usize, point: ParamPoint) -> EdgeAtPoint
-    ensures { λ r. ⌜ r ≡ edgeAtPoint m n point ⌝ }
+pub fn edge_at_point(cells: Cells, point: ParamPoint) -> EdgeAtPoint
+    ensures { λ r. ⌜ r ≡ edgeAtPoint cells point ⌝ }
 {
-    if !param_in_bounds(m, n, point) {
+    if !param_in_bounds(cells, point) {
         return EdgeAtPoint::NoEdge;
     }
-    if let WholeStep::Step(u) = integer_step(point.u, m) {
+    if let WholeStep::Step(u) = integer_step(point.u, cells.m) {
         return EdgeAtPoint::Edge(ParamEdge::U(u));
     }
-    if let WholeStep::Step(v) = integer_step(point.v, n) {
+    if let WholeStep::Step(v) = integer_step(point.v, cells.n) {
         return EdgeAtPoint::Edge(ParamEdge::V(v));
     }
-    if let DiagonalCell::Cell(u, v) = diagonal_cell_at(m, n, point) {
+    if let DiagonalCell::Cell(u, v) = diagonal_cell_at(cells, point) {
         return EdgeAtPoint::Edge(ParamEdge::Diagonal(u, v));
     }
     EdgeAtPoint::NoEdge
 }
 
-// The event of an end of the step, where the end lies on a side.
+// The event of an end of a leg, where the end lies on a side.
 pub fn end_candidate(lambda: f64, at: EdgeAtPoint) -> Candidate
     ensures { λ r. ⌜ r ≡ endCandidate lambda at ⌝ }
 {
@@ -105,24 +107,18 @@ fn line_at(axis: Axis, step: usize) -> ParamEdge
     }
 }
 
-// Where the step from a to b crosses the line at `step` of an axis, the other axis having `steps`.
-pub fn line_candidate(
-    axis: Axis,
-    steps: usize,
-    a: ParamPoint,
-    b: ParamPoint,
-    step: usize,
-) -> Candidate
-    ensures { λ r. ⌜ r ≡ lineCandidate axis steps a b step ⌝ }
+// Where a leg crosses the line at `step` of an axis.
+pub fn line_candidate(axis: Axis, cells: Cells, leg: Leg, step: usize) -> Candidate
+    ensures { λ r. ⌜ r ≡ lineCandidate axis cells leg step ⌝ }
 {
-    let start = a.along(axis);
-    let NormalizedLambda::Lambda(lambda) = lambda_at(step, start, b.along(axis) - start) else {
+    let start = leg.a.along(axis);
+    let NormalizedLambda::Lambda(lambda) = lambda_at(step, start, leg.b.along(axis) - start) else {
         return Candidate::NoEvent;
     };
-    let point = a.lerp(b, lambda);
+    let point = leg.at(lambda);
     on_line(
         point.across(axis),
-        steps,
+        cells.steps_off(axis),
         EdgeEvent {
             lambda,
             edge: line_at(axis, step),
@@ -131,18 +127,18 @@ pub fn line_candidate(
 }
 
 // Where u + v comes to `sum`, in bounds and on the diagonal of a cell.
-pub fn diagonal_candidate(m: usize, n: usize, a: ParamPoint, b: ParamPoint, sum: usize) -> Candidate
-    ensures { λ r. ⌜ r ≡ diagonalCandidate m n a b sum ⌝ }
+pub fn diagonal_candidate(cells: Cells, leg: Leg, sum: usize) -> Candidate
+    ensures { λ r. ⌜ r ≡ diagonalCandidate cells leg sum ⌝ }
 {
-    let change = b.u - a.u + (b.v - a.v);
-    let NormalizedLambda::Lambda(lambda) = lambda_at(sum, a.u + a.v, change) else {
+    let change = leg.b.u - leg.a.u + (leg.b.v - leg.a.v);
+    let NormalizedLambda::Lambda(lambda) = lambda_at(sum, leg.a.u + leg.a.v, change) else {
         return Candidate::NoEvent;
     };
-    let point = a.lerp(b, lambda);
-    if !param_in_bounds(m, n, point) {
+    let point = leg.at(lambda);
+    if !param_in_bounds(cells, point) {
         return Candidate::NoEvent;
     }
-    let DiagonalCell::Cell(u, v) = diagonal_cell_at(m, n, point) else {
+    let DiagonalCell::Cell(u, v) = diagonal_cell_at(cells, point) else {
         return Candidate::NoEvent;
     };
     Candidate::Event(EdgeEvent {

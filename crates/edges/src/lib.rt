@@ -1,4 +1,4 @@
-// The sides that a step between two samples crosses, in order.
+// The sides that a leg between two samples crosses, in order.
 pub mod cell;
 pub mod event;
 pub mod point;

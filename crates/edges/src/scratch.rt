@@ -1,4 +1,4 @@
-// Where the events of a step stand, in order: their lambdas in one list, the codes of their sides
+// Where the events of a leg stand, in order: their lambdas in one list, the codes of their sides
 // in another, and a count. Two lists of numbers are lent where a list of events would be copied.
 use crate::event::Candidate;
 use crate::event::EdgeEvent;
@@ -11,13 +11,15 @@ ghost use mathlib.Core.Path.{_≡_};
 ghost use Prim.Native.Nat.{_+_, _<_, _≤_};
 ghost use lib.ListN.{length, getD, take};
 ghost use lib.Ieee.{nan};
+ghost use Rattle.basics.specs.Lists.{putAt};
 ghost use Rattle.float.specs.Order.{totalOrder};
+ghost use Rattle.param.specs.Param.{cells};
 ghost use Rattle.edges.specs.Events.{precedes, insert, pushed, unique, Inside, IfEvent};
-ghost use Rattle.edges.specs.Scratch.{codeOf, edgeOf, eventOf, eventsIn, putAt, PlaceOf, Storable, Sorted};
+ghost use Rattle.edges.specs.Scratch.{codeOf, edgeOf, eventOf, eventsIn, PlaceOf, Storable, Sorted};
 
 // A side as one number.
 fn code_of(edge: ParamEdge) -> u32
-    requires { ⌜ Inside 255 255 edge ⌝ }
+    requires { ⌜ Inside (cells 255 255) edge ⌝ }
     ensures { λ r. ⌜ r ≡ codeOf edge ⌝ }
 {
     match edge {

@@ -1,11 +1,11 @@
--- Textures, and what is answered of them, as C sees them. Assumes nothing.
+-- Textures, and what is answered of them, as C sees them.
 use Prim.Native.Nat.{ℕ}
 use mathlib.Core.Bool.{cond}
 use lib.Dec.{eqb}
 use lib.Ieee.{Float}
 use Rattle.float.specs.Consts.{zero64}
 use Rattle.refusal.specs.Refusals.{Answer, ok, refused}
-use Rattle.edges.specs.declared.point.ParamPoint.{ParamPoint}
+use Rattle.param.specs.declared.ParamPoint.{ParamPoint}
 use Rattle.texture.specs.declared.plan.ParametricSurfaceTexture.{ParametricSurfaceTexture}
 use Rattle.texture.specs.declared.plan.ParametricSurfaceTexture.the-variants.{Grid, Swirl, Spiral}
 use Rattle.texture.specs.Plan.{Plan}

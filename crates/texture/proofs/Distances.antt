@@ -1,5 +1,5 @@
 -- Laws of samples: the first sample of a swirl and the last of a spiral are +0 away from the centre, and so at the centre bit for bit. The radius is finite and above 0, since it lies between that of 1 step
--- and that of 255; a finite value times 0 is a zero, and a value that is k / 2 stays when a zero is added (Zeros.antt). Assumes nothing.
+-- and that of 255; a finite value times 0 is a zero, and a value that is k / 2 stays when a zero is added (Zeros.antt).
 use mathlib.Core.Path.{_≡_, refl, sym, _∙_}
 use mathlib.Core.Bool.{Bool, true, false}
 use Prim.Native.Nat.{ℕ, _*_, _^_, _≤_, _<_}
@@ -23,8 +23,8 @@ use Rattle.refusal.specs.declared.Check.the-variants.{Passed}
 use Rattle.refusal.specs.declared.Refusal.the-variants.{Direction, NotThere}
 use Rattle.refusal.specs.Refusals.{ok, unless}
 use Rattle.grid.proofs.Laws.{Stepped, steps-known, unless-passed}
-use Rattle.edges.specs.Param.{param}
-use Rattle.edges.specs.declared.point.ParamPoint.{ParamPoint}
+use Rattle.param.specs.Param.{param}
+use Rattle.param.specs.declared.ParamPoint.{ParamPoint}
 use Rattle.texture.specs.declared.plan.ParametricSurfaceTexture.{ParametricSurfaceTexture}
 use Rattle.texture.specs.declared.plan.ParametricSurfaceTexture.the-variants.{Swirl, Spiral}
 use Rattle.texture.specs.Plan.{centre, textureRadius, planCheck, Plan, planOf, plan}

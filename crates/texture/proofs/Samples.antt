@@ -1,4 +1,4 @@
--- `turnOf`, `distanceOf`, `angle` and `samplePoint` by the cases of the code, from what the calls gave. Assumes nothing.
+-- `turnOf`, `distanceOf`, `angle` and `samplePoint` by the cases of the code, from what the calls gave.
 use mathlib.Core.Path.{_≡_, sym, ap, _∙_}
 use mathlib.Core.Bool.{Bool, true, false, _&&_}
 use Prim.Native.Nat.{ℕ}
@@ -11,8 +11,8 @@ use Rattle.refusal.specs.declared.Check.the-variants.{Passed}
 use Rattle.refusal.specs.declared.Refusal.{Refusal}
 use Rattle.refusal.specs.declared.Refusal.the-variants.{Direction, NotThere}
 use Rattle.refusal.specs.Refusals.{ok, refused, numberOf, unless}
-use Rattle.edges.specs.Param.{param}
-use Rattle.edges.specs.declared.point.ParamPoint.{ParamPoint}
+use Rattle.param.specs.Param.{param}
+use Rattle.param.specs.declared.ParamPoint.{ParamPoint}
 use Rattle.texture.specs.declared.plan.ParametricSurfaceTexture.{ParametricSurfaceTexture}
 use Rattle.texture.specs.declared.plan.ParametricSurfaceTexture.the-variants.{Swirl, Spiral}
 use Rattle.texture.specs.declared.plan.PlanAnswer.{PlanAnswer}

@@ -1,5 +1,5 @@
 -- "Samples are numbered 0 to the count, both included. The angle of a sample, and its ParamPoint from a lent cosine and sine, are two calls." References: the closures in
--- `paths_swirl` and `paths_spiral`. Assumes nothing.
+-- `paths_swirl` and `paths_spiral`.
 use mathlib.Core.Bool.{Bool, _&&_}
 use Prim.Native.Nat.{ℕ}
 use lib.Dec.{ltb, leb}
@@ -10,8 +10,8 @@ use Rattle.float.specs.Cast.{natFloat}
 use Rattle.refusal.specs.declared.Check.the-variants.{Passed}
 use Rattle.refusal.specs.declared.Refusal.the-variants as refusals
 use Rattle.refusal.specs.Refusals.{Answer, ok, refused, numberOf, unless, passing}
-use Rattle.edges.specs.Param.{param}
-use Rattle.edges.specs.declared.point.ParamPoint.{ParamPoint}
+use Rattle.param.specs.Param.{param}
+use Rattle.param.specs.declared.ParamPoint.{ParamPoint}
 use Rattle.texture.specs.declared.plan.ParametricSurfaceTexture.{ParametricSurfaceTexture}
 use Rattle.texture.specs.declared.plan.ParametricSurfaceTexture.the-variants.{Grid, Swirl, Spiral}
 use Rattle.texture.specs.declared.sample.AngleAnswer.{AngleAnswer}

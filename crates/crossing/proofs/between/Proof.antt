@@ -1,4 +1,4 @@
--- `crossing::between` meets its contract, by what its calls say. Assumes nothing.
+-- `crossing::between` meets its contract, by what its calls say.
 use borrow.Author.Needs.{needs}
 use Rattle.crossing.proofs.between.Statement.{statement}
 use Rattle.crossing.proofs.between.Tie as tie

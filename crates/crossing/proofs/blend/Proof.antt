@@ -1,4 +1,4 @@
--- `crossing::blend` meets its contract, by what its calls say. Assumes nothing.
+-- `crossing::blend` meets its contract, by what its calls say.
 use borrow.Author.Needs.{needs}
 use Rattle.crossing.specs.Crossing.{blend}
 use Rattle.crossing.proofs.blend.Statement.{statement}

@@ -1,58 +1,69 @@
 -- `crossing::edge_point` meets its contract: its cases are those of `edgePoint`, at the variants that the matches found. The side stands in the grid by the
--- requires, and the cell that `step_index` gives is one of the steps. Assumes nothing.
+-- requires, and the cell that `step_index` gives is one of the steps.
 use Prim.Native.Nat.{_≤_, _<_}
 use native.Mathlib.Omega.{arith}
 use denote.Ref.{now}
+use Rattle.edges.proofs.Codes.{inside-u, inside-v, inside-diagonal}
 use Rattle.crossing.specs.Crossing.{edgePoint}
 use Rattle.crossing.proofs.Edges.{sides-stand, cell-inside}
 use borrow.Author.Needs.{needs}
 use Rattle.crossing.proofs.edge_point.Statement.{statement}
 use Rattle.crossing.proofs.edge_point.Tie as tie
 
+-- the start, from where the match finds a U line, a V line, a diagonal; and that line, from where the cell on it is found
+abbrev start-u : tie.After-edge → tie.Start
+start-u e = e .before .before .before
+
+abbrev start-v : tie.After-edge2 → tie.Start
+start-v e = e .before .before .before
+
+abbrev start-d : tie.After-edge3 → tie.Start
+start-d e = e .before .before .before
+
+abbrev line-u : tie.After-v → tie.After-edge
+line-u e = e .before .before .before .before
+
+abbrev line-v : tie.After-u → tie.After-edge2
+line-v e = e .before .before .before .before
+
 -- arm by arm: the side's own indices are on the grid, and the cell that `step_index` gave is one of the steps
-side-u : (c : tie.After-edge) → c .edge .given .0 .0 ≤ c .before .before .before .args .m
-side-u c = rw (c .edge .given .1) at (c .before .before .before .pre .1)
+side-u : (c : tie.After-edge) → c .edge .given .0 .0 ≤ start-u c .args .cells .m
+side-u c = inside-u (start-u c .args .cells) (c .edge .given .1) (start-u c .pre .1)
 
-cell-u : (c : tie.After-v) → c .v .given .0 .0 < c .before .before .before .before .before .before .before .args .n
-cell-u c =
-    let i = c .before .before in
-    let s = i .before .before .before .before .before in
-    cell-inside _ _ (s .pre .0 .1) (i .step-index .ensures) (c .v .given .1)
+cell-u : (c : tie.After-v) → c .v .given .0 .0 < start-u (line-u c) .args .cells .n
+cell-u c = cell-inside _ _ (start-u (line-u c) .pre .0 .1) (c .before .before .step-index .ensures) (c .v .given .1)
 
-side-v : (c : tie.After-edge2) → c .edge2 .given .0 .0 ≤ c .before .before .before .args .n
-side-v c = rw (c .edge2 .given .1) at (c .before .before .before .pre .1)
+side-v : (c : tie.After-edge2) → c .edge2 .given .0 .0 ≤ start-v c .args .cells .n
+side-v c = inside-v (start-v c .args .cells) (c .edge2 .given .1) (start-v c .pre .1)
 
-cell-v : (c : tie.After-u) → c .u .given .0 .0 < c .before .before .before .before .before .before .before .args .m
-cell-v c =
-    let i = c .before .before in
-    let s = i .before .before .before .before .before in
-    cell-inside _ _ (s .pre .0 .0) (i .step-index2 .ensures) (c .u .given .1)
+cell-v : (c : tie.After-u) → c .u .given .0 .0 < start-v (line-v c) .args .cells .m
+cell-v c = cell-inside _ _ (start-v (line-v c) .pre .0 .0) (c .before .before .step-index2 .ensures) (c .u .given .1)
 
-side-diagonal : (c : tie.After-edge3) → (c .edge3 .given .0 .0 < c .before .before .before .args .m) × (c .edge3 .given .0 .1 .0 < c .before .before .before .args .n)
-side-diagonal c = rw (c .edge3 .given .1) at (c .before .before .before .pre .1)
+side-diagonal : (c : tie.After-edge3) → let k = start-d c .args .cells in (c .edge3 .given .0 .0 < k .m) × (c .edge3 .given .0 .1 .0 < k .n)
+side-diagonal c = inside-diagonal (start-d c .args .cells) (c .edge3 .given .1) (start-d c .pre .1)
 
 between-requires : tie.Need-between-requires
 between-requires c κs =
-    let e = c .before .before .before .before .before in
-    let s = e .before .before .before in
+    let e = line-u (c .before) in
+    let s = start-u e in
     let u = side-u e in
     let v = cell-u (c .before) in
-    sides-stand (now (s .args .grid)) (s .args .m) _ _ _ _ _ (s .pre .0) (omega arith)
+    sides-stand (now (s .args .grid)) (s .args .cells) _ _ _ _ (s .pre .0) (omega arith)
 
 between-requires-2 : tie.Need-between-requires-2
 between-requires-2 c κs =
-    let e = c .before .before .before .before .before in
-    let s = e .before .before .before in
+    let e = line-v (c .before) in
+    let s = start-v e in
     let u = cell-v (c .before) in
     let v = side-v e in
-    sides-stand (now (s .args .grid)) (s .args .m) _ _ _ _ _ (s .pre .0) (omega arith)
+    sides-stand (now (s .args .grid)) (s .args .cells) _ _ _ _ (s .pre .0) (omega arith)
 
 between-requires-3 : tie.Need-between-requires-3
 between-requires-3 c κs =
     let e = c .before .before .before .before in
-    let s = e .before .before .before in
+    let s = start-d e in
     let d = side-diagonal e in
-    sides-stand (now (s .args .grid)) (s .args .m) _ _ _ _ _ (s .pre .0) (omega arith)
+    sides-stand (now (s .args .grid)) (s .args .cells) _ _ _ _ (s .pre .0) (omega arith)
 
 returns : tie.Need-returns
 unfolding edgePoint

@@ -1,4 +1,4 @@
--- `crossing::step_index` meets its contract: proofs/Steps.antt has `stepIndex` by these tests. Assumes nothing.
+-- `crossing::step_index` meets its contract: proofs/Steps.antt has `stepIndex` by these tests.
 use Rattle.float.specs.Consts.{eps}
 use Rattle.crossing.proofs.Steps.{step-none-zero, step-none, index-close, index-far, floor-casts, floor-cast-is}
 use borrow.Author.Needs.{needs}

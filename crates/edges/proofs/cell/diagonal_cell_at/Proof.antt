@@ -1,4 +1,4 @@
--- `edges::cell::diagonal_cell_at` meets its contract: the cells are those of the definition, at the floors, and one that is not tried has no fit. Assumes nothing.
+-- `edges::cell::diagonal_cell_at` meets its contract: the cells are those of the definition, at the floors, and one that is not tried has no fit.
 use mathlib.Core.Path.{_≡_, sym, _∙_}
 use mathlib.Core.Logic.{⊎-elim}
 use mir.Syntax.{w64}
@@ -10,46 +10,50 @@ use borrow.Author.Needs.{needs}
 use Rattle.edges.proofs.cell.diagonal_cell_at.Statement.{statement}
 use Rattle.edges.proofs.cell.diagonal_cell_at.Tie as tie
 
+-- the start, from where the four indices are found
+abbrev start : tie.After-index-of2 → tie.Start
+start e = e .before .before .before .before .before .before
+
 -- the four cells, from the indices that were found
-cells : (c : tie.After-index-of2) →
-    let a = c .before .before .before .before .before .before .args in
-    let u0 = c .before .before .before .index-before .result in
-    let u1 = c .before .before .index-of .result in
-    let v0 = c .before .index-before2 .result in
-    let v1 = c .index-of2 .result in
-    FirstOf (a .point) u0 u1 v0 v1 (diagonalCellAt (a .m) (a .n) (a .point))
-cells c =
-    let y = c .before .before .before .before in
+cells : (e : tie.After-index-of2) →
+    let a = start e .args in
+    let u0 = e .before .before .before .index-before .result in
+    let u1 = e .before .before .index-of .result in
+    let v0 = e .before .index-before2 .result in
+    let v1 = e .index-of2 .result in
+    FirstOf (a .point) u0 u1 v0 v1 (diagonalCellAt (a .cells) (a .point))
+cells e =
+    let a = start e .args in
+    let y = e .before .before .before .before in
     let x = y .before in
-    four-cells (x .before .args .m) (x .before .args .n) (x .before .args .point)
+    four-cells (a .cells) (a .point)
     (toZ-ofZ w64 (x .floor-i64 .result) (record { sfits = x .floor-i64 .ok }) ∙ x .floor-i64 .ensures)
     (toZ-ofZ w64 (y .floor-i642 .result) (record { sfits = y .floor-i642 .ok }) ∙ y .floor-i642 .ensures)
-    (c .before .before .before .index-before .ensures) (c .before .before .index-of .ensures) (c .before .index-before2 .ensures) (c .index-of2 .ensures)
+    (e .before .before .before .index-before .ensures) (e .before .before .index-of .ensures) (e .before .index-before2 .ensures) (e .index-of2 .ensures)
 
 -- neither cell of the earlier u fits
 before-none : (c : tie.Joined1) →
-    let k = c .before .before in
-    let p = k .before .before .before .before .before .before .args .point in
-    let u0 = k .before .before .before .index-before .result in
-    (tryCell p u0 (k .before .index-before2 .result) ≡ NoCell) × (tryCell p u0 (k .index-of2 .result) ≡ NoCell)
+    let e = c .before .before in
+    let p = start e .args .point in
+    let u0 = e .before .before .before .index-before .result in
+    (tryCell p u0 (e .before .index-before2 .result) ≡ NoCell) × (tryCell p u0 (e .index-of2 .result) ≡ NoCell)
 before-none c =
-    let k = c .before .before in
-    let p = k .before .before .before .before .before .before .args .point in
-    let u0 = k .before .before .before .index-before .result in
+    let e = c .before .before in
+    let p = start e .args .point in
+    let u0 = e .before .before .before .index-before .result in
     ⊎-elim (λ w. (sym (w .1 .ensures) ∙ w .3 .given .1, sym (w .4 .ensures) ∙ w .6 .given .1))
-    (λ w. let out = sym (c .before .is-in-cell .ensures) ∙ w .left in (not-in-u p u0 (k .before .index-before2 .result) out, not-in-u p u0 (k .index-of2 .result) out)) (c .if1 .came)
+    (λ w. let out = sym (c .before .is-in-cell .ensures) ∙ w .left in (not-in-u p u0 (e .before .index-before2 .result) out, not-in-u p u0 (e .index-of2 .result) out)) (c .if1 .came)
 
 returns : tie.Need-returns
 returns c =
-    let k = c .before .before .before .before .before .before in
-    first-fits (cells k) (sym (c .before .before .before .try-cell .ensures) ∙ c .before .u .given .1)
+    let f = c .before .before .before in
+    first-fits (cells (f .before .before .before)) (sym (f .try-cell .ensures) ∙ c .before .u .given .1)
 
 returns-2 : tie.Need-returns-2
 returns-2 c =
     let s = c .before .before .before in
     let f = s .before .before .before in
-    let k = f .before .before .before in
-    second-fits (cells k) (sym (f .try-cell .ensures) ∙ s .before .enum-told .given .1) (sym (s .try-cell2 .ensures) ∙ c .before .u2 .given .1)
+    second-fits (cells (f .before .before .before)) (sym (f .try-cell .ensures) ∙ s .before .enum-told .given .1) (sym (s .try-cell2 .ensures) ∙ c .before .u2 .given .1)
 
 returns-3 : tie.Need-returns-3
 returns-3 c =
@@ -60,12 +64,11 @@ returns-3 c =
 returns-4 : tie.Need-returns-4
 returns-4 c =
     let j = c .before .before .before in
-    let k = j .before .before in
-    let p = k .before .before .before .before .before .before .args .point in
-    let u1 = k .before .before .index-of .result in
-    let v0 = k .before .index-before2 .result in
-    let out = ⊎-elim (λ w. sym (w .1 .ensures) ∙ w .3 .given .1) (λ w. not-in-v p u1 v0 (sym (c .before .before .is-in-cell2 .ensures) ∙ w .left)) (c .before .if2 .came) in
-    fourth-left (cells k) (before-none j) out (c .try-cell4 .ensures)
+    let e = j .before .before in
+    let u1 = e .before .before .index-of .result in
+    let v0 = e .before .index-before2 .result in
+    let out = ⊎-elim (λ w. sym (w .1 .ensures) ∙ w .3 .given .1) (λ w. not-in-v (start e .args .point) u1 v0 (sym (c .before .before .is-in-cell2 .ensures) ∙ w .left)) (c .before .if2 .came) in
+    fourth-left (cells e) (before-none j) out (c .try-cell4 .ensures)
 
 pub diagonal-cell-at-spec : {M : Type 1} → statement M
 diagonal-cell-at-spec =

@@ -1,4 +1,4 @@
--- `edges::cell::is_in_cell` meets its contract, by cases on the index. Assumes nothing.
+-- `edges::cell::is_in_cell` meets its contract, by cases on the index.
 use Rattle.edges.proofs.Index.{in-cell, in-none}
 use borrow.Author.Needs.{needs}
 use Rattle.edges.proofs.cell.is_in_cell.Statement.{statement}

@@ -1,4 +1,4 @@
--- `edges::cell::on_diagonal` meets its contract: its tests are those of the definition. Assumes nothing.
+-- `edges::cell::on_diagonal` meets its contract: its tests are those of the definition.
 use Rattle.float.specs.Consts.{eps}
 use Rattle.edges.specs.Cell.{onDiagonal}
 use borrow.Author.Needs.{needs}

@@ -1,4 +1,4 @@
--- `edges::cell::try_cell` meets its contract, by cases on the two indices. Assumes nothing.
+-- `edges::cell::try_cell` meets its contract, by cases on the two indices.
 use mathlib.Core.Path.{sym, _∙_}
 use Rattle.edges.specs.Cell.{tryCell}
 use Rattle.edges.proofs.Index.{try-decides}

@@ -1,4 +1,4 @@
--- `edges::event::diagonal_candidate` meets its contract: where there is a lambda, the point there is in bounds and on a cell's diagonal, or there is no event. Assumes nothing.
+-- `edges::event::diagonal_candidate` meets its contract: where there is a lambda, the point there is in bounds and on a cell's diagonal, or there is no event.
 use mathlib.Core.Path.{_≡_, ap, sym, _∙_}
 use Rattle.basics.proofs.Tests.{held, failed}
 use Rattle.edges.specs.Cell.{diagonalCellAt}
@@ -8,32 +8,36 @@ use borrow.Author.Needs.{needs}
 use Rattle.edges.proofs.event.diagonal_candidate.Statement.{statement}
 use Rattle.edges.proofs.event.diagonal_candidate.Tie as tie
 
+-- the start, from where the lambda is found; and that place, from where its point is found
+abbrev start : tie.After-lambda-at → tie.Start
+start l = l .before .before .before .before
+
+abbrev lambda-found : tie.After-at → tie.After-lambda-at
+lambda-found p = p .before .before .before .before
+
 returns : tie.Need-returns
 returns c =
     let l = c .before .before in
-    let a = l .before .before .before .before .before .before .args in
-    crossing-off (a .a) (a .b) (l .lambda-at .ensures) (a .m) (a .n) (c .enum-told .given .1)
+    let a = start l .args in
+    crossing-off (a .cells) (a .leg) (l .lambda-at .ensures) (c .enum-told .given .1)
 
 returns-2 : tie.Need-returns-2
 returns-2 c =
     let p = c .before .before in
-    let t = p .before .before in
-    let l = t .before .before in
-    let a = l .before .before .before .before .before .before .args in
-    crossing-out (a .a) (a .b) (l .lambda-at .ensures) (t .lambda .given .1) (p .lerp .ensures) (a .m) (a .n) (failed (c .before .param-in-bounds .ensures) (c .if1 .taken))
+    let l = lambda-found p in
+    let a = start l .args in
+    crossing-out (a .cells) (a .leg) (l .lambda-at .ensures) (p .before .before .lambda .given .1) (p .at .ensures) (failed (c .before .param-in-bounds .ensures) (c .if1 .taken))
 
 -- in bounds, the cell at the point decides
-in-bounds : (c : tie.Else1) →
-    let p = c .before .before in
-    let t = p .before .before in
-    let a = t .before .before .before .before .before .before .before .before .args in
-    diagonalEvent (t .lambda .given .0 .0) (diagonalCellAt (a .m) (a .n) (p .lerp .result)) ≡ diagonalCandidate (a .m) (a .n) (a .a) (a .b) (a .sum)
-in-bounds c =
-    let p = c .before .before in
-    let t = p .before .before in
-    let l = t .before .before in
-    let a = l .before .before .before .before .before .before .args in
-    crossing-in (a .a) (a .b) (l .lambda-at .ensures) (t .lambda .given .1) (p .lerp .ensures) (a .m) (a .n) (held (c .before .param-in-bounds .ensures) (c .if1 .left))
+in-bounds : (i : tie.Else1) →
+    let p = i .before .before in
+    let a = start (lambda-found p) .args in
+    diagonalEvent (p .before .before .lambda .given .0 .0) (diagonalCellAt (a .cells) (p .at .result)) ≡ diagonalCandidate (a .cells) (a .leg) (a .sum)
+in-bounds i =
+    let p = i .before .before in
+    let l = lambda-found p in
+    let a = start l .args in
+    crossing-in (a .cells) (a .leg) (l .lambda-at .ensures) (p .before .before .lambda .given .1) (p .at .ensures) (held (i .before .param-in-bounds .ensures) (i .if1 .left))
 
 returns-3 : tie.Need-returns-3
 returns-3 c = let d = c .before .before in ap (diagonalEvent _) (sym (c .enum-told2 .given .1) ∙ d .diagonal-cell-at .ensures) ∙ in-bounds (d .before)

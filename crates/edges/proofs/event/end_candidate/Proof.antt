@@ -1,4 +1,4 @@
--- `edges::event::end_candidate` meets its contract, by cases on the side. Assumes nothing.
+-- `edges::event::end_candidate` meets its contract, by cases on the side.
 use mathlib.Core.Path.{sym, ap}
 use Rattle.edges.specs.Events.{endCandidate}
 use borrow.Author.Needs.{needs}

@@ -1,4 +1,4 @@
--- `edges::event::lambda_at` meets its contract: one operation after the other. Assumes nothing.
+-- `edges::event::lambda_at` meets its contract: one operation after the other.
 use borrow.Author.Needs.{needs}
 use Rattle.edges.proofs.event.lambda_at.Statement.{statement}
 use Rattle.edges.proofs.event.lambda_at.Tie as tie

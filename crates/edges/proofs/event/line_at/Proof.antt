@@ -1,4 +1,4 @@
--- `edges::event::line_at` meets its contract, by cases on the axis. Assumes nothing.
+-- `edges::event::line_at` meets its contract, by cases on the axis.
 use borrow.Author.Needs.{needs}
 use Rattle.edges.proofs.event.line_at.Statement.{statement}
 use Rattle.edges.proofs.event.line_at.Tie as tie

@@ -1,29 +1,34 @@
--- `edges::event::line_candidate` meets its contract: where there is a lambda, `on_line` decides at the point there. Assumes nothing.
+-- `edges::event::line_candidate` meets its contract: where there is a lambda, `on_line` decides at the point there.
 use mathlib.Core.Path.{_≡_}
-use Rattle.edges.specs.Param.{along}
+use Rattle.param.specs.Param.{along}
 use Rattle.edges.specs.Events.{lambdaAt, change}
 use Rattle.edges.proofs.Candidates.{line-off, line-on}
 use borrow.Author.Needs.{needs}
 use Rattle.edges.proofs.event.line_candidate.Statement.{statement}
 use Rattle.edges.proofs.event.line_candidate.Tie as tie
 
+-- the start, from where the lambda is found
+abbrev start : tie.After-lambda-at → tie.Start
+start l = l .before .before .before
+
 -- the lambda that was found is the line's
-found : (c : tie.After-lambda-at) → let a = c .before .before .before .args in c .lambda-at .result ≡ lambdaAt (a .step) (along (a .axis) (a .a)) (change (a .axis) (a .a) (a .b))
-found c = cc
+found : (l : tie.After-lambda-at) → let a = start l .args in l .lambda-at .result ≡ lambdaAt (a .step) (along (a .axis) (a .leg .a)) (change (a .axis) (a .leg))
+found l = cc
 
 returns : tie.Need-returns
 returns c =
     let l = c .before .before in
-    let a = l .before .before .before .args in
-    line-off (a .a) (a .b) (found l) (a .axis) (a .steps) (a .step) (c .enum-told .given .1)
+    let a = start l .args in
+    line-off (a .cells) (a .leg) (found l) (a .axis) (a .step) (c .enum-told .given .1)
 
 returns-2 : tie.Need-returns-2
 returns-2 c =
-    let p = c .before .before .before in
+    let p = c .before .before .before .before in
     let t = p .before .before in
     let l = t .before .before in
-    let a = l .before .before .before .args in
-    line-on (a .a) (a .b) (found l) (t .lambda .given .1) (p .lerp .ensures) (a .axis) (a .steps) (a .step) (c .before .before .across .ensures) (c .before .line-at .ensures) (c .on-line .ensures)
+    let a = start l .args in
+    line-on (a .cells) (a .leg) (found l) (t .lambda .given .1) (p .at .ensures) (a .axis) (a .step)
+    (c .before .before .before .across .ensures) (c .before .before .steps-off .ensures) (c .before .line-at .ensures) (c .on-line .ensures)
 
 pub line-candidate-spec : {M : Type 1} → statement M
 line-candidate-spec =
@@ -35,6 +40,7 @@ line-candidate-spec =
     (λ c. search needs)
     (λ c. search needs)
     returns
+    (λ c κs. search needs)
     (λ c κs. search needs)
     (λ c κs. search needs)
     (λ c κs. search needs)

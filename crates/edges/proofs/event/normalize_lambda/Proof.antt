@@ -1,6 +1,6 @@
--- `edges::event::normalize_lambda` meets its contract: a lambda within its range is clamped. Assumes nothing.
+-- `edges::event::normalize_lambda` meets its contract: a lambda within its range is clamped.
 use mathlib.Core.Path.{sym, ap, _∙_}
-use Rattle.edges.specs.Param.{normalizeLambda}
+use Rattle.edges.specs.Near.{normalizeLambda}
 use Rattle.edges.specs.declared.event.NormalizedLambda.the-variants.{Lambda}
 use borrow.Author.Needs.{needs}
 use Rattle.edges.proofs.event.normalize_lambda.Statement.{statement}

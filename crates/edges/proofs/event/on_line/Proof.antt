@@ -1,7 +1,7 @@
--- `edges::event::on_line` meets its contract: the event is kept if the test says so. Assumes nothing.
+-- `edges::event::on_line` meets its contract: the event is kept if the test says so.
 use mathlib.Core.Path.{_≡_, _∙_}
 use Rattle.float.specs.Cast.{natFloat}
-use Rattle.edges.specs.Param.{within}
+use Rattle.param.specs.Param.{within}
 use borrow.Author.Needs.{needs}
 use Rattle.edges.proofs.event.on_line.Statement.{statement}
 use Rattle.edges.proofs.event.on_line.Tie as tie

@@ -1,4 +1,4 @@
--- `edges::point::integer_step` meets its contract: its tests are those of the definition, of what `round` gave. Assumes nothing.
+-- `edges::point::integer_step` meets its contract: its tests are those of the definition, of what `round` gave.
 use mathlib.Core.Path.{_≡_, sym, ap, _∙_}
 use mathlib.Core.Bool.{_&&_}
 use lib.Ieee.{binary64, lt, le, sub, toUnsigned}
@@ -6,7 +6,7 @@ use Rattle.float.specs.Consts.{eps, zero64}
 use Rattle.float.specs.Sign.{absolute}
 use Rattle.float.specs.Whole.{rounded}
 use Rattle.float.specs.Cast.{natFloat}
-use Rattle.edges.specs.Param.{integerStep}
+use Rattle.edges.specs.Near.{integerStep}
 use Rattle.edges.specs.declared.point.WholeStep.the-variants.{Step}
 use borrow.Author.Needs.{needs}
 use Rattle.edges.proofs.point.integer_step.Statement.{statement}

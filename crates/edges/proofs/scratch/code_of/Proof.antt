@@ -1,7 +1,8 @@
--- `edges::scratch::code_of` meets its contract: indices are at most 255, so that nothing wraps. Assumes nothing.
+-- `edges::scratch::code_of` meets its contract: indices are at most 255, so that nothing wraps.
 use mathlib.Core.Path.{ap, sym}
 use Prim.Native.Nat.{_≤_, _<_}
 use native.Mathlib.Omega.{arith}
+use Rattle.param.specs.Param.{cells}
 use Rattle.edges.specs.Scratch.{codeOf}
 use Rattle.edges.proofs.Codes.{inside-u, inside-v, inside-diagonal}
 use borrow.Author.Needs.{needs}
@@ -10,13 +11,13 @@ use Rattle.edges.proofs.scratch.code_of.Tie as tie
 
 -- the bound on the side, for each kind
 u-most : (c : tie.After-known-told) → c .before .edge .given .0 .0 ≤ 255
-u-most c = inside-u 255 255 (c .before .edge .given .1) (c .before .before .before .pre)
+u-most c = inside-u (cells 255 255) (c .before .edge .given .1) (c .before .before .before .pre)
 
 v-most : (c : tie.After-known-told2) → c .before .edge2 .given .0 .0 ≤ 255
-v-most c = inside-v 255 255 (c .before .edge2 .given .1) (c .before .before .before .pre)
+v-most c = inside-v (cells 255 255) (c .before .edge2 .given .1) (c .before .before .before .pre)
 
 cell-below : (c : tie.After-known-told3) → let cell = c .before .edge3 .given .0 in (cell .0 < 255) × (cell .1 .0 < 255)
-cell-below c = inside-diagonal 255 255 (c .before .edge3 .given .1) (c .before .before .before .pre)
+cell-below c = inside-diagonal (cells 255 255) (c .before .edge3 .given .1) (c .before .before .before .pre)
 
 returns : tie.Need-returns
 unfolding codeOf

@@ -1,4 +1,4 @@
--- `edges::scratch::edge_of` meets its contract: its tests are those of the definition. Assumes nothing.
+-- `edges::scratch::edge_of` meets its contract: its tests are those of the definition.
 use borrow.Author.Tests.{lt-ltb, le-ltb}
 use Rattle.edges.specs.Scratch.{edgeOf}
 use borrow.Author.Needs.{needs}

@@ -1,4 +1,4 @@
--- `edges::scratch::event_at` meets its contract: the two places are read. Assumes nothing.
+-- `edges::scratch::event_at` meets its contract: the two places are read.
 use mathlib.Core.Path.{ap}
 use lib.ListN.{getD}
 use lib.Ieee.{nan}

@@ -1,4 +1,4 @@
--- `edges::scratch::insert_event` meets its contract: its lambda and its code are put at the place that the search found, which is the event's. Assumes nothing.
+-- `edges::scratch::insert_event` meets its contract: its lambda and its code are put at the place that the search found, which is the event's.
 use Prim.Native.Nat.{_≤_}
 use native.Mathlib.Omega.{arith}
 use lib.ListN.{length}

@@ -1,4 +1,4 @@
--- `edges::scratch::place_of` meets its contract: the place is after what `low` has passed, and not after `high`, which the lambda precedes. Assumes nothing.
+-- `edges::scratch::place_of` meets its contract: the place is after what `low` has passed, and not after `high`, which the lambda precedes.
 use mathlib.Core.Path.{_≡_, refl, sym, _∙_}
 use mathlib.Core.Bool.{true}
 use Prim.Native.Nat.{_≤_, _<_, _-_}

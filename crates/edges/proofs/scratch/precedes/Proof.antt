@@ -1,4 +1,4 @@
--- `edges::scratch::precedes` meets its contract, by cases on the answer of `total_cmp`. Assumes nothing.
+-- `edges::scratch::precedes` meets its contract, by cases on the answer of `total_cmp`.
 use mathlib.Core.Path.{sym, ap, _∙_}
 use Rattle.edges.specs.Events.{precedes}
 use borrow.Author.Needs.{needs}

@@ -1,4 +1,4 @@
--- `edges::scratch::push_candidate` meets its contract, by cases on the candidate. Assumes nothing.
+-- `edges::scratch::push_candidate` meets its contract, by cases on the candidate.
 use Rattle.edges.specs.Scratch.{Storable}
 use Rattle.edges.proofs.Gather.{if-event, push-yes, push-no}
 use borrow.Author.Needs.{needs}

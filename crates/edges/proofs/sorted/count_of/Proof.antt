@@ -1,4 +1,4 @@
--- `edges::sorted::count_of` meets its contract: the number that the code reads back from z's bits is z. Assumes nothing.
+-- `edges::sorted::count_of` meets its contract: the number that the code reads back from z's bits is z.
 use mathlib.Core.Path.{_≡_}
 use mir.Syntax.{w64}
 use mir.Val.{toZ, ofZ}

@@ -1,4 +1,4 @@
--- `edges::sorted::first_sum` meets its contract: the ceiling of the smaller sum as a count, and at least 1. Assumes nothing.
+-- `edges::sorted::first_sum` meets its contract: the ceiling of the smaller sum as a count, and at least 1.
 use mathlib.Core.Path.{_≡_}
 use native.Mathlib.Omega.{arith}
 use mir.Syntax.{w64}
@@ -10,7 +10,7 @@ use borrow.Author.Needs.{needs}
 use Rattle.edges.proofs.sorted.first_sum.Statement.{statement}
 use Rattle.edges.proofs.sorted.first_sum.Tie as tie
 
-reached : (c : tie.After-count-of) → let a = c .before .before .before .args in c .count-of .result ≡ count (ceilZ (lowSum (a .a) (a .b)))
+reached : (c : tie.After-count-of) → let a = c .before .before .before .args in c .count-of .result ≡ count (ceilZ (lowSum (a .leg)))
 reached c = cc (toZ-ofZ w64 (c .before .ceil-i64 .result) (record { sfits = c .before .ceil-i64 .ok }))
 
 returns : tie.Need-returns

@@ -1,4 +1,4 @@
--- `edges::sorted::high_sum` meets its contract: its test is that of the definition. Assumes nothing.
+-- `edges::sorted::high_sum` meets its contract: its test is that of the definition.
 use Rattle.edges.proofs.sorted.high_sum.Statement.{statement}
 use Rattle.edges.proofs.sorted.high_sum.Tie as tie
 

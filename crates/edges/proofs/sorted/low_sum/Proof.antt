@@ -1,4 +1,4 @@
--- `edges::sorted::low_sum` meets its contract: its test is that of the definition. Assumes nothing.
+-- `edges::sorted::low_sum` meets its contract: its test is that of the definition.
 use Rattle.edges.proofs.sorted.low_sum.Statement.{statement}
 use Rattle.edges.proofs.sorted.low_sum.Tie as tie
 

@@ -1,9 +1,22 @@
--- `edges::sorted::push_candidates` meets its contract: group after group is sorted in, and the lists have room for all. Assumes nothing.
+-- `edges::sorted::push_candidates` meets its contract: group after group is sorted in, and the lists have room for all.
 use native.Mathlib.Omega.{arith}
 use Rattle.edges.proofs.Gather.{groups-sorted}
 use borrow.Author.Needs.{needs}
 use Rattle.edges.proofs.sorted.push_candidates.Statement.{statement}
 use Rattle.edges.proofs.sorted.push_candidates.Tie as tie
+
+-- from each push the place of the one before it, and from the first the start
+abbrev start : tie.After-push-ends → tie.Start
+start e = e .before .before .before .before .before
+
+abbrev ends-pushed : tie.After-push-lines → tie.After-push-ends
+ends-pushed e = e .before .before .before .before .before .before .before
+
+abbrev us-pushed : tie.After-push-lines2 → tie.After-push-lines
+us-pushed e = e .before .before .before .before .before .before .before
+
+abbrev lines-pushed : tie.After-push-diagonals → tie.After-push-lines2
+lines-pushed e = e .before .before .before .before .before .before .before
 
 push-lines-requires : tie.Need-push-lines-requires
 push-lines-requires c κs = (search needs, c .before .before .before .before .before .before .push-ends .ensures .2)
@@ -17,12 +30,12 @@ push-diagonals-requires c κs = (search needs, c .before .before .before .before
 returns : tie.Need-returns
 returns c =
     let diagonals = c .before .before .before .before in
-    let vs = diagonals .before .before .before .before .before .before .before in
-    let us = vs .before .before .before .before .before .before .before in
-    let ends = us .before .before .before .before .before .before .before in
-    let s = ends .before .before .before .before .before in (
+    let vs = lines-pushed diagonals in
+    let us = us-pushed vs in
+    let ends = ends-pushed us in
+    let s = start ends in (
       omega (arith, s .pre .u-steps, s .pre .v-steps, ends .push-ends .ensures .0, us .push-lines .ensures .0, vs .push-lines2 .ensures .0, diagonals .push-diagonals .ensures .0),
-      groups-sorted (s .args .m) (s .args .n) (s .args .a) (s .args .b) (ends .push-ends .ensures .1) (us .push-lines .ensures .1) (vs .push-lines2 .ensures .1) (diagonals .push-diagonals .ensures .1),
+      groups-sorted (s .args .cells) (s .args .leg) (ends .push-ends .ensures .1) (us .push-lines .ensures .1) (vs .push-lines2 .ensures .1) (diagonals .push-diagonals .ensures .1),
     )
 
 pub push-candidates-spec : {M : Type 1} → statement M

@@ -1,4 +1,4 @@
--- `edges::sorted::push_diagonals` meets its contract: the diagonals from sum on, sorted into the events so far, give what is asked. Assumes nothing.
+-- `edges::sorted::push_diagonals` meets its contract: the diagonals from sum on, sorted into the events so far, give what is asked.
 use mathlib.Core.Path.{ap}
 use Prim.Native.Nat.{_≤_, _+_, _-_}
 use native.Mathlib.Omega.{arith}
@@ -14,24 +14,31 @@ use Rattle.edges.proofs.sorted.push_diagonals.Statement.{statement}
 use Rattle.edges.proofs.sorted.push_diagonals.Tie as tie
 
 abbrev Inv-loop : tie.InvT-loop
-Inv-loop lambdas₀ codes₀ count m n a b total₀ first past sum₀ lambdas codes total sum =
-    (1 ≤ first) × (past ≤ m + n)
-    × Gathering (diagonalCandidate m n a b) first past (sortInto (diagonals m n a b) (eventsIn lambdas₀ codes₀ count)) count lambdas codes total sum
+Inv-loop lambdas₀ codes₀ count cells leg total₀ first past sum₀ lambdas codes total sum =
+    (1 ≤ first) × (past ≤ cells .m + cells .n)
+    × Gathering (diagonalCandidate cells leg) first past (sortInto (diagonals cells leg) (eventsIn lambdas₀ codes₀ count)) count lambdas codes total sum
 
 abbrev μ-loop : tie.MeasureT-loop
-μ-loop lambdas₀ codes₀ count m n a b total₀ first past sum₀ lambdas codes total sum = past - sum
+μ-loop lambdas₀ codes₀ count cells leg total₀ first past sum₀ lambdas codes total sum = past - sum
+
+-- the start, from where the change is found; and that place, from where the last sum is found
+abbrev start : tie.After-abs Inv-loop μ-loop → tie.Start Inv-loop μ-loop
+start e = e .before .before .before .before .before
+
+abbrev changed : tie.After-past-sum Inv-loop μ-loop → tie.After-abs Inv-loop μ-loop
+changed e = e .before .before .before
 
 returns : tie.Need-returns Inv-loop μ-loop
 unfolding eps
 returns c =
-    let a = c .before .before .before .before .before .before .before .before .args in
-    (search needs, diagonals-none (a .m) (a .n) (a .a) (a .b) (eventsIn (a .lambdas .now) (a .codes .now) (a .count)) (failed (ap (lt eps) (c .before .abs .ensures)) (c .if1 .taken)))
+    let a = start (c .before) .args in
+    (search needs, diagonals-none (a .cells) (a .leg) (eventsIn (a .lambdas .now) (a .codes .now) (a .count)) (failed (ap (lt eps) (c .before .abs .ensures)) (c .if1 .taken)))
 
 loop-holds : tie.Need-loop-holds Inv-loop μ-loop
 unfolding eps
 loop-holds c =
     let f = c .before in
-    let s = f .before .before .before .before .before .before .before .before .before in
+    let s = start (changed c) in
     let a = s .args in
     let started = eventsIn (a .lambdas .now) (a .codes .now) (a .count) in (
       omega (arith, f .first-sum .ensures),
@@ -42,7 +49,7 @@ loop-holds c =
         few = search needs;
         lambdas-length = s .pre .0 .lambdas-length;
         codes-length = s .pre .0 .codes-length;
-        left = diagonals-start (a .m) (a .n) (a .a) (a .b) started (held (ap (lt eps) (f .before .before .abs .ensures)) (f .before .if1 .left)) (f .first-sum .ensures) (c .past-sum .ensures);
+        left = diagonals-start (a .cells) (a .leg) started (held (ap (lt eps) (changed c .abs .ensures)) (f .before .if1 .left)) (f .first-sum .ensures) (c .past-sum .ensures);
         sorted = s .pre .1;
       },
     )
@@ -50,9 +57,9 @@ loop-holds c =
 push-candidate-requires : tie.Need-push-candidate-requires Inv-loop μ-loop
 push-candidate-requires c κs =
     let l = c .before .before .before .before in
-    let s = l .before .before .before .before .before .before .before .before .before .before .before in
+    let s = start (changed (l .before)) in
     let a = s .args in
-    (search needs, search needs, diagonal-storable (a .m) (a .n) (s .pre .0 .u-steps) (s .pre .0 .v-steps) (a .a) (a .b) (l .loop .sum) (c .diagonal-candidate .ensures), l .loop .inv .2 .sorted)
+    (search needs, search needs, diagonal-storable (a .cells) (s .pre .0 .u-steps) (s .pre .0 .v-steps) (a .leg) (l .loop .sum) (c .diagonal-candidate .ensures), l .loop .inv .2 .sorted)
 
 loop-again : tie.Need-loop-again Inv-loop μ-loop
 loop-again c =

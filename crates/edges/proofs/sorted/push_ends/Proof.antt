@@ -1,7 +1,7 @@
--- `edges::sorted::push_ends` meets its contract: the two candidates are those of the definition, in its order. Assumes nothing.
+-- `edges::sorted::push_ends` meets its contract: the two candidates are those of the definition, in its order.
 use native.Mathlib.Omega.{arith}
 use Rattle.float.specs.Consts.{zero64, one64}
-use Rattle.edges.proofs.Laws.{zero-on-step, one-on-step}
+use Rattle.edges.proofs.Laws.{zero-on-leg, one-on-leg}
 use Rattle.edges.proofs.Order.{sorted-none}
 use Rattle.edges.proofs.Storable.{end-storable}
 use Rattle.edges.proofs.Gather.{ends-pushed}
@@ -9,35 +9,45 @@ use borrow.Author.Needs.{needs}
 use Rattle.edges.proofs.sorted.push_ends.Statement.{statement}
 use Rattle.edges.proofs.sorted.push_ends.Tie as tie
 
+-- the start, from where both candidates are found; and that place, from where the first is pushed, and the second
+abbrev start : tie.After-end-candidate2 → tie.Start
+start e = e .before .before .before .before .before .before
+
+abbrev found : tie.After-push-candidate → tie.After-end-candidate2
+found e = e .before .before .before
+
+abbrev first-pushed : tie.After-push-candidate2 → tie.After-push-candidate
+first-pushed e = e .before .before .before .before .before .before .before
+
 push-candidate-requires : tie.Need-push-candidate-requires
 push-candidate-requires c κs =
     let p = c .before .before in
-    let s = p .before .before .before .before .before .before in (
+    let s = start p in (
       search needs,
       search needs,
-      end-storable (s .args .m) (s .args .n) (s .pre .u-steps) (s .pre .v-steps) zero64 (s .args .a) zero-on-step (p .before .before .before .edge-at-point .ensures) (p .before .before .end-candidate .ensures),
+      end-storable (s .args .cells) (s .pre .u-steps) (s .pre .v-steps) zero64 (s .args .leg .a) zero-on-leg (p .before .before .before .edge-at-point .ensures) (p .before .before .end-candidate .ensures),
       sorted-none,
     )
 
 push-candidate-requires-2 : tie.Need-push-candidate-requires-2
 push-candidate-requires-2 c κs =
     let first = c .before .before .before .before .before .before in
-    let p = first .before .before .before in
-    let s = p .before .before .before .before .before .before in (
+    let p = found first in
+    let s = start p in (
       search needs,
       search needs,
-      end-storable (s .args .m) (s .args .n) (s .pre .u-steps) (s .pre .v-steps) one64 (s .args .b) one-on-step (p .before .edge-at-point2 .ensures) (p .end-candidate2 .ensures),
+      end-storable (s .args .cells) (s .pre .u-steps) (s .pre .v-steps) one64 (s .args .leg .b) one-on-leg (p .before .edge-at-point2 .ensures) (p .end-candidate2 .ensures),
       first .push-candidate .ensures .2,
     )
 
 returns : tie.Need-returns
 returns c =
     let second = c .before .before .before .before in
-    let first = second .before .before .before .before .before .before .before in
-    let p = first .before .before .before in
-    let a = p .before .before .before .before .before .before .args in (
+    let first = first-pushed second in
+    let p = found first in
+    let a = start p .args in (
       omega (arith, first .push-candidate .ensures .0, second .push-candidate2 .ensures .0),
-      ends-pushed (a .m) (a .n) (a .a) (a .b) (p .before .before .before .edge-at-point .ensures) (p .before .edge-at-point2 .ensures) (p .before .before .end-candidate .ensures) (p .end-candidate2 .ensures)
+      ends-pushed (a .cells) (a .leg) (p .before .before .before .edge-at-point .ensures) (p .before .edge-at-point2 .ensures) (p .before .before .end-candidate .ensures) (p .end-candidate2 .ensures)
           (first .push-candidate .ensures .1) (second .push-candidate2 .ensures .1),
       second .push-candidate2 .ensures .2,
     )

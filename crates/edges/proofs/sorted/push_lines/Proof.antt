@@ -1,4 +1,4 @@
--- `edges::sorted::push_lines` meets its contract: the lines from `step` on, sorted into the events so far, give what is asked. Assumes nothing.
+-- `edges::sorted::push_lines` meets its contract: the lines from `step` on, sorted into the events so far, give what is asked.
 use mathlib.Core.Path.{_≡_}
 use Prim.Native.Nat.{_-_}
 use lib.Ieee.{lt}
@@ -13,28 +13,35 @@ use Rattle.edges.proofs.sorted.push_lines.Statement.{statement}
 use Rattle.edges.proofs.sorted.push_lines.Tie as tie
 
 abbrev Inv-loop : tie.InvT-loop
-Inv-loop lambdas₀ codes₀ count axis along across a b total₀ step₀ step-end lambdas codes total step =
-    Gathering (lineCandidate axis across a b) 0 step-end (sortInto (lines axis along across a b) (eventsIn lambdas₀ codes₀ count)) count lambdas codes total step
+Inv-loop lambdas₀ codes₀ count axis cells leg total₀ step₀ step-end lambdas codes total step =
+    Gathering (lineCandidate axis cells leg) 0 step-end (sortInto (lines axis cells leg) (eventsIn lambdas₀ codes₀ count)) count lambdas codes total step
 
 abbrev μ-loop : tie.MeasureT-loop
-μ-loop lambdas₀ codes₀ count axis along across a b total₀ step₀ step-end lambdas codes total step = step-end - step
+μ-loop lambdas₀ codes₀ count axis cells leg total₀ step₀ step-end lambdas codes total step = step-end - step
+
+-- the start, from where the change is found; and that place, from where the steps are counted
+abbrev start : tie.After-abs Inv-loop μ-loop → tie.Start Inv-loop μ-loop
+start e = e .before .before .before .before .before
+
+abbrev changed : tie.After-steps-on Inv-loop μ-loop → tie.After-abs Inv-loop μ-loop
+changed e = e .before .before
 
 -- what is tested is whether the axis moves
-test : (c : tie.After-abs Inv-loop μ-loop) → let a = c .before .before .before .before .before .args in lt eps (c .abs .result) ≡ moves (change (a .axis) (a .a) (a .b))
-test c = cc
+test : (e : tie.After-abs Inv-loop μ-loop) → let a = start e .args in lt eps (e .abs .result) ≡ moves (change (a .axis) (a .leg))
+test e = cc
 
 returns : tie.Need-returns Inv-loop μ-loop
 unfolding eps
 returns c =
-    let s = c .before .before .before .before .before .before in
+    let s = start (c .before) in
     let a = s .args in
     let started = eventsIn (a .lambdas .now) (a .codes .now) (a .count) in
-    (search needs, lines-none (a .axis) (a .along) (a .across) (a .a) (a .b) started (failed (test (c .before)) (c .if1 .taken)), s .pre .1)
+    (search needs, lines-none (a .axis) (a .cells) (a .leg) started (failed (test (c .before)) (c .if1 .taken)), s .pre .1)
 
 loop-holds : tie.Need-loop-holds Inv-loop μ-loop
 unfolding eps
 loop-holds c =
-    let s = c .before .before .before .before .before .before in
+    let s = start (changed c) in
     let a = s .args in
     let started = eventsIn (a .lambdas .now) (a .codes .now) (a .count) in
     record {
@@ -43,7 +50,7 @@ loop-holds c =
       few = search needs;
       lambdas-length = s .pre .0 .lambdas-length;
       codes-length = s .pre .0 .codes-length;
-      left = lines-start (a .axis) (a .along) (a .across) (a .a) (a .b) started (held (test (c .before)) (c .if1 .left));
+      left = lines-start (a .axis) (a .cells) (a .leg) started (held (test (changed c)) (c .before .if1 .left)) (c .steps-on .ensures);
       sorted = s .pre .1;
     }
 
@@ -58,20 +65,22 @@ insert-event-requires c κs =
     let e = c .before .before .before in
     let t = e .before .before .before in
     let l = t .before .loop in
-    let s = t .before .before .before .before .before .before .before .before in
+    let n = t .before .before in
+    let s = start (changed n) in
     let a = s .args in (
       search needs,
       search needs,
-      if-event Storable (e .event .given .1) (line-storable (a .axis) (a .along) (a .across) (a .a) (a .b) (l .step) (s .pre .0 .u-steps) (t .loop-test .taken) (e .before .before .line-candidate .ensures)),
+      if-event Storable (e .event .given .1)
+          (line-storable (a .cells) (s .pre .0 .u-steps) (s .pre .0 .v-steps) (a .leg) (a .axis) (l .step) (n .steps-on .ensures) (t .loop-test .taken) (e .before .before .line-candidate .ensures)),
       l .inv .sorted,
     )
 
 loop-again-2 : tie.Need-loop-again-2 Inv-loop μ-loop
 loop-again-2 c =
-    let p = c .before .before .before .before .insert-event in
-    let e = c .before .before .before .before .before .before .before .before in
+    let i = c .before .before .before .before in
+    let e = i .before .before .before .before in
     let t = e .before .before .before in
-    gather-turn (t .before .loop .inv) (t .loop-test .taken) (e .before .before .line-candidate .ensures) (search needs) (search needs) (search needs, push-yes _ (e .event .given .1) (p .ensures .0), p .ensures .1)
+    gather-turn (t .before .loop .inv) (t .loop-test .taken) (e .before .before .line-candidate .ensures) (search needs) (search needs) (search needs, push-yes _ (e .event .given .1) (i .insert-event .ensures .0), i .insert-event .ensures .1)
 
 returns-2 : tie.Need-returns-2 Inv-loop μ-loop
 returns-2 c = let g = c .before .loop .inv in (search needs, gather-ends g (c .loop-test .left), g .sorted)
@@ -86,6 +95,7 @@ push-lines-spec =
     (λ c κs. search needs)
     (λ c κs. search needs)
     returns
+    (λ c κs. search needs)
     (λ c. search needs)
     loop-holds
     (λ c κs. search needs)

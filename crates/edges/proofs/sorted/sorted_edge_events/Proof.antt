@@ -1,4 +1,4 @@
--- `edges::sorted::sorted_edge_events` meets its contract: the sorted candidates without close ones. Assumes nothing.
+-- `edges::sorted::sorted_edge_events` meets its contract: the sorted candidates without close ones.
 use mathlib.Core.Path.{ap, _∙_}
 use native.Mathlib.Omega.{arith}
 use borrow.Author.Needs.{needs}
