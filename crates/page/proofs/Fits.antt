@@ -36,7 +36,7 @@ fits-down x {r} {l} {pen} u e h = go x u h
         rw (← p, same-lists u) h
     go (off k g) u h = let z : _≡_ {A = ℕ} 0 1 = cc (same-answer u) in absurd (omega arith)
 
-push-fits : (c : Crossing) (g : Page) → Fitting g → Fits (pushPage c g)
+pub push-fits : (c : Crossing) (g : Page) → Fitting g → Fits (pushPage c g)
 unfolding pushPage written
 push-fits c g h = go (closeToPending c g) (hasRoom g) refl
   where

@@ -137,9 +137,9 @@ module _ (g : List Float) (m n : ℕ) (hm : m ≤ 255) (hn : n ≤ 255) where
   points-made =
       each-point (Made g m n)
       (λ c from l i p q t x.
-        let e = from .edge in
-        let b = end-below (e .edge) in
-        record { p-there = rw (p, e .p-is) (b .0); q-there = rw (q, e .q-is) (b .1); blended = rw (x, p, q, t) (from .blended) })
+      let e = from .edge in
+      let b = end-below (e .edge) in
+      record { p-there = rw (p, e .p-is) (b .0); q-there = rw (q, e .q-is) (b .1); blended = rw (x, p, q, t) (from .blended) })
 
   pub points-on-sides : Meets s → StepsAround 2 s → (pairs : List Float) (marks : List ℕ) (l : Lists) → EachPoint (OnSide s) (traceFlat g m n pairs marks l)
   points-on-sides meets around = each-point (OnSide s) (λ c from l i p q t x. rw (p, q) (surface.traced s meets around (c .p) (c .q) (from .edge)))
@@ -152,6 +152,6 @@ demand3 g m n accepted =
       made = points-made g m n (steps .m-most) (steps .n-most);
       covered =
           λ covered.
-            let meets = surface-meets g m n accepted covered in
-            record { surface = meets; points = points-on-sides g m n (steps .m-most) (steps .n-most) meets };
+          let meets = surface-meets g m n accepted covered in
+          record { surface = meets; points = points-on-sides g m n (steps .m-most) (steps .n-most) meets };
     }

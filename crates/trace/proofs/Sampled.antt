@@ -100,7 +100,7 @@ module _ (g : List Float) (k : Cells) (ks : List ℕ) (ps : List Float) where
             let z = sample 0 nan nan in
             let there : i < length (samplesOf ks ps) = omega (arith, samples-length ks ps h) in
             let first : drop i (samplesOf ks ps) ≡ sampleAt (getD ks i 0) b ∷ drop (i + 1) (samplesOf ks ps) =
-                rw (add-one i, drop-cons (samplesOf ks ps) i z there, samples-at ks ps i z h t, eb) in
+            rw (add-one i, drop-cons (samplesOf ks ps) i z there, samples-at ks ps i z h t, eb) in
             rw (first, ev) (run-append pushPage flushPage _ _ w)
 
         module _ {z : Outcome Page} (ez : z ≡ left i p w) {r : Penned} {l : Lists} (u : afterwards r l ≡ pageAfter here) where

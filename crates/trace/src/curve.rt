@@ -89,7 +89,16 @@ fn trace_sample(
     match visit {
         Visit::Break => flush_segment(starts, pen),
         Visit::Along(leg) => append_edge_crossings(
-            lambdas, codes, grid, cells, leg, points, starts, sides, fractions, pen,
+            lambdas,
+            codes,
+            grid,
+            cells,
+            leg,
+            points,
+            starts,
+            sides,
+            fractions,
+            pen,
         ),
         Visit::First => Penned::Down(pen),
     }

@@ -73,7 +73,14 @@ pub fn trace_flat(
     }
     let cells = Cells { m, n };
     let ended = trace_parametric_edge_curve(
-        grid, cells, pairs, marks, points, starts, sides, fractions,
+        grid,
+        cells,
+        pairs,
+        marks,
+        points,
+        starts,
+        sides,
+        fractions,
     );
     let count = count_in(ended);
     zero_floats(points, 3 * count);

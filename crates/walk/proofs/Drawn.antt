@@ -8,7 +8,7 @@ use Rattle.crossing.specs.declared.Crossing.{Crossing}
 use Rattle.page.specs.declared.Pen.{Pen}
 use Rattle.page.specs.declared.Penned.{Penned}
 use Rattle.page.specs.declared.Penned.the-variants as penned
-use Rattle.page.specs.Moves.{push, flush, Outcome, on, run}
+use Rattle.page.specs.Moves.{push, flush, Outcome, on, off, follow, run}
 use Rattle.page.specs.Page.{Lists, Page, page, pushPage, flushPage, pageAfter}
 use Rattle.page.proofs.Follow.{down, stops}
 use Rattle.page.proofs.Moves.{run-append, run-none, run-one}
@@ -25,24 +25,35 @@ module _ (d : Decision) (w : Page) where
   abbrev done : Outcome Page
   done = run pushPage flushPage (movesOf d) w
 
-  parted : done ≡ _
+  parted : done ≡ follow (run pushPage flushPage (pointMoves (d .point)) w) (run pushPage flushPage (endMoves (d .inside)))
   parted = run-append pushPage flushPage (pointMoves (d .point)) (endMoves (d .inside)) w
 
   -- no point
   pub draws-end : d .point ≡ Pass → {r : Penned} {l : Lists} → afterwards r l ≡ pageAfter (cond (d .inside) (on w) (flushPage w)) → afterwards r l ≡ pageAfter done
-  draws-end e u = u ∙ ap pageAfter (sym (parted ∙ rw (e, run-none pushPage flushPage w) (end-run (d .inside) w)))
+  draws-end e u =
+      let is : done ≡ cond (d .inside) (on w) (flushPage w) = parted ∙ rw (e, run-none pushPage flushPage w) (end-run (d .inside) w) in
+      rw is u
 
   -- no answer for its point
   pub draws-stop : d .point ≡ Stop → afterwards (penned.Stop refusals.NoStep) (w .lists) ≡ pageAfter done
-  draws-stop e = ap pageAfter (sym (parted ∙ rw (e, run-one pushPage flushPage)))
+  draws-stop e =
+      let is : done ≡ off refusals.NoStep w = parted ∙ rw (e, run-one pushPage flushPage) in
+      rw is
 
   module _ {c : Crossing} (e : d .point ≡ Push c) {r : Penned} {l : Lists} (u : afterwards r l ≡ pageAfter (pushPage c w)) where
+    abbrev ending : Page → Outcome Page
+    ending = run pushPage flushPage (endMoves (d .inside))
+
+    after-push : done ≡ follow (pushPage c w) ending
+    after-push = parted ∙ rw (e, run-one pushPage flushPage (push c) w)
+
     -- the point is pushed
     pub draws-point : {pen : Pen} → r ≡ penned.Down pen → {r′ : Penned} {l′ : Lists} → afterwards r′ l′ ≡ pageAfter (cond (d .inside) (on (page l pen)) (flushPage (page l pen))) →
         afterwards r′ l′ ≡ pageAfter done
     draws-point {pen} er v =
-        v ∙ ap pageAfter (sym (parted ∙ rw (e, run-one pushPage flushPage (push c) w) (down (pushPage c w) _ u pen er) ∙ end-run (d .inside) (page l pen)))
+        let is : done ≡ cond (d .inside) (on (page l pen)) (flushPage (page l pen)) = after-push ∙ down (pushPage c w) ending u pen er ∙ end-run (d .inside) (page l pen) in
+        rw is v
 
     -- it is refused
     pub draws-full : {k : Refusal} → r ≡ penned.Stop k → afterwards (penned.Stop k) l ≡ pageAfter done
-    draws-full {k} er = stops (pushPage c w) (run pushPage flushPage (endMoves (d .inside))) u k er ∙ ap pageAfter (sym (parted ∙ rw (e, run-one pushPage flushPage (push c) w)))
+    draws-full {k} er = rw after-push (stops (pushPage c w) ending u k er)

@@ -84,7 +84,8 @@ fn decide(
             inside,
         };
     }
-    match edge_point(grid, cells, event.edge, leg.at(lambda)) {
+    let edge = event.edge;
+    match edge_point(grid, cells, edge, leg.at(lambda)) {
         EdgePoint::On(c) => Decision {
             point: EventPoint::Push(c),
             inside,
