@@ -9,13 +9,14 @@ use lib.Ieee.{Float}
 use Rattle.refusal.specs.declared.Check.{Check}
 use Rattle.refusal.specs.declared.Check.the-variants.{Passed, Failed}
 use Rattle.refusal.specs.declared.Refusal.{Refusal}
-use Rattle.lent.specs.Lent.{afterwards}
+use Rattle.float.specs.Consts.{zero64}
+use Rattle.lent.specs.Lent.{zeroedFrom, afterwards}
 use Rattle.param.specs.Param.{cells}
 use Rattle.crossing.specs.Crossing.{GridFits}
 use Rattle.page.specs.declared.Penned.{Penned}
 use Rattle.page.specs.declared.Penned.the-variants.{Down, Stop}
 use Rattle.page.specs.Moves.{run}
-use Rattle.page.specs.Page.{Lists, pushPage, flushPage, pageAfter}
+use Rattle.page.specs.Page.{Lists, lists, pushPage, flushPage, pageAfter}
 use Rattle.page.proofs.Fits.{fits-down, moves-fit}
 use Rattle.trace.specs.declared.curve.Previous.the-variants.{Nowhere}
 use Rattle.trace.specs.declared.flat.Trace.{Trace}
@@ -24,7 +25,7 @@ use Rattle.trace.specs.Curve.{samplesOf, traceMoves}
 use Rattle.trace.specs.Trace.{traceCheck, statedTrace, traceFlat}
 use Rattle.trace.specs.Ended.{countIn, linesIn, answerOf}
 use Rattle.trace.proofs.Checks.{checked}
-use Rattle.trace.proofs.Agree.{firstPage, zeroedPast, trace-ends}
+use Rattle.trace.proofs.Agree.{firstPage, trace-ends}
 
 module _ (g : List Float) (m n : ℕ) (pairs : List Float) (marks : List ℕ) where
   -- what the walk asks for
@@ -51,7 +52,8 @@ module _ (g : List Float) (m n : ℕ) (pairs : List Float) (marks : List ℕ) wh
           go (Stop k) e = omega arith
 
       -- the lists that a walk left, zeroed past its counts
-      pub zeroed : {c : Check} → c ≡ traceCheck g m n pairs marks → c ≡ Passed → {o : Trace} {z : Lists} → o ≡ answerOf r → z ≡ zeroedPast (countIn r) (linesIn r) w
-          → afterwards (statedTrace o) z ≡ traceFlat g m n pairs marks l
+      pub zeroed : {c : Check} → c ≡ traceCheck g m n pairs marks → c ≡ Passed → {o : Trace} {count lines : ℕ} {p f : List Float} {s d : List ℕ} → o ≡ answerOf r →
+          count ≡ countIn r → lines ≡ linesIn r → p ≡ zeroedFrom zero64 (3 * count) (w .points) → s ≡ zeroedFrom 0 lines (w .starts) → d ≡ zeroedFrom 0 (2 * count) (w .sides) →
+          f ≡ zeroedFrom zero64 count (w .fractions) → afterwards (statedTrace o) (lists p s d f) ≡ traceFlat g m n pairs marks l
       unfolding traceFlat
-      zeroed ec ep eo ez = rw (← ec, ep, eo, ez) (trace-ends l g (cells m n) (samplesOf marks pairs) Nowhere u)
+      zeroed ec ep eo en el zp zs zd zf = rw (← ec, ep, eo, zp, zs, zd, zf, en, el) (trace-ends l g (cells m n) (samplesOf marks pairs) Nowhere u)

@@ -12,6 +12,7 @@ use Rattle.refusal.specs.declared.Refusal.{Refusal}
 use Rattle.lent.specs.Lent.{afterwards}
 use Rattle.param.specs.declared.ParamPoint.{ParamPoint}
 use Rattle.param.specs.declared.Cells.{Cells}
+use Rattle.param.specs.declared.Leg.{Leg}
 use Rattle.param.specs.Param.{param, leg}
 use Rattle.page.specs.declared.Pen.{Pen}
 use Rattle.page.specs.declared.Penned.{Penned}
@@ -20,6 +21,7 @@ use Rattle.page.specs.Moves.{flush, Outcome, follow, run}
 use Rattle.page.specs.Page.{Lists, Page, page, pushPage, flushPage, pageAfter}
 use Rattle.page.proofs.Follow.{down, stops}
 use Rattle.page.proofs.Moves.{run-append, run-none, run-one}
+use Rattle.walk.specs.Walk.{legMoves}
 use Rattle.trace.specs.declared.curve.Previous.{Previous}
 use Rattle.trace.specs.declared.curve.Previous.the-variants.{At, Nowhere}
 use Rattle.trace.specs.declared.curve.Visit.{Visit}
@@ -45,9 +47,13 @@ module _ (p : Previous) (k : ℕ) (b : ParamPoint) where
   visit-first e q = simp (ne-eqb k 0 e) (rw q)
 
 -- what is done for a sample, by what it is
-module _ (g : List Float) (k : Cells) (w : Page) {v : Visit} {r : Penned} {l : Lists} where
-  pub sample-break : v ≡ Break → afterwards r l ≡ pageAfter (flushPage w) → afterwards r l ≡ pageAfter (run pushPage flushPage (visitMoves g k v) w)
+module _ (g : List Float) (k : Cells) (w : Page) {v : Visit} where
+  pub sample-break : v ≡ Break → {r : Penned} {l : Lists} → afterwards r l ≡ pageAfter (flushPage w) → afterwards r l ≡ pageAfter (run pushPage flushPage (visitMoves g k v) w)
   sample-break e u = rw (e, run-one pushPage flushPage flush w) u
+
+  pub sample-leg : {l : Leg} → v ≡ Along l → {r : Penned} {m : Lists} → afterwards r m ≡ pageAfter (run pushPage flushPage (legMoves g k l) w) →
+      afterwards r m ≡ pageAfter (run pushPage flushPage (visitMoves g k v) w)
+  sample-leg e u = rw e u
 
   pub sample-first : v ≡ First → afterwards (Down (w .pen)) (w .lists) ≡ pageAfter (run pushPage flushPage (visitMoves g k v) w)
   sample-first e = rw (e, run-none pushPage flushPage w)

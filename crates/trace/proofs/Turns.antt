@@ -77,9 +77,9 @@ module _ {A : Type 0} (w : ℕ) (f : Crossing → List A) (wide : (c : Crossing)
       rw (e, getD-append-add (f c) (inTurn f cs) (w * i + j) z) (turn-at cs i j z c₀ (omega arith) k)
 
   -- the same, in a lent list that was filled with the points
-  pub filled-at : (cs : List Crossing) (lent : List A) (zero : A) (i j : ℕ) (z : A) (c₀ : Crossing) → i < length cs → j < w
-      → getD (filled zero (inTurn f cs) lent) (w * i + j) z ≡ getD (f (getD cs i c₀)) j z
-  filled-at cs lent zero i j z c₀ h k =
+  pub filled-at : (cs : List Crossing) (lent : List A) (pad : A) (i j : ℕ) (z : A) (c₀ : Crossing) → i < length cs → j < w
+      → getD (filled pad (inTurn f cs) lent) (w * i + j) z ≡ getD (f (getD cs i c₀)) j z
+  filled-at cs lent pad i j z c₀ h k =
       let most : w * suc i ≤ w * length cs = mul-le-mul-left w (omega arith) in
       let below : w * i + j < length (inTurn f cs) = rw (length-turn cs) (omega (arith, mul-suc w i)) in
       List·getD-append (inTurn f cs) _ z (w * i + j) below ∙ turn-at cs i j z c₀ h k

@@ -1,4 +1,4 @@
--- `trace::curve::after_sample` meets its contract, by its test. Assumes nothing.
+-- `trace::curve::after_sample` meets its contract, by its test.
 use Rattle.trace.proofs.Sampled.{after-break, after-point}
 use Rattle.trace.proofs.curve.after_sample.Statement.{statement}
 use Rattle.trace.proofs.curve.after_sample.Tie as tie

@@ -1,65 +1,87 @@
--- `trace::curve::trace_parametric_edge_curve` meets its contract. The invariant says what is left: the trace of all samples is the trace of those from i on, from the page so far. Assumes nothing.
+-- `trace::curve::trace_parametric_edge_curve` meets its contract. The invariant says what is left: the moves of all samples are, from the page so far, those of
+-- the samples from i on.
 use Prim.Native.Nat.{_≤_, _-_}
 use mathlib.Core.Path.{_≡_, _∙_}
 use native.Mathlib.Omega.{arith}
 use denote.Ref.{now}
 use lib.ListN.{length, drop}
-use Rattle.page.specs.Page.{penAt, pageOf, pushPage, flushPage, PenFits}
-use Rattle.page.proofs.Follow.{as-well}
-use Rattle.page.proofs.Fits.{fits-down}
+use Rattle.page.specs.Moves.{run}
+use Rattle.page.specs.Page.{lists, penAt, page, pushPage, flushPage, PenFits}
+use Rattle.page.proofs.Fits.{fits-down, moves-fit}
 use Rattle.trace.specs.declared.curve.Previous.the-variants.{Nowhere}
-use Rattle.trace.specs.Curve.{samplesOf, traced}
-use Rattle.trace.proofs.Fits.{sampled-fits}
+use Rattle.trace.specs.Curve.{samplesOf, visitMoves, traceMoves}
 use Rattle.trace.proofs.Sampled.{trace-goes, trace-stops, trace-flushes}
 use borrow.Author.Needs.{needs}
 use Rattle.trace.proofs.curve.trace_parametric_edge_curve.Statement.{statement}
 use Rattle.trace.proofs.curve.trace_parametric_edge_curve.Tie as tie
 
 abbrev Inv-loop : tie.InvT-loop
-Inv-loop grid m n pairs marks points₀ starts₀ sides₀ fractions₀ lambdas₀ codes₀ pen₀ previous₀ i₀ points starts sides fractions lambdas codes pen previous i =
+Inv-loop grid cells pairs marks points₀ starts₀ sides₀ fractions₀ lambdas₀ codes₀ pen₀ previous₀ i₀ points starts sides fractions lambdas codes pen previous i =
     (i ≤ length marks) × (length points ≡ length points₀) × (length starts ≡ length starts₀) × (length sides ≡ length sides₀) × (length fractions ≡ length fractions₀)
     × (length lambdas ≡ 1023) × (length codes ≡ 1023) × PenFits points pen
-    × (traced pushPage flushPage grid m n (samplesOf marks pairs) Nowhere (pageOf points₀ starts₀ sides₀ fractions₀ (penAt 0 0 0))
-    ≡ traced pushPage flushPage grid m n (drop i (samplesOf marks pairs)) previous (pageOf points starts sides fractions pen))
+    × (run pushPage flushPage (traceMoves grid cells (samplesOf marks pairs) Nowhere) (page (lists points₀ starts₀ sides₀ fractions₀) (penAt 0 0 0))
+    ≡ run pushPage flushPage (traceMoves grid cells (drop i (samplesOf marks pairs)) previous) (page (lists points starts sides fractions) pen))
 
 abbrev μ-loop : tie.MeasureT-loop
-μ-loop grid m n pairs marks points₀ starts₀ sides₀ fractions₀ lambdas₀ codes₀ pen₀ previous₀ i₀ points starts sides fractions lambdas codes pen previous i = length marks - i
+μ-loop grid cells pairs marks points₀ starts₀ sides₀ fractions₀ lambdas₀ codes₀ pen₀ previous₀ i₀ points starts sides fractions lambdas codes pen previous i = length marks - i
+
+-- ---- places
+
+abbrev started : tie.At-loop Inv-loop μ-loop → tie.Start Inv-loop μ-loop
+started l = l .before .before .before .before .before .before .before .before
+
+-- where it is known what the sample is, and the loop
+abbrev visited : tie.After-trace-sample Inv-loop μ-loop → tie.After-visit-of Inv-loop μ-loop
+visited t = t .before .before .before .before .before .before .before
+
+abbrev looped : tie.After-visit-of Inv-loop μ-loop → tie.In-loop Inv-loop μ-loop
+looped v = v .before .before .before
+
+-- the place where a sample is refused, and where the trace goes on after it
+abbrev refused : tie.After-known-told2 Inv-loop μ-loop → tie.After-trace-sample Inv-loop μ-loop
+refused c = c .before .before .before .before .before .before .before .before .before .before .before .before .before
+
+abbrev went-on : tie.After-after-sample Inv-loop μ-loop → tie.After-trace-sample Inv-loop μ-loop
+went-on c = c .before .before .before .before .before .before .before .before .before .before .before .before .before .before
 
 trace-sample-requires : tie.Need-trace-sample-requires Inv-loop μ-loop
 trace-sample-requires c κs =
-    let l = c .before .before .before .before .before .before .before .before .before in
-    ((search needs, search needs), (l .before .before .before .before .before .before .before .before .pre .0, l .loop .inv .7))
+    let l = looped (c .before .before .before .before .before .before) .before in
+    ((search needs, search needs), (started l .pre .0, l .loop .inv .7))
 
 returns : tie.Need-returns Inv-loop μ-loop
 returns c =
-    let t = c .before .before .before .before .before .before .before .before .before .before .before .before .before in
-    let o = t .before .before .before .before .before .before .before in
-    let l = o .before .before .before in
-    let s = l .before .before .before .before .before .before .before .before in
-    trace-stops _ _ _ (now (s .args .marks)) (now (s .args .pairs)) (l .loop .i) (s .pre .1 .0) _ _ (o .before .before .loop-test .taken) (o .point-of .ensures) (l .loop .inv .8)
-    (t .trace-sample .ensures) (c .before .refusal .given .1)
+    let t = refused c in
+    let v = visited t in
+    let l = looped v .before in
+    let s = started l in
+    trace-stops (now (s .args .grid)) (s .args .cells) (now (s .args .marks)) (now (s .args .pairs)) (l .loop .i) (s .pre .1 .0) _ _ (looped v .loop-test .taken)
+    (v .before .point-of .ensures) (v .visit-of .ensures) (l .loop .inv .8) (t .trace-sample .ensures) (c .before .refusal .given .1)
 
 add-i : tie.Need-add-i Inv-loop μ-loop
 add-i c =
-    let o = c .before .before .before .before .before .before .before .before .before .before .before .before .before .before .before .before .before .before .before .before .before .before .before in
-    omega (arith, o .loop-test .taken, o .before .before .before .before .before .before .before .before .before .pre .1 .1)
+    let n = looped (visited (went-on c)) in
+    omega (arith, n .loop-test .taken, started (n .before) .pre .1 .1)
 
 loop-again : tie.Need-loop-again Inv-loop μ-loop
 loop-again c =
-    let t = c .before .before .before .before .before .before .before .before .before .before .before .before .before .before in
-    let o = t .before .before .before .before .before .before .before in
-    let l = o .before .before .before in
-    let s = l .before .before .before .before .before .before .before .before in (
-      omega (arith, o .before .before .loop-test .taken),
+    let t = went-on c in
+    let v = visited t in
+    let l = looped v .before in
+    let s = started l in
+    let a = s .args in
+    let ms = visitMoves (now (a .grid)) (a .cells) (v .visit-of .result) in
+    let w = page (lists (l .loop .points) (l .loop .starts) (l .loop .sides) (l .loop .fractions)) (l .loop .pen) in (
+      omega (arith, looped v .loop-test .taken),
       omega (arith, c .before .before .before .before .before .before .before .before .before .before .before .points .given, l .loop .inv .1),
       omega (arith, c .before .before .before .before .before .before .before .before .before .starts .given, l .loop .inv .2),
       omega (arith, c .before .before .before .before .before .before .before .sides .given, l .loop .inv .3),
       omega (arith, c .before .before .before .before .before .fractions .given, l .loop .inv .4),
       search needs,
       search needs,
-      fits-down (t .trace-sample .ensures) (c .before .before .traced .given .1) (sampled-fits _ _ _ _ _ _ (l .loop .inv .7)),
-      trace-goes _ _ _ (now (s .args .marks)) (now (s .args .pairs)) (l .loop .i) (s .pre .1 .0) _ _ (o .before .before .loop-test .taken) (o .point-of .ensures) (l .loop .inv .8)
-          (t .trace-sample .ensures) (c .before .before .traced .given .1) (c .after-sample .ensures),
+      fits-down (run pushPage flushPage ms w) (t .trace-sample .ensures) (c .before .before .traced .given .1) (moves-fit ms w (l .loop .inv .7)),
+      trace-goes (now (a .grid)) (a .cells) (now (a .marks)) (now (a .pairs)) (l .loop .i) (s .pre .1 .0) _ _ (looped v .loop-test .taken) (v .before .point-of .ensures)
+          (v .visit-of .ensures) (l .loop .inv .8) (t .trace-sample .ensures) (c .before .before .traced .given .1) (c .after-sample .ensures),
     )
 
 flush-segment-requires : tie.Need-flush-segment-requires Inv-loop μ-loop
@@ -68,8 +90,9 @@ flush-segment-requires c κs = c .before .before .loop .inv .7 .0
 returns-2 : tie.Need-returns-2 Inv-loop μ-loop
 returns-2 c =
     let l = c .before .before .before .before .before in
-    let s = l .before .before .before .before .before .before .before .before in
-    as-well (l .loop .inv .8 ∙ trace-flushes _ _ _ (now (s .args .marks)) (now (s .args .pairs)) (l .loop .i) (s .pre .1 .0) _ _ (c .before .before .before .before .loop-test .left))
+    let s = started l in
+    let a = s .args in
+    rw (l .loop .inv .8 ∙ trace-flushes (now (a .grid)) (a .cells) (now (a .marks)) (now (a .pairs)) (l .loop .i) (s .pre .1 .0) _ _ (c .before .before .before .before .loop-test .left))
     (c .before .before .flush-segment .ensures _ _ _)
 
 pub trace-parametric-edge-curve-spec : {M : Type 1} → statement M
@@ -80,6 +103,7 @@ trace-parametric-edge-curve-spec =
     μ-loop
     (λ c. search needs)
     (λ c. search needs)
+    (λ c κs. search needs)
     (λ c κs. search needs)
     (λ c. search needs)
     (λ c. search needs)

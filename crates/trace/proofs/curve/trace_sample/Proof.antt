@@ -1,31 +1,47 @@
--- `trace::curve::trace_sample` meets its contract: proofs/Sampled.antt has `sampled` by these tests. Assumes nothing.
-use Rattle.trace.proofs.Sampled.{sample-break, sample-pair, sample-first}
+-- `trace::curve::trace_sample` meets its contract: proofs/Sampled.antt has what is done by what the sample is.
+use denote.Ref.{now}
+use Rattle.page.specs.Page.{lists, Page, page}
+use Rattle.trace.proofs.Sampled.{sample-break, sample-leg, sample-first}
 use borrow.Author.Needs.{needs}
 use Rattle.trace.proofs.curve.trace_sample.Statement.{statement}
 use Rattle.trace.proofs.curve.trace_sample.Tie as tie
 
+-- the lists as they were lent
+abbrev lent : tie.Start → Page
+lent s = let a = s .args in page (lists (now (a .points)) (now (a .starts)) (now (a .sides)) (now (a .fractions))) (a .pen)
+
+-- where the visit is known to be a leg, and the start
+abbrev visited : tie.After-append-edge-crossings → tie.After-visit
+visited c = c .before .before .before .before .before .before .before .before
+
+abbrev started : tie.After-visit → tie.Start
+started c = c .before .before .before .before .before .before .before .before .before
+
 returns : tie.Need-returns
-returns c = sample-break _ _ _ _ _ _ _ (c .before .before .before .before .if1 .taken) (c .before .before .flush-segment .ensures _ _ _)
+returns c =
+    let e = c .before .before .before .before in
+    let s = e .before .before .before .before .before .before .before .before .before in
+    sample-break _ _ (lent s) (e .enum-told .given .1) (c .before .before .flush-segment .ensures _ _ _)
 
 returns-2 : tie.Need-returns-2
 returns-2 c =
     let t = c .before .before .before .before .before .before .before .before .before .before .before .before in
-    let a = t .before .before .before .before .before .before .before .before in
-    sample-pair _ _ _ _ _ _ _ (a .before .before .if1 .left) (a .previous .given .1) (t .append-edge-crossings .ensures)
+    sample-leg _ _ (lent (started (visited t))) (visited t .visit .given .1) (t .append-edge-crossings .ensures)
 
 returns-3 : tie.Need-returns-3
-returns-3 c = sample-first _ _ _ _ _ _ _ _ _ _ _ (c .before .before .if1 .left) (c .enum-told .given .1)
+returns-3 c = sample-first _ _ (lent (c .before .before .before .before .before .before .before .before .before)) (c .enum-told2 .given .1)
 
 pub trace-sample-spec : {M : Type 1} → statement M
 trace-sample-spec =
     tie.close
     (tie.spec
+    (λ c. search needs)
     (λ c κs. search needs)
+    (λ c. search needs)
+    (λ c κs. search needs)
+    (λ c. search needs)
     (λ c. search needs)
     returns
-    (λ c. search needs)
-    (λ c κs. search needs)
-    (λ c. search needs)
     (λ c. search needs)
     (λ c. search needs)
     (λ c. search needs)

@@ -1,53 +1,83 @@
--- `trace::flat::trace_flat` meets its contract: proofs/Ended.antt has `traceFlat` by what the call did, and demand 3 holds of every grid. Assumes nothing.
+-- `trace::flat::trace_flat` meets its contract: proofs/Ended.antt has `traceFlat` by what the call did, and demand 3 holds of every grid.
+use Prim.Native.Nat.{_*_, _<_}
+use native.Mathlib.Omega.{arith}
 use denote.Ref.{now}
-use Rattle.trace.specs.Trace.{lists}
+use lib.ListN.{length}
+use Rattle.page.specs.Page.{Lists, lists}
 use Rattle.trace.proofs.Demands.{demand3}
 use Rattle.trace.proofs.Ended.{passes, refused-before, counted, zeroed}
 use borrow.Author.Needs.{needs}
 use Rattle.trace.proofs.flat.trace_flat.Statement.{statement}
 use Rattle.trace.proofs.flat.trace_flat.Tie as tie
 
+-- ---- places
+
+abbrev started : tie.After-check-trace → tie.Start
+started c = c .before .before .before .before .before .before .before .before
+
+abbrev told : tie.After-trace-parametric-edge-curve → tie.After-enum-told
+told c = c .before .before .before .before .before
+
+abbrev checked : tie.After-enum-told → tie.After-check-trace
+checked c = c .before .before
+
+abbrev walked : tie.After-count-in → tie.After-trace-parametric-edge-curve
+walked c = c .before .before .before .before .before .before .before .before .before
+
+-- the lists as they were lent
+abbrev lent : tie.Start → Lists
+lent s = let a = s .args in lists (now (a .points)) (now (a .starts)) (now (a .sides)) (now (a .fractions))
+
+lent-short : (s : tie.Start) → length (now (s .args .points)) < 18446744073709551616
+lent-short s = omega arith
+
+-- the count, where it is known, is no more than the points have room for
+fits : (c : tie.After-count-in) → 3 * c .count-in .result < 18446744073709551616
+fits c =
+    let t = walked c in
+    let s = started (checked (told t)) in
+    let a = s .args in
+    omega (
+      arith,
+      c .count-in .ensures,
+      counted (now (a .grid)) (a .m) (a .n) (now (a .pairs)) (now (a .marks)) (lent s) (t .trace-parametric-edge-curve .ensures),
+      c .before .before .before .before .before .before .before .before .points .given,
+      lent-short s,
+    )
+
 returns : tie.Need-returns
 returns c =
     let k = c .before .before .before in
-    let a = k .before .before .before .before .before .before .before .before .args in
-    let l = lists (now (a .points)) (now (a .starts)) (now (a .sides)) (now (a .fractions)) in
-    (refused-before (now (a .grid)) (a .m) (a .n) (now (a .pairs)) (now (a .marks)) l (k .check-trace .ensures) (c .before .refusal .given .1), demand3 _ _ _)
+    let a = started k .args in
+    (refused-before (now (a .grid)) (a .m) (a .n) (now (a .pairs)) (now (a .marks)) (lent (started k)) (k .check-trace .ensures) (c .before .refusal .given .1), demand3 _ _ _)
 
 trace-parametric-edge-curve-requires : tie.Need-trace-parametric-edge-curve-requires
 trace-parametric-edge-curve-requires c κs =
-    let k = c .before .before .before .before .before .before in
-    let a = k .before .before .before .before .before .before .before .before .args in
-    passes (now (a .grid)) (a .m) (a .n) (now (a .pairs)) (now (a .marks)) (k .check-trace .ensures) (c .before .before .before .before .enum-told .given .1)
+    let e = c .before .before .before .before in
+    let a = started (checked e) .args in
+    passes (now (a .grid)) (a .m) (a .n) (now (a .pairs)) (now (a .marks)) (checked e .check-trace .ensures) (e .enum-told .given .1)
 
-zero-past-requires : tie.Need-zero-past-requires
-zero-past-requires c κs =
-    let t = c .before .before .before .before .before .before .before .before .before .before .before .before .before .before .before in
-    let a = t .before .before .before .before .before .before .before .before .before .before .before .before .before .before .before .args in
-    let l = lists (now (a .points)) (now (a .starts)) (now (a .sides)) (now (a .fractions)) in
-    counted (now (a .grid)) (a .m) (a .n) (now (a .pairs)) (now (a .marks)) l (t .trace-parametric-edge-curve .ensures) (c .before .before .before .before .before .pen .given .1)
+mul-zero-floats : tie.Need-mul-zero-floats
+mul-zero-floats c = omega (arith, fits (c .before))
+
+mul-zero-numbers : tie.Need-mul-zero-numbers
+mul-zero-numbers c =
+    let n = c .before .before .before .before .before .before .before .before .before .before in
+    omega (arith, fits n)
 
 returns-2 : tie.Need-returns-2
 returns-2 c =
-    let t = c .before .before .before .before .before .before .before .before .before .before .before .before .before .before .before .before .before .before .before .before .before .before .before .before in
-    let k = t .before .before .before .before .before .before .before in
-    let a = k .before .before .before .before .before .before .before .before .args in
-    let l = lists (now (a .points)) (now (a .starts)) (now (a .sides)) (now (a .fractions)) in
-    let z = c .before .before .before .before .before .before .before .before .zero-past .ensures in (
-      zeroed (now (a .grid)) (a .m) (a .n) (now (a .pairs)) (now (a .marks)) l (t .trace-parametric-edge-curve .ensures) (k .check-trace .ensures) (t .before .before .before .before .before .enum-told .given .1)
-          (c .before .before .before .before .before .before .before .before .before .before .before .before .before .before .pen .given .1) (z .0) (z .1) (z .2) (z .3),
-      demand3 _ _ _,
-    )
-
-returns-3 : tie.Need-returns-3
-returns-3 c =
-    let t = c .before .before .before .before .before .before .before .before .before .before .before .before .before .before .before .before .before .before .before .before .before .before .before .before in
-    let k = t .before .before .before .before .before .before .before in
-    let a = k .before .before .before .before .before .before .before .before .args in
-    let l = lists (now (a .points)) (now (a .starts)) (now (a .sides)) (now (a .fractions)) in
-    let z = c .before .before .before .before .before .before .before .before .zero-past2 .ensures in (
-      zeroed (now (a .grid)) (a .m) (a .n) (now (a .pairs)) (now (a .marks)) l (t .trace-parametric-edge-curve .ensures) (k .check-trace .ensures) (t .before .before .before .before .before .enum-told .given .1)
-          (c .before .before .before .before .before .before .before .before .before .before .before .before .before .before .refusal2 .given .1) (z .0) (z .1) (z .2) (z .3),
+    let f = c .before .before .before in
+    let d = f .before .before .before .before in
+    let s = d .before .before .before .before in
+    let p = s .before .before .before .before .before in
+    let n = p .before .before in
+    let t = walked n in
+    let e = told t in
+    let k = checked e in
+    let a = started k .args in (
+      zeroed (now (a .grid)) (a .m) (a .n) (now (a .pairs)) (now (a .marks)) (lent (started k)) (t .trace-parametric-edge-curve .ensures) (k .check-trace .ensures) (e .enum-told .given .1)
+          (c .answer-of .ensures) (n .count-in .ensures) (s .before .lines-in .ensures) (p .zero-floats .ensures) (s .zero-numbers .ensures) (d .zero-numbers2 .ensures) (f .zero-floats2 .ensures),
       demand3 _ _ _,
     )
 
@@ -60,17 +90,17 @@ trace-flat-spec =
     returns
     (λ c. search needs)
     trace-parametric-edge-curve-requires
-    (λ c. search needs)
-    zero-past-requires
-    (λ c. search needs)
+    (λ c κs. search needs)
+    mul-zero-floats
+    (λ c κs. search needs)
+    (λ c κs. search needs)
+    (λ c κs. search needs)
+    mul-zero-numbers
+    (λ c κs. search needs)
+    (λ c κs. search needs)
     (λ c κs. search needs)
     (λ c. search needs)
     (λ c. search needs)
     (λ c. search needs)
     (λ c. search needs)
-    returns-2
-    (λ c. search needs)
-    (λ c. search needs)
-    (λ c. search needs)
-    (λ c. search needs)
-    returns-3)
+    returns-2)
