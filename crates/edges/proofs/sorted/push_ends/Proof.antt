@@ -16,8 +16,8 @@ start e = e .before .before .before .before .before .before
 abbrev found : tie.After-push-candidate → tie.After-end-candidate2
 found e = e .before .before .before
 
-abbrev first-pushed : tie.After-push-candidate2 → tie.After-push-candidate
-first-pushed e = e .before .before .before .before .before .before .before
+abbrev first-pushed : tie.After-push-candidate-arg4 → tie.After-push-candidate
+first-pushed e = e .before .before .before .before .before .before
 
 push-candidate-requires : tie.Need-push-candidate-requires
 push-candidate-requires c κs =
@@ -31,7 +31,7 @@ push-candidate-requires c κs =
 
 push-candidate-requires-2 : tie.Need-push-candidate-requires-2
 push-candidate-requires-2 c κs =
-    let first = c .before .before .before .before .before .before in
+    let first = first-pushed c in
     let p = found first in
     let s = start p in (
       search needs,
@@ -43,7 +43,7 @@ push-candidate-requires-2 c κs =
 returns : tie.Need-returns
 returns c =
     let second = c .before .before .before .before in
-    let first = first-pushed second in
+    let first = first-pushed (second .before) in
     let p = found first in
     let a = start p .args in (
       omega (arith, first .push-candidate .ensures .0, second .push-candidate2 .ensures .0),

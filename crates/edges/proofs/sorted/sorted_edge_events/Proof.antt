@@ -9,9 +9,9 @@ use Rattle.edges.proofs.sorted.sorted_edge_events.Tie as tie
 returns : tie.Need-returns
 unfolding sortedEdgeEvents
 returns c =
-    let kept = c .before .before .before .before in
-    let all = kept .before .before .before .before .before .before .before .push-candidates in
-    (omega (arith, kept .unique .ensures .0, all .ensures .0), kept .unique .ensures .1 ∙ ap unique (all .ensures .1))
+    let kept : tie.After-unique = c .before .before .before .before in
+    let all : tie.After-push-candidates = kept .before .before .before .before .before .before .before in
+    (omega (arith, kept .unique .ensures .0, all .push-candidates .ensures .0), kept .unique .ensures .1 ∙ ap unique (all .push-candidates .ensures .1))
 
 pub sorted-edge-events-spec : {M : Type 1} → statement M
 sorted-edge-events-spec = tie.close (tie.spec (λ c κs. search needs) (λ c κs. search needs) (λ c. search needs) (λ c. search needs) returns)
