@@ -34,7 +34,7 @@
 //! their contracts: the numbers that they answer are those of the definitions in `crates/*/specs`, to the
 //! last bit. They allocate nothing, and write only to lists that the caller lends.
 //!
-//! A call that cannot be answered is refused: [`Refusal`] has the twelve reasons.
+//! A call that cannot be answered is refused: [`Refusal`] has the reasons and their numbers.
 
 #[allow(unsafe_code)]
 mod boundary;
