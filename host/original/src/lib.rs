@@ -17,7 +17,7 @@ pub use parametric::surface::{Made, Sample, Side, Surface, step_index};
 pub use parametric::textures::{radial_sample_count, spiral_sample_count, texture_spacing};
 pub use parametric::{CyclicMapping, ParametricSurfaceTexture, seams};
 pub use path::Paths;
-pub use rays::{RaySample, ray_samples};
+pub use rays::{RaySample, Rays, rays};
 pub use vector::Vector;
 
 /// The points of a list of three numbers each.

@@ -49,7 +49,7 @@ mod lent {
     /// The sample that is being made.
     #[derive(Clone, Copy)]
     pub(super) struct Made {
-        number: usize,
+        pub(super) number: usize,
         angle: f64,
         direction: Option<[f64; 2]>,
     }
@@ -58,11 +58,11 @@ mod lent {
         /// How many rays come before the one that is asked for.
         pub(super) static BEFORE: Cell<usize> = const { Cell::new(0) };
         pub(super) static LEND: RefCell<Option<Lend>> = const { RefCell::new(None) };
-        static MADE: Cell<Made> = const { Cell::new(NONE) };
+        pub(super) static MADE: Cell<Made> = const { Cell::new(NONE) };
         pub(super) static SAMPLES: RefCell<Vec<RaySample>> = const { RefCell::new(Vec::new()) };
     }
 
-    const NONE: Made = Made {
+    pub(super) const NONE: Made = Made {
         number: 0,
         angle: 0.0,
         direction: None,
@@ -94,7 +94,6 @@ mod lent {
         _same_point: impl FnMut(&T, &T) -> bool,
     ) -> Paths<T> {
         if BEFORE.replace(BEFORE.get().wrapping_sub(1)) == 0 {
-            MADE.set(NONE);
             let samples = samples.into_iter().flatten();
             SAMPLES.set(samples.filter_map(kept).collect());
         }
@@ -128,17 +127,33 @@ pub struct RaySample {
     pub point: [f64; 2],
 }
 
-/// Samples of a ray of a texture on `u_steps` by `v_steps` cells, none where there is no such ray. `lend` takes
+/// What a texture's rays are.
+#[derive(Debug, Clone, PartialEq)]
+pub struct Rays {
+    /// How many there are.
+    pub count: usize,
+    /// How many samples were made of the one that was asked for, 0 where it is not there.
+    pub made: usize,
+    /// Those of them that were asked for.
+    pub samples: Vec<RaySample>,
+}
+
+/// Goes through the rays of a texture on `u_steps` by `v_steps` cells, and makes the samples of one. `lend` takes
 /// the number and the angle of each, and hands back its cosine and sine, or nothing where it is not asked for.
-pub fn ray_samples(
+pub fn rays(
     texture: crate::ParametricSurfaceTexture,
     u_steps: usize,
     v_steps: usize,
     ray: usize,
     lend: impl Fn(usize, f64) -> Option<[f64; 2]> + 'static,
-) -> Vec<RaySample> {
+) -> Rays {
     lent::BEFORE.set(ray);
     lent::LEND.set(Some(Box::new(lend)));
+    lent::MADE.set(lent::NONE);
     copy::go_through(&copy::surface(u_steps, v_steps), texture);
-    lent::SAMPLES.take()
+    Rays {
+        count: ray.wrapping_sub(lent::BEFORE.get()),
+        made: lent::MADE.get().number,
+        samples: lent::SAMPLES.take(),
+    }
 }

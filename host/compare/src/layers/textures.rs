@@ -14,8 +14,8 @@ use crate::record::{Call, Record, Recorded, bits};
 use crate::value::Value;
 use merlontrispa::{Plan, Refusal, Texture};
 use original::{
-    ParametricSurfaceTexture, RaySample, Surface, Vector, radial_sample_count, ray_samples,
-    spiral_sample_count, texture_spacing, vectors,
+    ParametricSurfaceTexture, RaySample, Surface, Vector, radial_sample_count, spiral_sample_count,
+    texture_spacing, vectors,
 };
 use std::cell::LazyCell;
 use std::f64::consts::TAU;
@@ -524,7 +524,7 @@ impl Input {
         }
         let texture = to_original(self.texture);
         let lend = move |number, _| (number == i).then_some(direction);
-        Ok(ray_samples(texture, self.m, self.n, ray, lend)[0])
+        Ok(original::rays(texture, self.m, self.n, ray, lend).samples[0])
     }
 }
 
@@ -537,7 +537,7 @@ fn drawn_alike(radii: &[f64], scene: &Scene) -> bool {
     let surface = Surface::from_grid(vectors(&grid.numbers), m, n);
     let ray_lines = |ray| {
         let lend = |_, angle: f64| Some([angle.cos(), angle.sin()]);
-        let samples = ray_samples(to_original(texture), m, n, ray, lend);
+        let samples = original::rays(to_original(texture), m, n, ray, lend).samples;
         let samples = samples.iter().map(|sample| Some(sample.point.into()));
         let paths = surface.trace(&samples.collect::<Vec<_>>());
         let paths = paths.ok_or(Refusal::NoStep)?;

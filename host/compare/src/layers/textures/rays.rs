@@ -5,7 +5,6 @@ use crate::case::case;
 use crate::driver::{Compared, Driver};
 use crate::random::Random;
 use merlontrispa::{Refusal, Texture};
-use original::ray_samples;
 use std::cell::RefCell;
 
 /// A ray of a texture, cut into parts: the samples at their ends are compared.
@@ -69,9 +68,12 @@ fn original_samples(radii: &[f64], ray: &Ray) -> Samples {
         let is_next = next.borrow_mut().next_if_eq(&i).is_some();
         is_next.then(|| direction(angle))
     };
-    let samples = ray_samples(to_original(texture), m, n, ray.ray, lend);
-    let samples = samples.iter().map(|sample| (sample.angle, sample.point));
-    Ok(samples.collect())
+    let rays = original::rays(to_original(texture), m, n, ray.ray, lend);
+    // The plan's rays are a formula of ours, since the original has theirs inside its functions.
+    let told = (plan.rays, plan.samples + 1);
+    assert_eq!((rays.count, rays.made), told, "{texture:?}, {m} by {n}");
+    let samples = rays.samples.iter();
+    Ok(samples.map(|sample| (sample.angle, sample.point)).collect())
 }
 
 /// Where the parts of a ray end that has so many samples: at each sample where there are no fewer parts.
