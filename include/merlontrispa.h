@@ -3,7 +3,8 @@
  *
  * The functions of target/staticlib/libmerlontrispa.a, which `rt staticlib merlontrispa` writes. Each is
  * proved to end with an answer for every input, to read and write nothing past a list, and to
- * answer what its definition in crates/merlontrispa/specs says, to the last bit.
+ * answer what its definition in crates/merlontrispa/specs says, to the last bit; of an answer that
+ * is a NaN, its sign and payload are not fixed.
  *
  * Grid. A surface is sampled in m steps of u and n steps of v, each 1 to 255. Point (u, v), u from
  * 0 to m and v from 0 to n, has the number u * (n + 1) + v. The grid is one list of 3 * (m + 1) *
@@ -26,6 +27,7 @@
  * under the default environment: round to nearest, subnormal numbers kept.
  *
  * Link: cc program.c target/staticlib/libmerlontrispa.a
+ * or, after ./install: cc program.c $(pkg-config --cflags --libs merlontrispa)
  */
 #ifndef MERLONTRISPA_H
 #define MERLONTRISPA_H
@@ -249,8 +251,9 @@ typedef struct mt_sample {
 } mt_sample;
 
 /*
- * What mt_trace_flat does, with the samples as records. It takes 1,114,129 bytes of stack for lists
- * of its own, whatever the number of samples.
+ * What mt_trace_flat does, with the samples as records. It needs 1.1 MB of stack, whatever the
+ * number of samples: 1,114,129 bytes are lists of its own. A thread with a stack of less than 1,150
+ * KiB calls mt_trace_flat, which needs 14 KB.
  * Refusals: those of mt_trace_flat; 2 where there are over 65,537 samples.
  */
 mt_paths_answer mt_trace_samples(const double *grid, size_t grid_len, size_t m, size_t n,
@@ -343,7 +346,7 @@ bool mt_vector_all_close(double ax, double ay, double az, double bx, double by, 
 
 /* ---- Numbers --------------------------------------------------------------------------------- */
 
-/* The magnitude of x. */
+/* The magnitude of x; a NaN for a NaN, whose sign may stay. */
 double mt_abs(double x);
 
 /* Whether x is neither infinite nor a NaN. */

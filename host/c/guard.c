@@ -67,13 +67,18 @@ static bool all(const list *l, size_t from, unsigned char byte) {
     return true;
 }
 
+/* Whether a refusal leaves the written lists all zero, and not as they were. */
+static bool leaves_zeros(uint8_t refusal) {
+    return refusal == MT_NO_STEP || refusal == MT_FULL;
+}
+
 /* Whether list i is as a refusal leaves it, or zero past the bytes that were written. */
 static bool left(size_t i, uint8_t refusal, size_t written) {
     const list *l = &lists[i];
     if (refusal == MT_OK) {
         return written <= l->bytes && all(l, written, 0);
     }
-    return all(l, 0, refusal <= MT_SAMPLE ? PATTERN : 0);
+    return all(l, 0, leaves_zeros(refusal) ? 0 : PATTERN);
 }
 
 /* ---- Inputs ---- */
@@ -130,8 +135,8 @@ static const double *lent_grid(void) {
 
 /* ---- Calls: each answers whether it left its lists as it should ---- */
 
-/* How many calls ended with each refusal, or with none. */
-static unsigned ended[MT_FULL + 1];
+/* How many calls ended with each number that an answer can have: a refusal's, or 0. */
+static unsigned ended[UINT8_MAX + 1];
 
 static bool finds_seams(void) {
     size_t a_len = near(3 * below(6)), b_len = near(a_len);

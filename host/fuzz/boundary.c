@@ -22,16 +22,17 @@ enum { MOST_STEPS = 7, MOST_POINTS = 24, MOST_SAMPLES = 24 };
         } \
     } while (0)
 
-/* A branch of its own for each number up to 12, so that the fuzzer sees which it was: a remark in the
-   machine code keeps the branches apart. */
+/* A branch of its own for each number up to 23, refusals and small counts, so that the fuzzer sees which it
+   was: a remark in the machine code keeps the branches apart. */
 #define BRANCH(n) \
     case n: \
         __asm__ volatile("# " #n); \
         break;
 static inline __attribute__((always_inline)) void noted(size_t number) {
     switch (number) {
-        BRANCH(0) BRANCH(1) BRANCH(2) BRANCH(3) BRANCH(4) BRANCH(5) BRANCH(6)
-        BRANCH(7) BRANCH(8) BRANCH(9) BRANCH(10) BRANCH(11) BRANCH(12)
+        BRANCH(0) BRANCH(1) BRANCH(2) BRANCH(3) BRANCH(4) BRANCH(5) BRANCH(6) BRANCH(7)
+        BRANCH(8) BRANCH(9) BRANCH(10) BRANCH(11) BRANCH(12) BRANCH(13) BRANCH(14) BRANCH(15)
+        BRANCH(16) BRANCH(17) BRANCH(18) BRANCH(19) BRANCH(20) BRANCH(21) BRANCH(22) BRANCH(23)
     }
 }
 

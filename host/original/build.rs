@@ -26,6 +26,10 @@ fn main() {
     let out = PathBuf::from(env::var_os("OUT_DIR").expect("cargo sets OUT_DIR"));
     fs::write(out.join("larnt.rs"), modules(&sources)).expect("OUT_DIR can be written");
     fs::write(out.join("parametric.rs"), include(&sources)).expect("OUT_DIR can be written");
+    match lent(&sources) {
+        Ok(text) => fs::write(out.join("lent.rs"), text).expect("OUT_DIR can be written"),
+        Err(fault) => println!("cargo::error={fault}"),
+    }
 }
 
 /// The files that are modules of their own.
@@ -41,4 +45,30 @@ fn modules(sources: &Path) -> String {
 /// The file that stands inside a module of ours, beside functions that call its private ones.
 fn include(sources: &Path) -> String {
     format!("include!({:?});\n", sources.join("parametric.rs"))
+}
+
+/// What differs in the copy whose rays are lent a direction, and how often each stands in the file.
+const LENT: [(&str, &str, usize); 3] = [
+    (
+        "use crate::util::{ParamEdge, ParamPoint, trace_parametric_edge_curve};",
+        "use super::lent::{ParamEdge, ParamPoint, cosine, sine, trace_parametric_edge_curve};",
+        1,
+    ),
+    ("angle.cos()", "cosine(angle)", 2),
+    ("angle.sin()", "sine(angle)", 2),
+];
+
+/// A copy of parametric.rs in which a sample's cosine and sine are lent, or a sentence that says what is not in
+/// the file as it should be.
+fn lent(sources: &Path) -> Result<String, String> {
+    let file = sources.join("parametric.rs");
+    let text = fs::read_to_string(&file).map_err(|fault| format!("{}: {fault}", file.display()))?;
+    LENT.iter().try_fold(text, |text, &(words, other, count)| {
+        match text.matches(words).count() {
+            found if found == count => Ok(text.replace(words, other)),
+            found => Err(format!(
+                "{words} stands {found} times in parametric.rs, and not {count}"
+            )),
+        }
+    })
 }

@@ -10,7 +10,7 @@
 use crate::boundary;
 use std::cmp::Ordering;
 
-/// `x.abs()`
+/// `x.abs()`, but that a NaN may keep its sign
 pub fn abs(x: f64) -> f64 {
     boundary::mt_abs(x)
 }

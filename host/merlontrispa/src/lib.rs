@@ -32,9 +32,10 @@
 //! [`grid_paths`], [`trace_flat`], [`trace_samples`], [`Lines::get`] and [`Lines::line_span`], the methods
 //! of [`Mapping`], [`Texture`] and [`Vector`], and the functions of [`float`]. Their meaning is fixed by
 //! their contracts: the numbers that they answer are those of the definitions in `crates/*/specs`, to the
-//! last bit. They allocate nothing, and write only to lists that the caller lends.
+//! last bit, but for the sign and the payload of a NaN. They allocate nothing, and write only to lists that the
+//! caller lends.
 //!
-//! A call that cannot be answered is refused: [`Refusal`] has the twelve reasons.
+//! A call that cannot be answered is refused: [`Refusal`] has the reasons and their numbers.
 
 #[allow(unsafe_code)]
 mod boundary;

@@ -54,7 +54,16 @@ impl Mapping {
         Ok(answer.seam.into())
     }
 
-    /// Whether the rows run against each other.
+    /// Whether the rows run against each other: answered for every mapping, also where
+    /// [`map_index`](Self::map_index) refuses every index.
+    ///
+    /// ```
+    /// use merlontrispa::{Mapping, Refusal};
+    ///
+    /// let without_steps = Mapping::Reverse { offset: 0, steps: 0 };
+    /// assert!(without_steps.is_reverse());
+    /// assert_eq!(without_steps.map_index(0), Err(Refusal::NotThere));
+    /// ```
     pub fn is_reverse(self) -> bool {
         let (reverse, offset, steps) = self.parts();
         boundary::mt_is_reverse(reverse, offset, steps)

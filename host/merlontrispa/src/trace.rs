@@ -172,8 +172,10 @@ impl Sample {
 
 /// What [`trace_flat`] draws of the samples' points and marks, with the same refusals.
 ///
-/// The call flattens the samples into lists of its own, which take 1,114,129 bytes of the caller's stack
-/// whatever their number.
+/// # Stack
+/// The call needs 1.1 MB of the caller's stack, whatever the number of samples: it flattens them into lists
+/// of its own, of 1,114,129 bytes. A thread with less than 1,150 KiB calls [`trace_flat`], which needs 14 KB;
+/// a thread that Rust starts has 2 MiB unless it asks for less.
 ///
 /// # Errors
 /// 1, 2 (more than 65,537 samples), 4, 9 and 10, which leave the lists as they were; 11 and 12, which

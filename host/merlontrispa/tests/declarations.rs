@@ -189,12 +189,20 @@ fn the_header_has_the_numbers_and_sentences_of_the_refusals() {
         let (sentence, name) = entry.split_once("*/").expect("a comment");
         let sentence = sentence.replace("\n     *", "");
         let (name, number) = name.split_once(" = ").expect("a number");
-        let number = number.trim().trim_end_matches(',');
+        let number: u8 = number.trim().trim_end_matches(',').parse().expect("a u8");
         let name = name.trim().strip_prefix("MT_").expect("the prefix");
-        (capitals(name), plain(&format!("{number}: {sentence}")))
+        (capitals(name), number, plain(&sentence))
     });
-    let all = Refusal::ALL.map(|refusal| (format!("{refusal:?}"), plain(&refusal.to_string())));
-    assert!(entries.skip(1).eq(all), "{refusals}");
+    let entries: Vec<_> = entries.collect();
+    let none = ("Ok".to_owned(), 0, plain("No refusal."));
+    let all = Refusal::ALL.iter().map(|&refusal| {
+        let told = refusal.to_string();
+        let (number, sentence) = told.split_once(": ").expect("a number");
+        assert_eq!(number, refusal.number().to_string());
+        let name = format!("{refusal:?}");
+        (name, refusal.number(), plain(sentence))
+    });
+    assert_eq!(entries, [none].into_iter().chain(all).collect::<Vec<_>>());
 }
 
 #[test]

@@ -1,5 +1,8 @@
-//! Plans, angles and sample points of textures against the original's: its counts, and the lines of whole
-//! swirls and spirals, which the library draws alone but for the cosine and the sine.
+//! Plans, angles and sample points of textures against the original's: its counts, what the closures of its
+//! rays make (`rays`), and the lines of whole swirls and spirals, which the library draws alone but for the
+//! cosine and the sine.
+
+mod rays;
 
 use crate::case::case;
 use crate::driver::{Compared, Driver};
@@ -11,7 +14,7 @@ use crate::record::{Call, Record, Recorded, bits};
 use crate::value::Value;
 use merlontrispa::{Plan, Refusal, Texture};
 use original::{
-    ParametricSurfaceTexture, Surface, Vector, radial_sample_count, spiral_sample_count,
+    ParametricSurfaceTexture, RaySample, Surface, Vector, radial_sample_count, spiral_sample_count,
     texture_spacing, vectors,
 };
 use std::cell::LazyCell;
@@ -79,19 +82,37 @@ struct Scene {
 
 case!(Scene { texture, grid });
 
+impl Scene {
+    fn input(&self) -> Input {
+        let (m, n) = (self.grid.u_steps, self.grid.v_steps);
+        let texture = self.texture;
+        Input { texture, m, n }
+    }
+}
+
 pub fn compare(driver: &mut Driver) -> Compared {
     let radii = LazyCell::new(radii);
     let library = |input: &Input| input.texture.plan(input.m, input.n);
     let original = |input: &Input| original_plan(&radii, input);
     driver.compare_each("plan, edges", edges(), library, original)?;
     driver.compare("plan", 1_000_000, any_input, library, original)?;
-    driver.compare(
-        "swirls and spirals, drawn",
-        4_000,
-        any_scene,
-        library_lines,
-        original_lines,
-    )
+    rays::compare(driver, &radii)?;
+    let original = |scene: &Scene| original_lines(&radii, scene);
+    let drawn = "swirls and spirals, drawn";
+    driver.compare(drawn, 4_000, any_scene, library_lines, original)?;
+    let limits = "swirls and spirals, at the limits";
+    driver.compare_each(limits, limits_drawn(), library_lines, original)?;
+    let wide = "swirls and spirals, up to 255 by 255";
+    driver.compare(wide, 150, wide_scene, library_lines, original)
+}
+
+/// The texture in the original's type.
+fn to_original(texture: Texture) -> ParametricSurfaceTexture {
+    match texture {
+        Texture::Grid => ParametricSurfaceTexture::Grid,
+        Texture::Swirl { spacing, twist } => ParametricSurfaceTexture::Swirl { spacing, twist },
+        Texture::Spiral { spacing, arms } => ParametricSurfaceTexture::Spiral { spacing, arms },
+    }
 }
 
 /// The radius of each number of steps, by the original.
@@ -138,19 +159,16 @@ fn original_plan(radii: &[f64], input: &Input) -> Result<Plan, Refusal> {
 /// The numbers of each line, or a refusal.
 type DrawnLines = Result<Vec<Vec<f64>>, Refusal>;
 
-/// What the original draws; where it panics, 11 is due.
-fn original_lines(scene: &Scene) -> DrawnLines {
-    if let Some(refusal) = scene.grid.refusal() {
+/// What the original draws of what 01 does not refuse; where it panics, 11 is due.
+fn original_lines(radii: &[f64], scene: &Scene) -> DrawnLines {
+    let grid = &scene.grid;
+    if let Some(refusal) = grid.refusal() {
         return Err(refusal);
     }
-    let texture = match scene.texture {
-        Texture::Grid => ParametricSurfaceTexture::Grid,
-        Texture::Swirl { spacing, twist } => ParametricSurfaceTexture::Swirl { spacing, twist },
-        Texture::Spiral { spacing, arms } => ParametricSurfaceTexture::Spiral { spacing, arms },
-    };
-    let grid = &scene.grid;
+    original_plan(radii, &scene.input())?;
     let mut surface = Surface::from_grid(vectors(&grid.numbers), grid.u_steps, grid.v_steps);
-    let paths = surface.paths(texture).ok_or(Refusal::NoStep)?;
+    let paths = surface.paths(to_original(scene.texture));
+    let paths = paths.ok_or(Refusal::NoStep)?;
     let lines = paths.iter_paths().map(|line| coordinates(line).collect());
     Ok(lines.collect())
 }
@@ -250,6 +268,124 @@ fn any_scene(random: &mut Random) -> Scene {
     Scene { texture, grid }
 }
 
+/// How many samples a drawing may have that is drawn in some milliseconds.
+const WORK: usize = 12_000;
+
+/// A swirl or a spiral anywhere in the domain, brought to so few rays and samples that it is soon drawn.
+fn wide_scene(random: &mut Random) -> Scene {
+    let mut input = wide_input(random);
+    while !soon_drawn(&input) {
+        input = coarser(input);
+    }
+    let Input { texture, m, n } = input;
+    let grid = any_grid(random, m, n);
+    Scene { texture, grid }
+}
+
+fn soon_drawn(input: &Input) -> bool {
+    let plan = input.texture.plan(input.m, input.n);
+    plan.is_ok_and(|plan| plan.rays * (plan.samples + 1) <= WORK)
+}
+
+/// Rays or turns that are further apart, up to 1000 steps; then half the turns or arms.
+fn coarser(Input { texture, m, n }: Input) -> Input {
+    let wider = |spacing| 2.0 * texture_spacing(spacing);
+    let texture = match texture {
+        Texture::Grid => texture,
+        Texture::Swirl { spacing, twist } if wider(spacing) > 1e3 => {
+            let twist = twist / 2.0;
+            Texture::Swirl { spacing, twist }
+        }
+        Texture::Swirl { spacing, twist } => {
+            let spacing = wider(spacing);
+            Texture::Swirl { spacing, twist }
+        }
+        Texture::Spiral { spacing, arms } if wider(spacing) > 1e3 => {
+            let arms = arms / 2;
+            Texture::Spiral { spacing, arms }
+        }
+        Texture::Spiral { spacing, arms } => {
+            let spacing = wider(spacing);
+            Texture::Spiral { spacing, arms }
+        }
+    };
+    Input { texture, m, n }
+}
+
+/// A swirl or a spiral anywhere in the domain, whose spacing is of any magnitude.
+fn wide_input(random: &mut Random) -> Input {
+    let spacing = match random.below(4) {
+        0 => random.of(&SPACINGS),
+        _ => 2f64.powf(24.0 * random.unit() - 12.0),
+    };
+    let texture = match random.below(2) {
+        0 => {
+            let twist = match random.below(4) {
+                0 => random.of(&[0.0, -0.0, 64.0, -64.0, 5e-324]),
+                1 => 2.0 * random.unit() - 1.0,
+                _ => 128.0 * random.unit() - 64.0,
+            };
+            Texture::Swirl { spacing, twist }
+        }
+        _ => {
+            let arms = random.below(65) as usize;
+            Texture::Spiral { spacing, arms }
+        }
+    };
+    // Many turns are soon drawn on few cells only.
+    let most = random.of(&[32, 255]);
+    let mut steps = || match random.below(4) {
+        0 => random.of(&[1, 2, most - 1, most]),
+        _ => 1 + random.below(most as u64) as usize,
+    };
+    let (m, n) = (steps(), steps());
+    Input { texture, m, n }
+}
+
+/// Swirls and spirals at the limits of what is drawn: the most turns, arms, rays and samples, and one more.
+fn limits_drawn() -> impl Iterator<Item = Scene> {
+    let swirl = |spacing, twist| Texture::Swirl { spacing, twist };
+    let spiral = |spacing, arms| Texture::Spiral { spacing, arms };
+    let rays = limit(EPS.next_up(), 1.0, |spacing| swirl(spacing, 0.0).plan(1, 1));
+    let turns = limit(EPS.next_up(), 1.0, |spacing| spiral(spacing, 1).plan(1, 1));
+    let twist = limit(64.0, 1.0, |twist| swirl(f64::MAX, twist).plan(255, 255));
+    let all = [
+        (swirl(1e9, 64.0), 100, 1),
+        (swirl(1e9, -64.0), 1, 100),
+        (swirl(1e9, -64.0), 114, 114),
+        (swirl(1e9, -64.0), 115, 115),
+        (swirl(f64::MAX, twist), 255, 255),
+        (swirl(f64::MAX, twist.next_up()), 255, 255),
+        (swirl(100.0, -0.0), 255, 255),
+        (swirl(100.0, 1.0), 255, 1),
+        (swirl(rays, 0.0), 1, 1),
+        (swirl(rays.next_down(), 0.0), 1, 1),
+        (spiral(f64::MAX, 64), 255, 255),
+        (spiral(180.0, 64), 1, 255),
+        (spiral(1e-9, 0), 60, 3),
+        (spiral(turns, 1), 1, 1),
+        (spiral(turns.next_down(), 1), 1, 1),
+    ];
+    let mut random = Random::new(1);
+    all.into_iter().map(move |(texture, m, n)| {
+        let grid = any_grid(&mut random, m, n);
+        Scene { texture, grid }
+    })
+}
+
+/// The last float from `fits` to `refused`, both positive, at which there is a plan.
+fn limit(refused: f64, fits: f64, plan: impl Fn(f64) -> Result<Plan, Refusal>) -> f64 {
+    let [mut refused, mut fits] = [refused, fits].map(f64::to_bits);
+    while refused.abs_diff(fits) > 1 {
+        let middle = refused.midpoint(fits);
+        match plan(f64::from_bits(middle)) {
+            Ok(_) => fits = middle,
+            Err(_) => refused = middle,
+        }
+    }
+    f64::from_bits(fits)
+}
+
 /// Plans, angles and points for the record.
 pub fn record(record: &mut Record) {
     let radii = radii();
@@ -275,8 +411,9 @@ pub fn record(record: &mut Record) {
                 Err(_) => (0, 0),
             };
             let direction = recorded_direction(&mut random);
-            record.offer(input.turned(&radii, plan, ray, sample));
-            record.offer(input.placed(&radii, plan, ray, sample, direction));
+            let told = input.sample(plan, ray, sample, direction);
+            record.offer(input.turned(told, ray, sample));
+            record.offer(input.placed(plan, told, ray, sample, direction));
         }
     }
 }
@@ -338,21 +475,20 @@ impl Input {
             .reaching_if(plan.is_ok(), self.name())
     }
 
-    fn turned(&self, radii: &[f64], plan: Result<Plan, Refusal>, ray: usize, i: usize) -> Recorded {
-        let told = self.sample(radii, plan, ray, i).map(|[angle, _]| angle);
+    fn turned(&self, told: Result<RaySample, Refusal>, ray: usize, i: usize) -> Recorded {
         let numbers = self.words(&[ray as u64, i as u64]);
         let case =
             Recorded::new(Call::Angle, told.err(), &numbers).reaching_if(told.is_ok(), self.name());
         match told {
-            Ok(angle) => case.words(&[0, bits(angle)]),
+            Ok(sample) => case.words(&[0, bits(sample.angle)]),
             Err(refusal) => case.told(Err(refusal)),
         }
     }
 
     fn placed(
         &self,
-        radii: &[f64],
         plan: Result<Plan, Refusal>,
+        told: Result<RaySample, Refusal>,
         ray: usize,
         i: usize,
         [cosine, sine]: [f64; 2],
@@ -360,75 +496,91 @@ impl Input {
         let fits = |x: f64| x.abs() <= 1.0;
         let told = match plan {
             Ok(_) if !fits(cosine) || !fits(sine) => Err(Refusal::Direction),
-            _ => self.sample(radii, plan, ray, i),
+            _ => told,
         };
         let numbers = self.words(&[ray as u64, i as u64, bits(cosine), bits(sine)]);
         let case = Recorded::new(Call::SamplePoint, told.err(), &numbers)
             .reaching_if(told.is_ok(), self.name());
         match told {
-            Ok([_, distance]) => {
-                let point = self.point(distance, [cosine, sine]);
-                case.words(&[0, bits(point[0]), bits(point[1])])
+            Ok(sample) => {
+                let [u, v] = sample.point.map(bits);
+                case.words(&[0, u, v])
             }
             Err(refusal) => case.told(Err(refusal)),
         }
     }
 
-    /// The angle of a sample and how far it is from the centre. `drawn_alike` holds them to the original, which
-    /// has them inside its loops.
+    /// A sample by the original's closures, or 01's refusal.
     fn sample(
         &self,
-        radii: &[f64],
         plan: Result<Plan, Refusal>,
         ray: usize,
         i: usize,
-    ) -> Result<[f64; 2], Refusal> {
+        direction: [f64; 2],
+    ) -> Result<RaySample, Refusal> {
         let Plan { rays, samples } = plan?;
         if ray >= rays || i > samples {
             return Err(Refusal::NotThere);
         }
-        let radius = radii[self.m.max(self.n)];
-        let [ray, rays, i, count] = [ray, rays, i, samples].map(|n| n as f64);
-        let base = ray / rays * TAU;
-        Ok(match self.texture {
-            Texture::Grid => [0.0, 0.0],
-            Texture::Swirl { twist, .. } => [base + TAU * twist * i / count, radius * i / count],
-            Texture::Spiral { spacing, .. } => {
-                let turns = (radius / texture_spacing(spacing)).ceil().max(1.0);
-                let t = i / count;
-                [base + t * TAU * turns, radius * (1.0 - t)]
-            }
-        })
-    }
-
-    /// The point at a distance from the centre.
-    fn point(&self, distance: f64, [cosine, sine]: [f64; 2]) -> [f64; 2] {
-        let [u, v] = [self.m, self.n].map(|steps| steps as f64 * 0.5);
-        [u + cosine * distance, v + sine * distance]
+        let texture = to_original(self.texture);
+        let lend = move |number, _| (number == i).then_some(direction);
+        Ok(original::rays(texture, self.m, self.n, ray, lend).samples[0])
     }
 }
 
-/// Whether the samples that are recorded draw what the original draws of the texture, bit by bit.
+/// Whether the closures' samples, with Rust's cosine and sine, draw what the original draws of the texture, bit
+/// by bit.
 fn drawn_alike(radii: &[f64], scene: &Scene) -> bool {
     let Scene { texture, ref grid } = *scene;
     let (m, n) = (grid.u_steps, grid.v_steps);
-    let input = Input { texture, m, n };
-    let plan = original_plan(radii, &input);
+    let plan = original_plan(radii, &scene.input());
     let surface = Surface::from_grid(vectors(&grid.numbers), m, n);
     let ray_lines = |ray| {
-        let samples = plan.map_or(0, |plan| plan.samples);
-        let ray: Vec<_> = (0..=samples)
-            .map(|i| {
-                let [angle, distance] = input.sample(radii, plan, ray, i).ok()?;
-                let [u, v] = input.point(distance, [angle.cos(), angle.sin()]);
-                Some((u, v))
-            })
-            .collect();
-        let paths = surface.trace(&ray).ok_or(Refusal::NoStep)?;
+        let lend = |_, angle: f64| Some([angle.cos(), angle.sin()]);
+        let samples = original::rays(to_original(texture), m, n, ray, lend).samples;
+        let samples = samples.iter().map(|sample| Some(sample.point.into()));
+        let paths = surface.trace(&samples.collect::<Vec<_>>());
+        let paths = paths.ok_or(Refusal::NoStep)?;
         let lines = paths.iter_paths().map(|line| coordinates(line).collect());
         Ok(lines.collect::<Vec<_>>())
     };
     let rays = plan.map_or(0, |plan| plan.rays);
     let drawn: Result<Vec<_>, Refusal> = (0..rays).map(ray_lines).collect();
-    original_lines(scene).same(&drawn.map(|rays| rays.concat()))
+    original_lines(radii, scene).same(&drawn.map(|rays| rays.concat()))
+}
+
+#[cfg(test)]
+mod tests {
+    use super::*;
+
+    #[test]
+    fn the_limits_are_drawn_and_one_more_is_refused() {
+        let plans =
+            limits_drawn().map(|scene| scene.texture.plan(scene.grid.u_steps, scene.grid.v_steps));
+        let (drawn, refused): (Vec<_>, Vec<_>) = plans.partition(Result::is_ok);
+        assert_eq!((drawn.len(), refused), (11, vec![Err(Refusal::Count); 4]));
+        let most = |count: fn(Plan) -> usize| drawn.iter().flatten().map(|&plan| count(plan)).max();
+        assert_eq!(most(|plan| plan.rays), Some(65_536));
+        assert_eq!(most(|plan| plan.samples), Some(65_536));
+    }
+
+    #[test]
+    fn wide_scenes_are_wide() {
+        let mut random = Random::new(1);
+        let (mut cells, mut twists, mut arms) = (0, 0, 0);
+        for _ in 0..150 {
+            let Scene { texture, grid } = wide_scene(&mut random);
+            assert!(texture.plan(grid.u_steps, grid.v_steps).is_ok());
+            cells += u32::from(grid.u_steps.max(grid.v_steps) > 200);
+            match texture {
+                Texture::Swirl { twist, .. } => twists += u32::from(twist.abs() > 32.0),
+                Texture::Spiral { arms: count, .. } => arms += u32::from(count > 32),
+                Texture::Grid => {}
+            }
+        }
+        assert!(
+            cells > 20 && twists > 8 && arms > 8,
+            "{cells}, {twists}, {arms}"
+        );
+    }
 }
