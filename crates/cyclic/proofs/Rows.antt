@@ -12,11 +12,11 @@ use lib.ListN.{length}
 use borrow.Author.Tests.{lt-ltb, le-ltb, leb-true, eq-eqb, ne-eqb}
 use Rattle.basics.proofs.Tests.{and-both}
 use Rattle.grid.specs.Grid.{pointAt, coordinatesFit}
-use Rattle.grid.proofs.Laws.{unless-passed}
 use Rattle.refusal.specs.declared.Check.the-variants.{Passed, Failed}
 use Rattle.refusal.specs.declared.Refusal.{Refusal}
 use Rattle.refusal.specs.declared.Refusal.the-variants.{Length, Coordinate}
 use Rattle.refusal.specs.Refusals.{ok, refused, numberOf, unless}
+use Rattle.refusal.proofs.Laws.{unless-passed}
 use Rattle.cyclic.specs.declared.seam.Seam.the-variants.{Unjoined}
 use Rattle.cyclic.specs.declared.seam.SeamSearch.{SeamSearch}
 use Rattle.cyclic.specs.Search.{Row, Rows, Closeness, closeAt, rowOf, searched, searchRows, search, rowFits, rowsCheck, newVector}

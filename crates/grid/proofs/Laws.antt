@@ -4,7 +4,7 @@ use native.Mathlib.Nat.{mul-le-mul}
 use native.Mathlib.Omega.{arith}
 use native.Mathlib.Numerals.{add-one}
 use mathlib.Core.Path.{_≡_, refl}
-use mathlib.Core.Bool.{Bool, true, false, _&&_, true≢false}
+use mathlib.Core.Bool.{Bool, true, false, _&&_}
 use mathlib.Core.List.{List, [], _∷_}
 use lib.Arith.{digits-lt, digits-div, digits-mod}
 use lib.Dec.{leb}
@@ -16,10 +16,10 @@ use Rattle.float.specs.Sign.{isFinite, atMost}
 use Rattle.basics.proofs.Tests.{and-both}
 use Rattle.float.proofs.Bounds.{at-most-finite}
 use Rattle.refusal.specs.declared.Check.{Check}
-use Rattle.refusal.specs.declared.Check.the-variants.{Passed, Failed}
-use Rattle.refusal.specs.declared.Refusal.{Refusal}
+use Rattle.refusal.specs.declared.Check.the-variants.{Passed}
 use Rattle.refusal.specs.declared.Refusal.the-variants.{Steps, Length, Coordinate}
 use Rattle.refusal.specs.Refusals.{unless, andThen}
+use Rattle.refusal.proofs.Laws.{unless-passed, then-passed}
 use Rattle.grid.specs.Grid.{pointNumber, stepsFit, lengthFits, maxCoordinate, coordinatesFit, gridCheck, Accepted}
 
 -- M and N from 1 to 255, and so at most 2^16 points
@@ -34,15 +34,6 @@ pub record Stepped (m n : ℕ) : Type 0 where
 pub record Shaped (g : List Float) (m n : ℕ) : Type 0 where
   pub steps : Stepped m n
   pub size : length g ≡ 3 * ((m + 1) * (n + 1))
-
--- where tests pass one after the other, each of them passes
-pub unless-passed : (t : Bool) (k : Refusal) (after : Check) → unless t k after ≡ Passed → (t ≡ true) × (after ≡ Passed)
-unless-passed true k after h = (refl, h)
-unless-passed false k after h = absurd (true≢false (cc))
-
-pub then-passed : (c after : Check) → andThen c after ≡ Passed → (c ≡ Passed) × (after ≡ Passed)
-then-passed Passed after h = (refl, h)
-then-passed (Failed k) after h = absurd (true≢false (cc))
 
 -- M and N
 

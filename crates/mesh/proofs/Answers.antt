@@ -14,10 +14,11 @@ use Rattle.refusal.specs.declared.Check.the-variants.{Passed, Failed}
 use Rattle.refusal.specs.declared.Refusal.{Refusal}
 use Rattle.refusal.specs.declared.Refusal.the-variants.{Steps, Room}
 use Rattle.refusal.specs.Refusals.{unless}
+use Rattle.refusal.proofs.Laws.{unless-passed}
 use Rattle.lent.specs.Lent.{filled, zeroedFrom}
 use Rattle.lent.proofs.Laws.{zeroed-filled}
 use Rattle.grid.specs.Grid.{stepsFit, gridCheck, Accepted}
-use Rattle.grid.proofs.Laws.{unless-passed, grid-passed, grid-accepted, accepted-known, steps-twice}
+use Rattle.grid.proofs.Laws.{grid-passed, grid-accepted, accepted-known, steps-twice}
 use Rattle.cyclic.specs.declared.seam.SeamSearch.{SeamSearch}
 use Rattle.surface.specs.Surface.{Shape, Triangle, kept, slots, triangles, flipped}
 use Rattle.surface.specs.Found.{uSearch, vSearch, surfaceWith}

@@ -13,9 +13,10 @@ use Rattle.refusal.specs.declared.Check.the-variants.{Passed, Failed}
 use Rattle.refusal.specs.declared.Refusal.{Refusal}
 use Rattle.refusal.specs.declared.Refusal.the-variants.{Steps, Room}
 use Rattle.refusal.specs.Refusals.{unless}
+use Rattle.refusal.proofs.Laws.{unless-passed}
 use Rattle.lent.specs.Lent.{filled}
 use Rattle.grid.specs.Grid.{stepsFit, gridCheck}
-use Rattle.grid.proofs.Laws.{Shaped, unless-passed, grid-passed, steps-twice}
+use Rattle.grid.proofs.Laws.{Shaped, grid-passed, steps-twice}
 use Rattle.path.specs.declared.GridPathsAnswer.the-variants.{Drawn, Refused}
 use Rattle.path.specs.GridPaths.{gridLines, coordinates, roomFits, pathsCheck, gridPaths, Leaves}
 use Rattle.path.specs.Runs.{spaced}

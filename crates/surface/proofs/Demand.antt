@@ -1,6 +1,6 @@
 -- Demand 3 for every covered joining. Seen along one of its seams the surface is a strip, in which all is said of
 -- halves of cells (Owners, Directions); what is left is to say it of triangle numbers, which are the slots' since no triangle is left out.
--- Assumes nothing.
+--
 use Prim.Native.Nat.{ℕ, _+_, _-_, _*_, _≤_, _<_}
 use mathlib.Core.Path.{_≡_, refl, sym, ap, _∙_}
 use mathlib.Core.Logic.{_⊎_, inl, inr, ⊎-elim}
@@ -10,9 +10,10 @@ use native.Mathlib.Omega.{arith}
 use lib.Arith.{digits-div, digits-mod}
 use lib.ListN.{length}
 use borrow.Author.Tests.{ne-eqb}
+use Rattle.basics.proofs.Numbers.{lt-or-le}
 use Rattle.surface.specs.Surface.{Seam, unjoined, forward, reverse, reversed, Shape, J, Triangle, slot, proper, slots, triangles, Pair, pair, ordered, triangleNumber, stepOn, process, flipped, Follows, nth, Owns, OwnedOnce, OwnedTwice, Rim, SameWay, GridEdge, along-u, along-v, number, at, Jₙ, StepsAround, NoneOfTwo, Meets, falls, rises}
 use Rattle.surface.proofs.Covered.{Covered}
-use Rattle.surface.proofs.Steps.{lt-or-le, Fits, laidOn, on-below}
+use Rattle.surface.proofs.Steps.{Fits, laidOn, on-below}
 use Rattle.surface.proofs.Strip.{Strip, ThreeAround, reversed-joined, straight}
 use Rattle.surface.proofs.CellSides.{Cell}
 use Rattle.surface.proofs.Owners.{Holds, SameTri, Other, owned}
