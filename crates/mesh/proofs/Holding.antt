@@ -11,11 +11,12 @@ use lib.Arith.{lt-of-le-ne}
 use lib.ListN.{length, getD, take, drop, set, length-set, take-append-drop, drop-of-length-le}
 use lib.Seq.{take-suc, drop-cons, append-snoc, getD-set-same, getD-set-other}
 use borrow.Author.Tests.{ltb-false, eqb-true, eqb-false, lt-ltb, le-ltb, eq-eqb}
+use Rattle.basics.specs.Lists.{putAt}
 use Rattle.basics.proofs.Tests.{and-both}
 use Rattle.basics.proofs.Numbers.{lt-or-le}
 use Rattle.surface.specs.Surface.{Triangle, tri, Pair, insert, pair}
 use Rattle.mesh.specs.Mesh.{triangleNumbers, pairNumbers}
-use Rattle.mesh.specs.Held.{firsts, triangleAt, trianglesIn, pairAt, pairsIn, putAt}
+use Rattle.mesh.specs.Held.{firsts, triangleAt, trianglesIn, pairAt, pairsIn}
 use Rattle.mesh.proofs.Firsts.{length-firsts, firsts-same, getD-firsts, firsts-put}
 
 -- One, two and three places further
