@@ -1,4 +1,4 @@
--- The open call's answer and lists: its refusals in order, what is known where none applies, and the lists that are handed over. Assumes nothing.
+-- The open call's answer and lists: its refusals in order, what is known where none applies, and the lists that are handed over.
 use Prim.Native.Nat.{ℕ, _+_, _*_, _≤_}
 use mathlib.Core.Path.{_≡_, refl, sym, ap, _∙_}
 use mathlib.Core.List.{List, []}
@@ -17,13 +17,13 @@ use Rattle.refusal.specs.Refusals.{unless}
 use Rattle.refusal.proofs.Laws.{unless-passed}
 use Rattle.lent.specs.Lent.{filled, zeroedFrom}
 use Rattle.lent.proofs.Laws.{zeroed-filled}
+use Rattle.param.specs.declared.Axis.the-variants.{AxisU, AxisV}
 use Rattle.grid.specs.Grid.{stepsFit, gridCheck, Accepted}
 use Rattle.grid.proofs.Laws.{grid-passed, grid-accepted, accepted-known, steps-twice}
 use Rattle.cyclic.specs.declared.seam.SeamSearch.{SeamSearch}
 use Rattle.surface.specs.Surface.{Shape, Triangle, kept, slots, triangles, flipped}
 use Rattle.surface.specs.Found.{uSearch, vSearch, surfaceWith}
 use Rattle.surface.proofs.Joinings.{u-of-row, v-of-row}
-use Rattle.mesh.specs.declared.flipped.Axis.the-variants.{U, «V»}
 use Rattle.mesh.specs.declared.MeshCounts.{MeshCounts}
 use Rattle.mesh.specs.declared.Triangulation.the-variants.{Triangulated, Refused}
 use Rattle.mesh.specs.Mesh.{triangleNumbers, pairNumbers, roomFits, meshCheck, triangulateGrid, Filled, Hands}
@@ -93,8 +93,8 @@ triangles-filled s count l lent e h q = list-filled (3 * count) (triangleNumbers
 
 pub pairs-most : (s : Shape) (count : ℕ) (l : List ℕ) → pairsIn count l ≡ flipped s → 2 * count ≤ 2 * (s .M + s .N)
 pairs-most s count l e =
-    let us = flips U s (s .su) [] in
-    omega (arith, held-pairs count l (e ∙ sym (flipped-is s)), seam-most «V» s (s .sv) us, seam-most U s (s .su) [])
+    let us = flips AxisU s (s .su) [] in
+    omega (arith, held-pairs count l (e ∙ sym (flipped-is s)), seam-most AxisV s (s .sv) us, seam-most AxisU s (s .su) [])
 
 pub pairs-filled : (s : Shape) (count : ℕ) (l lent : List ℕ) → pairsIn count l ≡ flipped s → 2 * count ≤ length l → length l ≡ length lent →
     zeroedFrom 0 (2 * count) l ≡ filled 0 (pairNumbers (flipped s)) lent
