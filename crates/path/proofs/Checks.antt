@@ -1,6 +1,7 @@
 -- What `gridPaths` says where its tests refuse, and where they pass.
 use Prim.Native.Nat.{ℕ, _+_, _*_, _≤_}
-use mathlib.Core.Path.{_≡_, refl, ap, _∙_}
+use mathlib.Core.Path.{_≡_, refl, sym, ap, _∙_}
+use mathlib.Core.Bool.{false}
 use mathlib.Core.List.{List, _++_, flatten}
 use lib.Ieee.{Float}
 use lib.ListN.{length}
@@ -16,17 +17,21 @@ use Rattle.refusal.specs.Refusals.{unless}
 use Rattle.refusal.proofs.Laws.{unless-passed}
 use Rattle.lent.specs.Lent.{filled}
 use Rattle.grid.specs.Grid.{stepsFit, gridCheck}
-use Rattle.grid.proofs.Laws.{Shaped, grid-passed, steps-twice}
+use Rattle.grid.proofs.Laws.{Shaped, grid-passed, steps-refused}
 use Rattle.path.specs.declared.GridPathsAnswer.the-variants.{Drawn, Refused}
 use Rattle.path.specs.GridPaths.{gridLines, coordinates, roomFits, pathsCheck, gridPaths, Leaves}
 use Rattle.path.specs.Runs.{spaced}
 use Rattle.path.proofs.Lines.{grid-starts}
 
 module _ (g : List Float) (m n : ℕ) (points : List Float) (starts : List ℕ) where
-  -- the grid's tests, with the test of room between them, are those of `pathsCheck`
-  pub checked : {room c : Check} → room ≡ unless (stepsFit m n) Steps (unless (roomFits m n points starts) Room Passed) → c ≡ gridCheck g m n room → c ≡ pathsCheck g m n points starts
+  -- 1 applies; or the grid's tests, with the test of room between them, are those of `pathsCheck`
+  pub no-steps : stepsFit m n ≡ false → Failed Steps ≡ pathsCheck g m n points starts
   unfolding pathsCheck
-  checked er ec = ec ∙ ap (gridCheck g m n) er ∙ steps-twice g m n (unless (roomFits m n points starts) Room Passed)
+  no-steps h = sym (steps-refused g m n (unless (roomFits m n points starts) Room Passed) h)
+
+  pub checked : {room c : Check} → room ≡ unless (roomFits m n points starts) Room Passed → c ≡ gridCheck g m n room → c ≡ pathsCheck g m n points starts
+  unfolding pathsCheck
+  checked er ec = ec ∙ ap (gridCheck g m n) er
 
   pub refused : {c : Check} {k : Refusal} → c ≡ pathsCheck g m n points starts → c ≡ Failed k → Leaves (gridPaths g m n points starts) (Refused k) points starts
   unfolding gridPaths
