@@ -7,7 +7,8 @@ use refusal::Refusal;
 ghost use mathlib.Core.Path.{_≡_};
 ghost use Prim.Native.Nat.{_≤_, _<_};
 ghost use lib.ListN.{length};
-ghost use Rattle.path.specs.GridPaths.{pathsCheck, gridPaths, Leaves};
+ghost use Rattle.lent.specs.Lent.{afterwards};
+ghost use Rattle.path.specs.GridPaths.{pathsCheck, gridPaths, pathLists, statedPaths};
 ghost use Rattle.path.specs.Line.{lineEnd, lineSpan, lineAt, statedLine};
 
 pub enum GridPathsAnswer {
@@ -47,8 +48,8 @@ pub fn grid_paths(
     points: &mut [f64],
     starts: &mut [usize],
 ) -> GridPathsAnswer
-    ensures { λ r. ⌜ Leaves (gridPaths (now (grid .entry)) m n (now (points .entry)) (now (starts .entry))) r
-        (now (points .exit)) (now (starts .exit)) ⌝ }
+    ensures { λ r. ⌜ afterwards (statedPaths r) (pathLists (now (points .exit)) (now (starts .exit)))
+        ≡ gridPaths (now (grid .entry)) m n (pathLists (now (points .entry)) (now (starts .entry))) ⌝ }
 {
     match check_paths(grid, m, n, points, starts) {
         Check::Failed(k) => GridPathsAnswer::Refused(k),
