@@ -1,6 +1,6 @@
 -- The open call's answer and lists: its refusals in order, what is known where none applies, and the lists that are handed over.
 use Prim.Native.Nat.{ℕ, _+_, _*_, _≤_}
-use mathlib.Core.Path.{_≡_, refl, sym, ap, _∙_}
+use mathlib.Core.Path.{_≡_, sym, ap, _∙_}
 use mathlib.Core.Bool.{false}
 use mathlib.Core.List.{List, []}
 use native.Mathlib.Omega.{arith}
@@ -16,8 +16,8 @@ use Rattle.refusal.specs.declared.Refusal.{Refusal}
 use Rattle.refusal.specs.declared.Refusal.the-variants.{Steps, Room}
 use Rattle.refusal.specs.Refusals.{unless}
 use Rattle.refusal.proofs.Laws.{unless-passed}
-use Rattle.lent.specs.Lent.{filled, zeroedFrom}
-use Rattle.lent.proofs.Laws.{zeroed-filled}
+use Rattle.lent.specs.Lent.{filled, zeroedFrom, afterwards}
+use Rattle.lent.proofs.Laws.{zeroed-filled, answered-in}
 use Rattle.param.specs.declared.Axis.the-variants.{AxisU, AxisV}
 use Rattle.grid.specs.Grid.{stepsFit, gridCheck, Accepted}
 use Rattle.grid.proofs.Laws.{grid-passed, grid-accepted, accepted-known, steps-refused}
@@ -26,8 +26,9 @@ use Rattle.surface.specs.Surface.{Shape, Triangle, kept, slots, triangles, flip
 use Rattle.surface.specs.Found.{uSearch, vSearch, surfaceWith}
 use Rattle.surface.proofs.Joinings.{u-of-row, v-of-row}
 use Rattle.mesh.specs.declared.MeshCounts.{MeshCounts}
+use Rattle.mesh.specs.declared.Triangulation.{Triangulation}
 use Rattle.mesh.specs.declared.Triangulation.the-variants.{Triangulated, Refused}
-use Rattle.mesh.specs.Mesh.{triangleNumbers, pairNumbers, roomFits, meshCheck, triangulateGrid, Filled, Hands}
+use Rattle.mesh.specs.Mesh.{triangleNumbers, pairNumbers, roomFits, meshCheck, meshLists, meshed, written, triangulateGrid, statedTriangulation}
 use Rattle.mesh.specs.Corners.{Bounded}
 use Rattle.mesh.specs.Held.{trianglesIn, pairsIn}
 use Rattle.mesh.specs.Rims.{flips}
@@ -106,14 +107,21 @@ pairs-filled s count l lent e h q = list-filled (2 * count) (pairNumbers (flippe
 
 -- What is handed over
 
-pub refused-hands : (g : List Float) (m n : ℕ) (t f : List ℕ) {c : Check} {k : Refusal} → c ≡ meshCheck g m n t f → c ≡ Failed k → Hands (triangulateGrid g m n t f) (Refused k) t f
+pub lists-written : (s : Shape) (t f : List ℕ) {t′ f′ : List ℕ} {k p : ℕ} →
+    t′ ≡ filled 0 (triangleNumbers (triangles s)) t → f′ ≡ filled 0 (pairNumbers (flipped s)) f → k ≡ length (triangles s) → p ≡ length (flipped s) →
+    afterwards (record { triangles = k; pairs = p }) (meshLists t′ f′) ≡ written s (meshLists t f)
+lists-written s t f ts ps k p = rw (ts, ps, k, p)
+
+-- the answer a, with the lists t′ and f′, where t and f were lent
+abbrev Hands : List Float → ℕ → ℕ → List ℕ → List ℕ → Triangulation → List ℕ → List ℕ → Type 0
+Hands g m n t f a t′ f′ = afterwards (statedTriangulation a) (meshLists t′ f′) ≡ triangulateGrid g m n (meshLists t f)
+
+pub refused-hands : (g : List Float) (m n : ℕ) (t f : List ℕ) {c : Check} {k : Refusal} → c ≡ meshCheck g m n t f → c ≡ Failed k → Hands g m n t f (Refused k) t f
 unfolding triangulateGrid
-refused-hands g m n t f p e = rw (← p, e) (record { answer = refl; triangles = refl; flipped = refl })
+refused-hands g m n t f p e = rw (← p, e)
 
 pub passed-hands : (g : List Float) (m n : ℕ) (t f t′ f′ : List ℕ) {c : Check} {u v : SeamSearch} {r : MeshCounts} → c ≡ meshCheck g m n t f → c ≡ Passed →
-    u ≡ uSearch g m n → v ≡ vSearch g m n → Filled (surfaceWith m n (u .seam) (v .seam)) r t t′ f f′ →
-    Hands (triangulateGrid g m n t f) (Triangulated u v (r .triangles) (r .pairs)) t′ f′
+    u ≡ uSearch g m n → v ≡ vSearch g m n → afterwards r (meshLists t′ f′) ≡ written (surfaceWith m n (u .seam) (v .seam)) (meshLists t f) →
+    Hands g m n t f (Triangulated u v (r .triangles) (r .pairs)) t′ f′
 unfolding triangulateGrid
-passed-hands g m n t f t′ f′ p e a b w =
-    let here = rw (a, b) at w in
-    rw (← p, e) (record { answer = rw (a, b, here .triangle-count, here .pair-count); triangles = here .triangle-list; flipped = here .pair-list })
+passed-hands g m n t f t′ f′ p e a b w = rw (← p, e) (answered-in (meshed (uSearch g m n) (vSearch g m n)) (rw (a, b)) (rw (a, b) at w))

@@ -6,10 +6,11 @@ use refusal::Refusal;
 ghost use mathlib.Core.Path.{_≡_};
 ghost use Prim.Native.Nat.{_+_, _*_, _≤_};
 ghost use lib.ListN.{length};
+ghost use Rattle.lent.specs.Lent.{afterwards};
 ghost use Rattle.surface.specs.Found.{uSearch, vSearch, SurfaceMeets};
 ghost use Rattle.grid.specs.Grid.{Accepted};
 ghost use Rattle.mesh.specs.Corners.{shapeOf, Bounded};
-ghost use Rattle.mesh.specs.Mesh.{meshCheck, triangulateGrid, Hands, Filled};
+ghost use Rattle.mesh.specs.Mesh.{meshCheck, meshLists, written, triangulateGrid, statedTriangulation};
 
 pub mod corner;
 pub mod flipped;
@@ -59,7 +60,8 @@ fn find_seams(grid: &[f64], m: usize, n: usize) -> Seams
 pub fn triangulate(surface: Surface, triangles: &mut [usize], flipped: &mut [usize]) -> MeshCounts
     requires { ⌜ Bounded surface ⌝ }
     requires { ⌜ (6 * (surface .m * surface .n) ≤ length (now triangles)) × (2 * (surface .m + surface .n) ≤ length (now flipped)) ⌝ }
-    ensures { λ r. ⌜ Filled (shapeOf surface) r (now (triangles .entry)) (now (triangles .exit)) (now (flipped .entry)) (now (flipped .exit)) ⌝ }
+    ensures { λ r. ⌜ afterwards r (meshLists (now (triangles .exit)) (now (flipped .exit)))
+        ≡ written (shapeOf surface) (meshLists (now (triangles .entry)) (now (flipped .entry))) ⌝ }
 {
     let mut starts = [0usize; 256];
     let count = triangles::build_triangles(surface, triangles, &mut starts);
@@ -80,7 +82,8 @@ pub fn triangulate_grid(
     triangles: &mut [usize],
     flipped: &mut [usize],
 ) -> Triangulation
-    ensures handed { λ r. ⌜ Hands (triangulateGrid (now (grid .entry)) m n (now (triangles .entry)) (now (flipped .entry))) r (now (triangles .exit)) (now (flipped .exit)) ⌝ }
+    ensures handed { λ r. ⌜ afterwards (statedTriangulation r) (meshLists (now (triangles .exit)) (now (flipped .exit)))
+        ≡ triangulateGrid (now (grid .entry)) m n (meshLists (now (triangles .entry)) (now (flipped .entry))) ⌝ }
     ensures surface { λ _. ⌜ SurfaceMeets (now (grid .entry)) m n ⌝ }
 {
     match check_mesh(grid, m, n, triangles, flipped) {
