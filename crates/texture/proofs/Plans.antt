@@ -1,4 +1,4 @@
--- `raysOf`, `samplesPerRay` and `plan` by the cases of the code, from what the calls gave. Assumes nothing.
+-- `raysOf`, `samplesPerRay` and `plan` by the cases of the code, from what the calls gave.
 use mathlib.Core.Path.{_≡_, refl, sym}
 use mathlib.Core.Bool.{Bool, true, false, _&&_}
 use Prim.Native.Nat.{ℕ, max}
