@@ -1,3 +1,4 @@
 -- Laws that belong to no one layer.
 pub mod Tests
 pub mod Lists
+pub mod Numbers

@@ -1,5 +1,4 @@
 -- Rows in their lists: each point of a row stands in its list, a list of points is a row of its own, and what the tests of two rows show.
--- Assumes nothing.
 use Prim.Native.Nat.{ℕ, _+_, _-_, _*_, _/_, _%_, _≤_, _<_}
 use native.Mathlib.Nat.{mul-le-mul-right}
 use native.Mathlib.Omega.{arith}
@@ -12,16 +11,15 @@ use lib.Ieee.{Float}
 use lib.ListN.{length}
 use borrow.Author.Tests.{lt-ltb, le-ltb, leb-true, eq-eqb, ne-eqb}
 use Rattle.basics.proofs.Tests.{and-both}
-use Rattle.vector.specs.Vectors.{allClose}
 use Rattle.grid.specs.Grid.{pointAt, coordinatesFit}
-use Rattle.grid.proofs.Laws.{unless-passed}
 use Rattle.refusal.specs.declared.Check.the-variants.{Passed, Failed}
 use Rattle.refusal.specs.declared.Refusal.{Refusal}
 use Rattle.refusal.specs.declared.Refusal.the-variants.{Length, Coordinate}
 use Rattle.refusal.specs.Refusals.{ok, refused, numberOf, unless}
+use Rattle.refusal.proofs.Laws.{unless-passed}
 use Rattle.cyclic.specs.declared.seam.Seam.the-variants.{Unjoined}
 use Rattle.cyclic.specs.declared.seam.SeamSearch.{SeamSearch}
-use Rattle.cyclic.specs.Search.{Row, Rows, Closeness, rowOf, searched, searchRows, search, rowFits, rowsCheck, newVector}
+use Rattle.cyclic.specs.Search.{Row, Rows, Closeness, closeAt, rowOf, searched, searchRows, search, rowFits, rowsCheck, newVector}
 use Rattle.cyclic.proofs.Remains.{Meets}
 
 -- Points
@@ -50,9 +48,9 @@ module _ {a b : List Float} {aStart bStart stride steps : ℕ} (rows : Rows a aS
         let most : k ≤ steps = rw meets (opposite-within steps j reverse l) in
         (omega arith, omega arith)
 
-    pub close-next : {i : ℕ} → i ≡ aStart + j → allClose (pointAt a i) (pointAt b (bStart + k)) ≡ true →
-        Meets allClose (rowOf a aStart stride) (rowOf b bStart stride) steps reverse j
-    close-next {i} e h =
+    pub close-next : (close : Closeness) {i : ℕ} → i ≡ aStart + j → close (pointAt a i) (pointAt b (bStart + k)) ≡ true →
+        Meets close (rowOf a aStart stride) (rowOf b bStart stride) steps reverse j
+    close-next close {i} e h =
         let x : aStart + j * stride ≡ i = rw next (omega arith) in
         let y : bStart + cond reverse (steps - j) j * stride ≡ bStart + k = rw (next, ← meets) (omega arith) in
         rw (x, y) h
@@ -99,10 +97,11 @@ module _ (a b : List Float) where
 
   -- The answer
 
-  pub refused-is : {k : Refusal} → rowsCheck a b ≡ Failed k → refused (numberOf k) ≡ newVector a b
+  pub refused-is : {k : Refusal} (tolerance : Float) → rowsCheck a b ≡ Failed k → refused (numberOf k) ≡ newVector a b tolerance
   unfolding newVector
-  refused-is h = rw h
+  refused-is tolerance h = rw h
 
-  pub answer-is : {s : SeamSearch} → rowsCheck a b ≡ Passed → s ≡ search allClose (pointAt a) (pointAt b) (length a / 3) (length b / 3) → ok s ≡ newVector a b
+  pub answer-is : {s : SeamSearch} (tolerance : Float) → rowsCheck a b ≡ Passed → s ≡ search (closeAt tolerance) (pointAt a) (pointAt b) (length a / 3) (length b / 3) →
+      ok s ≡ newVector a b tolerance
   unfolding newVector
-  answer-is h e = rw h (ap ok e)
+  answer-is tolerance h e = rw h (ap ok e)

@@ -1,5 +1,5 @@
 -- Seam search (01): the first offset at which row a fits row b, forward before reverse, and the comparisons made.
--- A row is its points by index, 0 to steps; `close` compares a point of one row with a point of another (or the same). Assumes nothing.
+-- A row is its points by index, 0 to steps; `close` compares a point of one row with a point of another (or the same).
 use Prim.Native.Nat.{ℕ, zero, suc, _+_, _-_, _*_, _/_, _%_, _≤_}
 use mathlib.Core.Bool.{Bool, true, false, _&&_, _||_, not, cond}
 use mathlib.Core.List.{List}
@@ -39,6 +39,10 @@ pub record Rows (a : List Float) (aStart : ℕ) (b : List Float) (bStart stride 
 
 abbrev pub Closeness : Type 0
 Closeness = Vector → Vector → Bool
+
+-- the closeness of 01 at a tolerance
+abbrev pub closeAt : Float → Closeness
+closeAt tolerance p q = allClose p q tolerance
 
 -- a search's answer: a mapping or None, and the comparisons made
 abbrev pub searched : Seam → ℕ → SeamSearch
@@ -84,9 +88,9 @@ rowFits r = eqb (length r % 3) 0 && leb (length r) 196608
 unfoldable pub rowsCheck : List Float → List Float → Check
 rowsCheck a b = unless (rowFits a && rowFits b) Length (unless (coordinatesFit a && coordinatesFit b) Coordinate Passed)
 
--- the open call, reference `CyclicMapping::new_vector`
-unfoldable pub newVector : List Float → List Float → Answer SeamSearch
-newVector a b = passing (rowsCheck a b) (ok (search allClose (pointAt a) (pointAt b) (length a / 3) (length b / 3)))
+-- the open call, reference `CyclicMapping::new_vector`, at any tolerance
+unfoldable pub newVector : List Float → List Float → Float → Answer SeamSearch
+newVector a b tolerance = passing (rowsCheck a b) (ok (search (closeAt tolerance) (pointAt a) (pointAt b) (length a / 3) (length b / 3)))
 
 -- 01's number and values of each case
 abbrev pub statedSeam : SeamAnswer → Answer SeamSearch

@@ -1,4 +1,4 @@
--- 01's starred results on seams and mappings, by computation. Assumes nothing.
+-- 01's starred results on seams and mappings, by computation.
 use mathlib.Core.Path.{_≡_, refl}
 use mathlib.Core.Bool.{Bool, true}
 use mathlib.Core.List.{List, [], _∷_}
@@ -53,16 +53,16 @@ along [] = []
 along (x ∷ xs) = x ∷ zero64 ∷ zero64 ∷ along xs
 
 -- "Rows with x = 0,1,2,3 and 3,2,1,0 (y = z = 0): Reverse(0,3)"
-pub turned : newVector (along (zero64 ∷ one64 ∷ two64 ∷ three64 ∷ [])) (along (three64 ∷ two64 ∷ one64 ∷ zero64 ∷ [])) ≡ ok (searched (Joined (Reverse 0 3)) 6)
+pub turned : newVector (along (zero64 ∷ one64 ∷ two64 ∷ three64 ∷ [])) (along (three64 ∷ two64 ∷ one64 ∷ zero64 ∷ [])) eps ≡ ok (searched (Joined (Reverse 0 3)) 6)
 unfolding computed
 turned = refl
 
 -- "x = 0,1,2,0 and 1,2,0,1: Forward(2,3), 10 comparisons"
-pub shifted : newVector (along (zero64 ∷ one64 ∷ two64 ∷ zero64 ∷ [])) (along (one64 ∷ two64 ∷ zero64 ∷ one64 ∷ [])) ≡ ok (searched (Joined (Forward 2 3)) 10)
+pub shifted : newVector (along (zero64 ∷ one64 ∷ two64 ∷ zero64 ∷ [])) (along (one64 ∷ two64 ∷ zero64 ∷ one64 ∷ [])) eps ≡ ok (searched (Joined (Forward 2 3)) 10)
 unfolding computed
 shifted = refl
 
 -- "x = 0,1,2 and 1,2,3: None, 3 comparisons"
-pub apart : newVector (along (zero64 ∷ one64 ∷ two64 ∷ [])) (along (one64 ∷ two64 ∷ three64 ∷ [])) ≡ ok (searched Unjoined 3)
+pub apart : newVector (along (zero64 ∷ one64 ∷ two64 ∷ [])) (along (one64 ∷ two64 ∷ three64 ∷ [])) eps ≡ ok (searched Unjoined 3)
 unfolding computed
 apart = refl

@@ -8,9 +8,10 @@ ghost use mathlib.Core.Bool.{true, cond};
 ghost use Prim.Native.Nat.{ℕ, _+_, _-_, _*_, _/_, _≤_, _<_};
 ghost use lib.ListN.{length};
 ghost use Rattle.grid.specs.Grid.{pointAt};
+ghost use Rattle.float.specs.Consts.{eps};
 ghost use Rattle.vector.specs.Vectors.{allClose};
 ghost use Rattle.cyclic.specs.Mapping.{image, HasIndex};
-ghost use Rattle.cyclic.specs.Search.{rowOf, Rows, searched, closed, searchRows, search, rowFits, rowsCheck, newVector, statedSeam};
+ghost use Rattle.cyclic.specs.Search.{rowOf, Rows, closeAt, searched, closed, searchRows, search, rowFits, rowsCheck, newVector, statedSeam};
 
 // A row has at most 65,536 points.
 const MAX_ROW: usize = 196608;
@@ -60,7 +61,7 @@ fn unjoined(comparisons: u64) -> SeamSearch
 // Whether point i of a is close to point k of b.
 fn points_close(a: &[f64], i: usize, b: &[f64], k: usize) -> bool
     requires { ⌜ (3 * i + 3 ≤ length (now a)) × (3 * k + 3 ≤ length (now b)) ⌝ }
-    ensures { λ r. ⌜ r ≡ allClose (pointAt (now (a .entry)) i) (pointAt (now (b .entry)) k) ⌝ }
+    ensures { λ r. ⌜ r ≡ allClose (pointAt (now (a .entry)) i) (pointAt (now (b .entry)) k) eps ⌝ }
 {
     grid::point_at(a, i).all_close(grid::point_at(b, k))
 }
@@ -68,7 +69,7 @@ fn points_close(a: &[f64], i: usize, b: &[f64], k: usize) -> bool
 // Whether two points differ by less than EPS in each coordinate, and so are close. No branch, which is what makes it fast.
 fn points_near(a: &[f64], i: usize, b: &[f64], k: usize) -> bool
     requires { ⌜ (3 * i + 3 ≤ length (now a)) × (3 * k + 3 ≤ length (now b)) ⌝ }
-    ensures { λ r. ⌜ (r ≡ true → allClose (pointAt (now (a .entry)) i) (pointAt (now (b .entry)) k) ≡ true) ⌝ }
+    ensures { λ r. ⌜ (r ≡ true → allClose (pointAt (now (a .entry)) i) (pointAt (now (b .entry)) k) eps ≡ true) ⌝ }
 {
     let d = grid::point_at(a, i).sub(grid::point_at(b, k));
     ((-EPS < d.x) & (d.x < EPS)) & ((-EPS < d.y) & (d.y < EPS)) & ((-EPS < d.z) & (d.z < EPS))
@@ -84,7 +85,7 @@ fn rows_closed(
     steps: usize,
 ) -> Tried
     requires { ⌜ Rows (now a) «a_start» (now b) «b_start» stride steps ⌝ }
-    ensures { λ r. ⌜ r ≡ closed allClose (rowOf (now (a .entry)) «a_start» stride) (rowOf (now (b .entry)) «b_start» stride) steps ⌝ }
+    ensures { λ r. ⌜ r ≡ closed (closeAt eps) (rowOf (now (a .entry)) «a_start» stride) (rowOf (now (b .entry)) «b_start» stride) steps ⌝ }
 {
     if points_close(a, a_start, a, a_start + steps * stride) {
         return Tried {
@@ -140,7 +141,7 @@ fn close_run(
     reverse: bool,
 ) -> usize
     requires { ⌜ Rows (now a) «a_start» (now b) «b_start» stride steps ⌝ }
-    ensures { λ r. ⌜ (r ≤ steps) × ((j : ℕ) → j < r → allClose (rowOf (now (a .entry)) «a_start» stride j) (rowOf (now (b .entry)) «b_start» stride (cond reverse («steps» - j) j)) ≡ true) ⌝ }
+    ensures { λ r. ⌜ (r ≤ steps) × ((j : ℕ) → j < r → allClose (rowOf (now (a .entry)) «a_start» stride j) (rowOf (now (b .entry)) «b_start» stride (cond reverse («steps» - j) j)) eps ≡ true) ⌝ }
 {
     let mut run: usize = 0;
     if stride != 1 {
@@ -169,7 +170,7 @@ pub fn search_rows(
     steps: usize,
 ) -> SeamSearch
     requires { ⌜ Rows (now a) «a_start» (now b) «b_start» stride steps ⌝ }
-    ensures { λ r. ⌜ r ≡ searchRows allClose (rowOf (now (a .entry)) «a_start» stride) (rowOf (now (b .entry)) «b_start» stride) steps ⌝ }
+    ensures { λ r. ⌜ r ≡ searchRows (closeAt eps) (rowOf (now (a .entry)) «a_start» stride) (rowOf (now (b .entry)) «b_start» stride) steps ⌝ }
 {
     let ends = rows_closed(a, a_start, b, b_start, stride, steps);
     let end = if ends.fits { steps } else { 1 };
@@ -223,7 +224,7 @@ pub fn search_rows(
 // None if there are under 2 points or the lengths differ, after 0 comparisons; else the search.
 fn search(a: &[f64], b: &[f64]) -> SeamSearch
     requires { ⌜ length (now a) ≤ 196608 ⌝ }
-    ensures { λ r. ⌜ r ≡ search allClose (pointAt (now (a .entry))) (pointAt (now (b .entry))) (length (now (a .entry)) / 3) (length (now (b .entry)) / 3) ⌝ }
+    ensures { λ r. ⌜ r ≡ search (closeAt eps) (pointAt (now (a .entry))) (pointAt (now (b .entry))) (length (now (a .entry)) / 3) (length (now (b .entry)) / 3) ⌝ }
 {
     let n = a.len() / 3;
     if n < 2 || n != b.len() / 3 {
@@ -255,7 +256,7 @@ fn check_rows(a: &[f64], b: &[f64]) -> Check
 impl CyclicMapping {
     // The seam between two rows of points, three f64 each.
     pub fn new_vector(a: &[f64], b: &[f64]) -> SeamAnswer
-        ensures { λ r. ⌜ statedSeam r ≡ newVector (now (a .entry)) (now (b .entry)) ⌝ }
+        ensures { λ r. ⌜ statedSeam r ≡ newVector (now (a .entry)) (now (b .entry)) eps ⌝ }
     {
         match check_rows(a, b) {
             Check::Failed(k) => SeamAnswer::Refused(k),

@@ -1,4 +1,4 @@
--- Differences: x - x is +0, |x - y| is |y - x|, and a difference of finite values is no NaN. Assumes nothing.
+-- Differences: x - x is +0, |x - y| is |y - x|, and a difference of finite values is no NaN.
 use mathlib.Core.Path.{_≡_, refl, sym, ap, _∙_}
 use Prim.Native.Nat.{ℕ, _+_, _-_, _*_, _<_}
 use native.Mathlib.Nat.{le-of-eq, add-comm, mul-comm, mul-pos, zero-mul}
@@ -6,12 +6,11 @@ use native.Mathlib.Omega.{arith}
 use mathlib.Core.Bool.{Bool, true, false, not, _&&_, Bool·beq, cond, true≢false}
 use lib.IntN.{ℤ, pos}
 use lib.Dec.{ltb, lit<}
-use lib.Ieee.{Float, nan, inf, fin, binary64, up, down, lt, round, sum, sub, ofBits, isNan}
+use lib.Ieee.{Float, nan, inf, fin, binary64, up, down, round, sum, sub, isNan}
 use lib.Ieee.Fits.{down-pos}
 use lib.Ieee.Scale.{round-same}
 use borrow.Author.Tests.{ltb-true, le-ltb, ltb-false}
 use Rattle.float.specs.Sign.{absolute, isFinite}
-use Rattle.float.specs.Consts.{eps}
 use Rattle.float.proofs.Rounding.{abs-round, round-not-nan}
 use Rattle.float.proofs.Larger.{abs-nan}
 
@@ -49,9 +48,6 @@ unfolding isFinite
 sub-self nan h = absurd (true≢false (sym h))
 sub-self (inf s) h = absurd (true≢false (sym h))
 sub-self (fin s m e) h = sub-level s m e m e refl
-
-pub sub-self-close : (x : Float) → isFinite x ≡ true → lt (absolute (sub binary64 x x)) eps ≡ true
-sub-self-close x h = rw (sub-self x h) (unfold lt absolute eps ofBits in refl)
 
 -- ---- |x - y| is |y - x|
 -- how far two sizes lie apart

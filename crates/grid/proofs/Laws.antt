@@ -4,7 +4,7 @@ use native.Mathlib.Nat.{mul-le-mul}
 use native.Mathlib.Omega.{arith}
 use native.Mathlib.Numerals.{add-one}
 use mathlib.Core.Path.{_≡_, refl}
-use mathlib.Core.Bool.{Bool, true, false, _&&_, true≢false}
+use mathlib.Core.Bool.{true, false, _&&_}
 use mathlib.Core.List.{List, [], _∷_}
 use lib.Arith.{digits-lt, digits-div, digits-mod}
 use lib.Dec.{leb}
@@ -17,9 +17,9 @@ use Rattle.basics.proofs.Tests.{and-both}
 use Rattle.float.proofs.Bounds.{at-most-finite}
 use Rattle.refusal.specs.declared.Check.{Check}
 use Rattle.refusal.specs.declared.Check.the-variants.{Passed, Failed}
-use Rattle.refusal.specs.declared.Refusal.{Refusal}
 use Rattle.refusal.specs.declared.Refusal.the-variants.{Steps, Length, Coordinate}
 use Rattle.refusal.specs.Refusals.{unless, andThen}
+use Rattle.refusal.proofs.Laws.{unless-passed, then-passed}
 use Rattle.grid.specs.Grid.{pointNumber, stepsFit, lengthFits, maxCoordinate, coordinatesFit, gridCheck, Accepted}
 
 -- M and N from 1 to 255, and so at most 2^16 points
@@ -34,15 +34,6 @@ pub record Stepped (m n : ℕ) : Type 0 where
 pub record Shaped (g : List Float) (m n : ℕ) : Type 0 where
   pub steps : Stepped m n
   pub size : length g ≡ 3 * ((m + 1) * (n + 1))
-
--- where tests pass one after the other, each of them passes
-pub unless-passed : (t : Bool) (k : Refusal) (after : Check) → unless t k after ≡ Passed → (t ≡ true) × (after ≡ Passed)
-unless-passed true k after h = (refl, h)
-unless-passed false k after h = absurd (true≢false (cc))
-
-pub then-passed : (c after : Check) → andThen c after ≡ Passed → (c ≡ Passed) × (after ≡ Passed)
-then-passed Passed after h = (refl, h)
-then-passed (Failed k) after h = absurd (true≢false (cc))
 
 -- M and N
 
@@ -86,15 +77,10 @@ grid-accepted g m n between h = rw (grid-passed g m n between h .own) at h
 pub accepted-known : (g : List Float) (m n : ℕ) → Accepted g m n → Shaped g m n
 accepted-known g m n h = grid-passed g m n Passed h .shaped
 
--- a call's own test may test M and N once more
-pub steps-twice : (g : List Float) (m n : ℕ) (between : Check) → gridCheck g m n (unless (stepsFit m n) Steps between) ≡ gridCheck g m n between
+-- 1 comes first, whatever the call itself tests
+pub steps-refused : (g : List Float) (m n : ℕ) (between : Check) → stepsFit m n ≡ false → gridCheck g m n between ≡ Failed Steps
 unfolding gridCheck
-steps-twice g m n between = go (stepsFit m n)
-  where
-    go : (s : Bool) → let last = unless (coordinatesFit g) Coordinate Passed in
-        unless s Steps (unless (lengthFits g m n) Length (andThen (unless s Steps between) last)) ≡ unless s Steps (unless (lengthFits g m n) Length (andThen between last))
-    go true = refl
-    go false = refl
+steps-refused g m n between h = rw h
 
 -- Coordinates
 

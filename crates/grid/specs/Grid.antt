@@ -1,4 +1,4 @@
--- The grid of 01: point numbers, points, and when a grid is refused. M is the number of u steps and N of v steps. Assumes nothing.
+-- The grid of 01: point numbers, points, and when a grid is refused. M is the number of u steps and N of v steps.
 use Prim.Native.Nat.{ℕ, _+_, _*_}
 use mathlib.Core.Path.{_≡_}
 use mathlib.Core.Bool.{Bool, true, _&&_}

@@ -1,4 +1,4 @@
--- `zeroedFrom` as a loop makes it, place by place, and what it says of a list whose front is known. Over any element. Assumes nothing.
+-- `zeroedFrom` as a loop makes it, place by place, and what it says of a list whose front is known. Over any element. And an answer in another form, beside the lists of its call.
 use mathlib.Core.Path.{_≡_, sym, _∙_}
 use mathlib.Core.List.{List, append-nil, append-assoc}
 use Prim.Native.Nat.{ℕ, suc, _+_, _-_, _≤_, _<_}
@@ -6,7 +6,7 @@ use native.Mathlib.Omega.{arith}
 use native.Mathlib.Numerals.{add-one}
 use lib.ListN.{length, take, set, length-set}
 use lib.Seq.{take-all, take-suc-set}
-use Rattle.lent.specs.Lent.{filled, zeroedFrom}
+use Rattle.lent.specs.Lent.{filled, zeroedFrom, Afterwards, afterwards, answering}
 
 -- what a loop that makes zeroes keeps: l zeroed from place i on is the lent list zeroed from place `from` on
 pub record Zeroing {A : Type 0} (z : A) (from : ℕ) (lent : List A) (i : ℕ) (l : List A) : Type 0 where
@@ -29,3 +29,7 @@ module _ {A : Type 0} (z : A) where
   -- a list that is as long as the lent one and whose first places are the contents is, zeroed after them, the lent list filled with them
   pub zeroed-filled : (contents l lent : List A) → length l ≡ length lent → take (length contents) l ≡ contents → zeroedFrom z (length contents) l ≡ filled z contents lent
   zeroed-filled contents l lent h p = rw (p, h)
+
+-- r is the answer a in the form f
+pub answered-in : {A B L : Type 0} (f : A → B) {a : A} {r : B} {l : L} {t : Afterwards A L} → r ≡ f a → afterwards a l ≡ t → afterwards r l ≡ answering f t
+answered-in f e h = rw (e, ← h)

@@ -1,11 +1,18 @@
 -- Lists that a caller lends for output: what stands in them after a call, over any element and its zero; and one way to say what a call answers and what
 -- its lists hold afterwards.
 use Prim.Native.Nat.{ℕ, _-_}
+use mathlib.Core.Bool.{_&&_}
 use mathlib.Core.List.{List, _++_}
+use lib.Dec.{leb}
 use lib.ListN.{length, take, replicate}
 use Rattle.refusal.specs.declared.Check.{Check}
 use Rattle.refusal.specs.declared.Check.the-variants.{Passed, Failed}
-use Rattle.refusal.specs.Refusals.{Answer, refused, numberOf}
+use Rattle.refusal.specs.declared.Refusal.the-variants.{Room}
+use Rattle.refusal.specs.Refusals.{Answer, refused, numberOf, unless}
+
+-- refusal 3 of two lent lists: each has at least what the call may write into it, counted in numbers
+abbrev pub roomCheck : ℕ → ℕ → ℕ → ℕ → Check
+roomCheck need have need′ have′ = unless (leb need have && leb need′ have′) Room Passed
 
 -- a lent list after a call that wrote these contents into it: zero in every place past them
 abbrev pub filled : {A : Type 0} → A → List A → List A → List A

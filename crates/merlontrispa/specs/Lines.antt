@@ -1,11 +1,11 @@
--- Grid lines, and a line as a part of the points, as C sees them. Assumes nothing.
+-- Grid lines, and a line as a part of the points, as C sees them.
 use Prim.Native.Nat.{ℕ, _-_, _*_}
 use mathlib.Core.Path.{_≡_}
 use mathlib.Core.List.{List}
 use lib.ListN.{take, drop}
 use lib.Ieee.{Float}
 use Rattle.refusal.specs.Refusals.{Answer, ok, refused}
-use Rattle.path.specs.GridPaths.{Counts, GridPaths}
+use Rattle.lent.specs.Lent.{Counts}
 use Rattle.path.specs.Line.{Ends, lineSpan, lineAt}
 use Rattle.merlontrispa.specs.declared.lines.PathsAnswer.{PathsAnswer}
 use Rattle.merlontrispa.specs.declared.lines.SpanAnswer.{SpanAnswer}
@@ -19,12 +19,6 @@ pathsAnswer (refused k) = record { refusal = k; points = 0; lines = 0 }
 abbrev pub spanAnswer : Answer Ends → SpanAnswer
 spanAnswer (ok e) = record { refusal = 0; start = e .start; end = e .end }
 spanAnswer (refused k) = record { refusal = k; start = 0; end = 0 }
-
--- the answer r and both lists after a call are those of the definition
-pub record Leaves (d : GridPaths) (r : PathsAnswer) (after : List Float) (startsAfter : List ℕ) : Type 0 where
-  pub answer : r ≡ pathsAnswer (d .answer)
-  pub points : after ≡ d .points
-  pub starts : startsAfter ≡ d .starts
 
 -- "the part of the points that it occupies", where it begins and how long it is; "a refused line is the empty part"
 abbrev pub partIn : Answer Ends → Part

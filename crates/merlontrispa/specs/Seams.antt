@@ -1,4 +1,4 @@
--- Mappings and seams as C sees them. Assumes nothing.
+-- Mappings and seams as C sees them.
 use Prim.Native.Nat.{ℕ}
 use mathlib.Core.Bool.{Bool, true, false}
 use Rattle.refusal.specs.Refusals.{Answer, answerNumber, valuesOr}

@@ -2,9 +2,10 @@
 use path::GridPathsAnswer;
 use path::LineAnswer;
 ghost use mathlib.Core.Path.{_≡_};
-ghost use Rattle.path.specs.GridPaths.{gridPaths, statedPaths};
+ghost use Rattle.lent.specs.Lent.{afterwards, answering};
+ghost use Rattle.path.specs.GridPaths.{gridPaths, pathLists, statedPaths};
 ghost use Rattle.path.specs.Line.{lineSpan, statedLine};
-ghost use Rattle.merlontrispa.specs.Lines.{pathsAnswer, spanAnswer, Leaves, Gets};
+ghost use Rattle.merlontrispa.specs.Lines.{pathsAnswer, spanAnswer, Gets};
 
 // The counts of points and lines, or the number of a refusal.
 #[repr(C)]
@@ -71,8 +72,8 @@ pub extern "C" fn mt_grid_paths(
     points: &mut [f64],
     starts: &mut [usize],
 ) -> PathsAnswer
-    ensures { λ r. ⌜ Leaves (gridPaths (now (grid .entry)) m n (now (points .entry)) (now (starts .entry))) r
-        (now (points .exit)) (now (starts .exit)) ⌝ }
+    ensures { λ r. ⌜ afterwards r (pathLists (now (points .exit)) (now (starts .exit)))
+        ≡ answering pathsAnswer (gridPaths (now (grid .entry)) m n (pathLists (now (points .entry)) (now (starts .entry)))) ⌝ }
 {
     paths_to_c(path::grid_paths(grid, m, n, points, starts))
 }

@@ -6,10 +6,11 @@ use cyclic::seam::Seam;
 use cyclic::seam::SeamSearch;
 use mesh::Triangulation;
 ghost use mathlib.Core.Path.{_≡_};
+ghost use Rattle.lent.specs.Lent.{afterwards, answering};
 ghost use Rattle.surface.specs.Found.{SurfaceMeets};
-ghost use Rattle.mesh.specs.Mesh.{statedTriangulation, triangulateGrid};
+ghost use Rattle.mesh.specs.Mesh.{meshLists, statedTriangulation, triangulateGrid};
 ghost use Rattle.merlontrispa.specs.Seams.{foundSeam};
-ghost use Rattle.merlontrispa.specs.Meshes.{meshAnswer, Hands};
+ghost use Rattle.merlontrispa.specs.Meshes.{meshAnswer};
 
 // Both seams and the counts of triangles and flipped pairs, or the number of a refusal.
 #[repr(C)]
@@ -60,8 +61,8 @@ pub extern "C" fn mt_triangulate_grid(
     triangles: &mut [usize],
     flipped: &mut [usize],
 ) -> MeshAnswer
-    ensures handed { λ r. ⌜ Hands (triangulateGrid (now (grid .entry)) m n (now (triangles .entry)) (now (flipped .entry))) r
-        (now (triangles .exit)) (now (flipped .exit)) ⌝ }
+    ensures handed { λ r. ⌜ afterwards r (meshLists (now (triangles .exit)) (now (flipped .exit)))
+        ≡ answering meshAnswer (triangulateGrid (now (grid .entry)) m n (meshLists (now (triangles .entry)) (now (flipped .entry)))) ⌝ }
     ensures surface { λ _. ⌜ SurfaceMeets (now (grid .entry)) m n ⌝ }
 {
     mesh_to_c(mesh::triangulate_grid(grid, m, n, triangles, flipped))

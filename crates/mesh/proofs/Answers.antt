@@ -1,6 +1,7 @@
--- The open call's answer and lists: its refusals in order, what is known where none applies, and the lists that are handed over. Assumes nothing.
+-- The open call's answer and lists: its refusals in order, what is known where none applies, and the lists that are handed over.
 use Prim.Native.Nat.{ℕ, _+_, _*_, _≤_}
-use mathlib.Core.Path.{_≡_, refl, sym, ap, _∙_}
+use mathlib.Core.Path.{_≡_, sym, ap, _∙_}
+use mathlib.Core.Bool.{false}
 use mathlib.Core.List.{List, []}
 use native.Mathlib.Omega.{arith}
 use lib.Dec.{leb}
@@ -14,18 +15,20 @@ use Rattle.refusal.specs.declared.Check.the-variants.{Passed, Failed}
 use Rattle.refusal.specs.declared.Refusal.{Refusal}
 use Rattle.refusal.specs.declared.Refusal.the-variants.{Steps, Room}
 use Rattle.refusal.specs.Refusals.{unless}
-use Rattle.lent.specs.Lent.{filled, zeroedFrom}
-use Rattle.lent.proofs.Laws.{zeroed-filled}
+use Rattle.refusal.proofs.Laws.{unless-passed}
+use Rattle.lent.specs.Lent.{filled, zeroedFrom, afterwards}
+use Rattle.lent.proofs.Laws.{zeroed-filled, answered-in}
+use Rattle.param.specs.declared.Axis.the-variants.{AxisU, AxisV}
 use Rattle.grid.specs.Grid.{stepsFit, gridCheck, Accepted}
-use Rattle.grid.proofs.Laws.{unless-passed, grid-passed, grid-accepted, accepted-known, steps-twice}
+use Rattle.grid.proofs.Laws.{grid-passed, grid-accepted, accepted-known, steps-refused}
 use Rattle.cyclic.specs.declared.seam.SeamSearch.{SeamSearch}
 use Rattle.surface.specs.Surface.{Shape, Triangle, kept, slots, triangles, flipped}
 use Rattle.surface.specs.Found.{uSearch, vSearch, surfaceWith}
 use Rattle.surface.proofs.Joinings.{u-of-row, v-of-row}
-use Rattle.mesh.specs.declared.flipped.Axis.the-variants.{U, «V»}
 use Rattle.mesh.specs.declared.MeshCounts.{MeshCounts}
+use Rattle.mesh.specs.declared.Triangulation.{Triangulation}
 use Rattle.mesh.specs.declared.Triangulation.the-variants.{Triangulated, Refused}
-use Rattle.mesh.specs.Mesh.{triangleNumbers, pairNumbers, roomFits, meshCheck, triangulateGrid, Filled, Hands}
+use Rattle.mesh.specs.Mesh.{triangleNumbers, pairNumbers, roomFits, meshCheck, meshLists, meshed, written, triangulateGrid, statedTriangulation}
 use Rattle.mesh.specs.Corners.{Bounded}
 use Rattle.mesh.specs.Held.{trianglesIn, pairsIn}
 use Rattle.mesh.specs.Rims.{flips}
@@ -35,11 +38,14 @@ use Rattle.mesh.proofs.Flips.{seam-most, held-pairs, flipped-is}
 
 -- Refusals
 
--- the grid's tests, with the test of room between them, are those of `meshCheck`
-pub mesh-checked : (g : List Float) (m n : ℕ) (t f : List ℕ) {room c : Check} → room ≡ unless (stepsFit m n) Steps (unless (roomFits m n t f) Room Passed) →
-    c ≡ gridCheck g m n room → c ≡ meshCheck g m n t f
+-- 1 applies; or the grid's tests, with the test of room between them, are those of `meshCheck`
+pub no-steps : (g : List Float) (m n : ℕ) (t f : List ℕ) → stepsFit m n ≡ false → Failed Steps ≡ meshCheck g m n t f
 unfolding meshCheck
-mesh-checked g m n t f er ec = ec ∙ ap (gridCheck g m n) er ∙ steps-twice g m n (unless (roomFits m n t f) Room Passed)
+no-steps g m n t f h = sym (steps-refused g m n (unless (roomFits m n t f) Room Passed) h)
+
+pub mesh-checked : (g : List Float) (m n : ℕ) (t f : List ℕ) {room c : Check} → room ≡ unless (roomFits m n t f) Room Passed → c ≡ gridCheck g m n room → c ≡ meshCheck g m n t f
+unfolding meshCheck
+mesh-checked g m n t f er ec = ec ∙ ap (gridCheck g m n) er
 
 -- what is known where no refusal applies
 pub record Admitted (g : List Float) (m n : ℕ) (t f : List ℕ) : Type 0 where
@@ -92,8 +98,8 @@ triangles-filled s count l lent e h q = list-filled (3 * count) (triangleNumbers
 
 pub pairs-most : (s : Shape) (count : ℕ) (l : List ℕ) → pairsIn count l ≡ flipped s → 2 * count ≤ 2 * (s .M + s .N)
 pairs-most s count l e =
-    let us = flips U s (s .su) [] in
-    omega (arith, held-pairs count l (e ∙ sym (flipped-is s)), seam-most «V» s (s .sv) us, seam-most U s (s .su) [])
+    let us = flips AxisU s (s .su) [] in
+    omega (arith, held-pairs count l (e ∙ sym (flipped-is s)), seam-most AxisV s (s .sv) us, seam-most AxisU s (s .su) [])
 
 pub pairs-filled : (s : Shape) (count : ℕ) (l lent : List ℕ) → pairsIn count l ≡ flipped s → 2 * count ≤ length l → length l ≡ length lent →
     zeroedFrom 0 (2 * count) l ≡ filled 0 (pairNumbers (flipped s)) lent
@@ -101,14 +107,21 @@ pairs-filled s count l lent e h q = list-filled (2 * count) (pairNumbers (flippe
 
 -- What is handed over
 
-pub refused-hands : (g : List Float) (m n : ℕ) (t f : List ℕ) {c : Check} {k : Refusal} → c ≡ meshCheck g m n t f → c ≡ Failed k → Hands (triangulateGrid g m n t f) (Refused k) t f
+pub lists-written : (s : Shape) (t f : List ℕ) {t′ f′ : List ℕ} {k p : ℕ} →
+    t′ ≡ filled 0 (triangleNumbers (triangles s)) t → f′ ≡ filled 0 (pairNumbers (flipped s)) f → k ≡ length (triangles s) → p ≡ length (flipped s) →
+    afterwards (record { triangles = k; pairs = p }) (meshLists t′ f′) ≡ written s (meshLists t f)
+lists-written s t f ts ps k p = rw (ts, ps, k, p)
+
+-- the answer a, with the lists t′ and f′, where t and f were lent
+abbrev Hands : List Float → ℕ → ℕ → List ℕ → List ℕ → Triangulation → List ℕ → List ℕ → Type 0
+Hands g m n t f a t′ f′ = afterwards (statedTriangulation a) (meshLists t′ f′) ≡ triangulateGrid g m n (meshLists t f)
+
+pub refused-hands : (g : List Float) (m n : ℕ) (t f : List ℕ) {c : Check} {k : Refusal} → c ≡ meshCheck g m n t f → c ≡ Failed k → Hands g m n t f (Refused k) t f
 unfolding triangulateGrid
-refused-hands g m n t f p e = rw (← p, e) (record { answer = refl; triangles = refl; flipped = refl })
+refused-hands g m n t f p e = rw (← p, e)
 
 pub passed-hands : (g : List Float) (m n : ℕ) (t f t′ f′ : List ℕ) {c : Check} {u v : SeamSearch} {r : MeshCounts} → c ≡ meshCheck g m n t f → c ≡ Passed →
-    u ≡ uSearch g m n → v ≡ vSearch g m n → Filled (surfaceWith m n (u .seam) (v .seam)) r t t′ f f′ →
-    Hands (triangulateGrid g m n t f) (Triangulated u v (r .triangles) (r .pairs)) t′ f′
+    u ≡ uSearch g m n → v ≡ vSearch g m n → afterwards r (meshLists t′ f′) ≡ written (surfaceWith m n (u .seam) (v .seam)) (meshLists t f) →
+    Hands g m n t f (Triangulated u v (r .triangles) (r .pairs)) t′ f′
 unfolding triangulateGrid
-passed-hands g m n t f t′ f′ p e a b w =
-    let here = rw (a, b) at w in
-    rw (← p, e) (record { answer = rw (a, b, here .triangle-count, here .pair-count); triangles = here .triangle-list; flipped = here .pair-list })
+passed-hands g m n t f t′ f′ p e a b w = rw (← p, e) (answered-in (meshed (uSearch g m n) (vSearch g m n)) (rw (a, b)) (rw (a, b) at w))

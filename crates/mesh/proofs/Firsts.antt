@@ -1,4 +1,4 @@
--- The first values of a function as a list: its length, its values, and what it is after a value is put in; and as a list that they are written into one by one. Assumes nothing.
+-- The first values of a function as a list: its length, its values, and what it is after a value is put in; and as a list that they are written into one by one.
 use Prim.Native.Nat.{ℕ, zero, suc, _+_, _≤_, _<_}
 use mathlib.Core.Path.{_≡_, refl, sym, ap, _∙_}
 use mathlib.Core.Logic.{⊎-elim}
@@ -6,7 +6,7 @@ use mathlib.Core.List.{List, [], _∷_, _++_, append-assoc}
 use native.Mathlib.Omega.{arith}
 use lib.ListN.{length, getD, take, drop, set, length-append, drop-of-length-le, List·getD-append}
 use lib.Seq.{take-all, take-append-le, drop-append-le, getD-at, getD-set-same, getD-set-other}
-use Rattle.surface.proofs.Steps.{lt-or-le}
+use Rattle.basics.proofs.Numbers.{lt-or-le}
 use Rattle.mesh.specs.Held.{firsts}
 
 module _ {A : Type 0} where

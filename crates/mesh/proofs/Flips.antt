@@ -1,4 +1,4 @@
--- What a step of a reversed seam puts down, from what the code finds there, and how many pairs there can be. Assumes nothing.
+-- What a step of a reversed seam puts down, from what the code finds there, and how many pairs there can be.
 use Prim.Native.Nat.{ℕ, zero, suc, _+_, _-_, _*_, _≤_, _<_, min, max}
 use mathlib.Core.Path.{_≡_, refl, sym, ap, _∙_}
 use mathlib.Core.Bool.{Bool, true, _&&_, cond}
@@ -9,6 +9,8 @@ use lib.Dec.{ltb}
 use lib.ListN.{length, getD}
 use borrow.Author.Tests.{lt-ltb, le-ltb}
 use Rattle.basics.proofs.Tests.{cond-keeps}
+use Rattle.param.specs.declared.Axis.{Axis}
+use Rattle.param.specs.declared.Axis.the-variants.{AxisU, AxisV}
 use Rattle.cyclic.specs.declared.mapping.CyclicMapping.{CyclicMapping}
 use Rattle.cyclic.specs.declared.mapping.CyclicMapping.the-variants.{Forward, Reverse}
 use Rattle.cyclic.specs.declared.seam.Seam.{Seam as Found}
@@ -17,8 +19,6 @@ use Rattle.cyclic.specs.Mapping as cyclic
 use Rattle.surface.specs.Surface.{Seam, Shape, Pair, ordered, insert, proper, slot, triangleNumber, stepOn, reversed, process, flipped, pair}
 use Rattle.surface.specs.Found.{ofMapping, seamOf}
 use Rattle.mesh.specs.declared.corner.Surface.{Surface}
-use Rattle.mesh.specs.declared.flipped.Axis.{Axis}
-use Rattle.mesh.specs.declared.flipped.Axis.the-variants.{U, «V»}
 use Rattle.mesh.specs.Corners.{shapeOf, Bounded}
 use Rattle.mesh.specs.Held.{pairAt, pairsIn}
 use Rattle.mesh.specs.Rims.{stepsOf, lowOf, highOf, Starts, Rims, flipStep, flipSteps, flips}
@@ -27,8 +27,8 @@ use Rattle.mesh.proofs.Numbers.{number-step, low-u, low-v, high-u, high
 
 -- a rim has at most 255 steps
 pub steps-most : (axis : Axis) (surface : Surface) → Bounded surface → stepsOf axis (shapeOf surface) ≤ 255
-steps-most U surface b = b .n-most
-steps-most «V» surface b = b .m-most
+steps-most AxisU surface b = b .n-most
+steps-most AxisV surface b = b .m-most
 
 -- the number of a triangle from the count after it
 pub number-before : (s : Shape) (k x : ℕ) → x ≡ triangleNumber s (k + 1) → proper (slot s k) ≡ true → x ≡ triangleNumber s k + 1
@@ -115,7 +115,7 @@ seam-told {m = m} e i h = rw (e, ← reverse-is m, ← i, h)
 pub rims-u : (surface : Surface) (low high : List ℕ) → surface .n < length low → surface .n < length high →
     ((i : ℕ) → i ≤ surface .n → getD low i 0 ≡ triangleNumber (shapeOf surface) (2 * (0 * surface .n + i))) →
     ((i : ℕ) → i ≤ surface .n → getD high i 0 ≡ triangleNumber (shapeOf surface) (2 * ((surface .m - 1) * surface .n + i))) →
-    Rims U (shapeOf surface) low high
+    Rims AxisU (shapeOf surface) low high
 rims-u surface low high p q l h =
     record {
       low-room = p;
@@ -125,7 +125,7 @@ rims-u surface low high p q l h =
     }
 
 -- along v, the counts before each u: its first cell is on the low rim, its last on the high one
-pub rims-v : (surface : Surface) → Bounded surface → (starts : List ℕ) → Starts surface starts → Rims «V» (shapeOf surface) starts starts
+pub rims-v : (surface : Surface) → Bounded surface → (starts : List ℕ) → Starts surface starts → Rims AxisV (shapeOf surface) starts starts
 rims-v surface b starts t =
     record {
       low-room = t .room;
@@ -134,6 +134,6 @@ rims-v surface b starts t =
       after = λ i k. t .at (i + 1) (omega arith) ∙ ap (triangleNumber (shapeOf surface)) (omega (arith, high-v surface i));
     }
 
-pub flipped-is : (s : Shape) → flips «V» s (s .sv) (flips U s (s .su) []) ≡ flipped s
+pub flipped-is : (s : Shape) → flips AxisV s (s .sv) (flips AxisU s (s .su) []) ≡ flipped s
 unfolding flipped
 flipped-is s = refl

@@ -1,4 +1,4 @@
--- What a list of numbers holds, as numbers; a triangle added, a pair put in, and where a pair belongs. Assumes nothing.
+-- What a list of numbers holds, as numbers; a triangle added, a pair put in, and where a pair belongs.
 use Prim.Native.Nat.{ℕ, zero, suc, _+_, _*_, _≤_, _<_}
 use mathlib.Core.Path.{_≡_, refl, sym, _∙_}
 use mathlib.Core.Logic.{_⊎_, inl, inr, ⊎-elim}
@@ -11,11 +11,12 @@ use lib.Arith.{lt-of-le-ne}
 use lib.ListN.{length, getD, take, drop, set, length-set, take-append-drop, drop-of-length-le}
 use lib.Seq.{take-suc, drop-cons, append-snoc, getD-set-same, getD-set-other}
 use borrow.Author.Tests.{ltb-false, eqb-true, eqb-false, lt-ltb, le-ltb, eq-eqb}
+use Rattle.basics.specs.Lists.{putAt}
 use Rattle.basics.proofs.Tests.{and-both}
-use Rattle.surface.proofs.Steps.{lt-or-le}
+use Rattle.basics.proofs.Numbers.{lt-or-le}
 use Rattle.surface.specs.Surface.{Triangle, tri, Pair, insert, pair}
 use Rattle.mesh.specs.Mesh.{triangleNumbers, pairNumbers}
-use Rattle.mesh.specs.Held.{firsts, triangleAt, trianglesIn, pairAt, pairsIn, putAt}
+use Rattle.mesh.specs.Held.{firsts, triangleAt, trianglesIn, pairAt, pairsIn}
 use Rattle.mesh.proofs.Firsts.{length-firsts, firsts-same, getD-firsts, firsts-put}
 
 -- One, two and three places further

@@ -1,8 +1,9 @@
--- What a list of numbers holds: triangles, three numbers each, and pairs, two numbers each. Assumes nothing.
+-- What a list of numbers holds: triangles, three numbers each, and pairs, two numbers each.
 use Prim.Native.Nat.{ℕ, zero, suc, _+_, _*_, _≤_}
 use mathlib.Core.Path.{_≡_}
 use mathlib.Core.List.{List, [], _∷_, _++_}
-use lib.ListN.{length, getD, take, drop}
+use lib.ListN.{length, getD}
+use Rattle.basics.specs.Lists.{putAt}
 use Rattle.surface.specs.Surface.{Triangle, tri, Pair, pair, insert}
 use Rattle.mesh.specs.declared.pairs.Spot.{Spot}
 use Rattle.mesh.specs.declared.pairs.Spot.the-variants.{Before, There}
@@ -25,10 +26,6 @@ pairAt l i = pair (getD l (2 * i) 0) (getD l (2 * i + 1) 0)
 -- the first k pairs
 abbrev pub pairsIn : ℕ → List ℕ → List Pair
 pairsIn k l = firsts (pairAt l) k
-
--- p put before the pair at index i
-abbrev pub putAt : ℕ → Pair → List Pair → List Pair
-putAt i p ps = take i ps ++ (p ∷ drop i ps)
 
 -- the spot is where p is to be put
 abbrev pub Spotted : Spot → Pair → List Pair → Type 0

@@ -1,15 +1,15 @@
--- The rims of a seam and their triangles, for either seam (01, "Flipped pairs follow `process_flipped` for reversed seams"). Assumes nothing.
+-- The rims of a seam and their triangles, for either seam (01, "Flipped pairs follow `process_flipped` for reversed seams").
 use Prim.Native.Nat.{ℕ, _+_, _*_, _≤_, _<_}
 use mathlib.Core.Path.{_≡_}
 use mathlib.Core.Bool.{Bool, true, false, cond}
 use mathlib.Core.List.{List}
 use lib.Dec.{ltb}
 use lib.ListN.{length, getD}
+use Rattle.param.specs.declared.Axis.{Axis}
+use Rattle.param.specs.declared.Axis.the-variants.{AxisU, AxisV}
 use Rattle.surface.specs.Surface.{Seam, reversed, Shape, triangleNumber, stepOn, lowU, highU, lowV, highV, Pair, putDown, process}
 use Rattle.mesh.specs.declared.corner.Surface.{Surface}
 use Rattle.mesh.specs.Corners.{shapeOf}
-use Rattle.mesh.specs.declared.flipped.Axis.{Axis}
-use Rattle.mesh.specs.declared.flipped.Axis.the-variants.{U, «V»}
 
 -- one more, where it is so
 abbrev pub oneMore : ℕ → Bool → ℕ
@@ -18,17 +18,17 @@ oneMore k false = k
 
 -- the steps along a seam's rims
 abbrev pub stepsOf : Axis → Shape → ℕ
-stepsOf U s = s .N
-stepsOf «V» s = s .M
+stepsOf AxisU s = s .N
+stepsOf AxisV s = s .M
 
 -- the slot at step i of the low rim, and of the high rim
 abbrev pub lowOf : Axis → Shape → ℕ → ℕ
-lowOf U s i = lowU s i
-lowOf «V» s i = lowV s i
+lowOf AxisU s i = lowU s i
+lowOf AxisV s i = lowV s i
 
 abbrev pub highOf : Axis → Shape → ℕ → ℕ
-highOf U s i = highU s i
-highOf «V» s i = highV s i
+highOf AxisU s i = highU s i
+highOf AxisV s i = highV s i
 
 -- the number of triangles before each u, and of all
 pub record Starts (surface : Surface) (starts : List ℕ) : Type 0 where

@@ -1,10 +1,13 @@
-// Flipped pairs: the triangles on both sides of a reversed seam (`process_flipped`).
+// Flipped pairs: the triangles on both sides of a reversed seam (`process_flipped`). An axis stands for a seam: AxisU for
+// the one that joins u = 0 and u = M, AxisV for the one that joins v = 0 and v = N. Its low rim is the first of the two,
+// its high rim the other.
 use crate::corner::Surface;
 use crate::corner::cell_corners;
 use crate::pairs::insert_pair;
 use crate::triangles::differ;
 use cyclic::mapping::CyclicMapping;
 use cyclic::seam::Seam;
+use param::Axis;
 ghost use mathlib.Core.Path.{_≡_};
 ghost use Prim.Native.Nat.{ℕ, _+_, _*_, _≤_, _<_};
 ghost use lib.ListN.{length, getD};
@@ -14,13 +17,6 @@ ghost use Rattle.surface.specs.Found.{ofMapping, seamOf, Maps};
 ghost use Rattle.mesh.specs.Corners.{shapeOf, Bounded};
 ghost use Rattle.mesh.specs.Held.{pairsIn};
 ghost use Rattle.mesh.specs.Rims.{stepsOf, lowOf, highOf, Rims, Starts, oneMore, flipStep, flipSteps, flips};
-
-// Which seam: the one that joins u = 0 and u = M, or the one that joins v = 0 and v = N. Its low rim is the first of
-// the two, its high rim the other.
-pub enum Axis {
-    U,
-    V,
-}
 
 // Whether the numbers of the first triangle of cell (u, v) differ.
 fn first_differs(surface: Surface, u: usize, v: usize) -> bool
@@ -81,8 +77,8 @@ fn low_differs(surface: Surface, axis: Axis, i: usize) -> bool
     ensures { λ r. ⌜ r ≡ proper (slot (shapeOf surface) (lowOf axis (shapeOf surface) i)) ⌝ }
 {
     match axis {
-        Axis::U => first_differs(surface, 0, i),
-        Axis::V => first_differs(surface, i, 0),
+        Axis::AxisU => first_differs(surface, 0, i),
+        Axis::AxisV => first_differs(surface, i, 0),
     }
 }
 
@@ -92,8 +88,8 @@ fn high_differs(surface: Surface, axis: Axis, i: usize) -> bool
     ensures { λ r. ⌜ r ≡ proper (slot (shapeOf surface) (highOf axis (shapeOf surface) i)) ⌝ }
 {
     match axis {
-        Axis::U => second_differs(surface, surface.m - 1, i),
-        Axis::V => second_differs(surface, i, surface.n - 1),
+        Axis::AxisU => second_differs(surface, surface.m - 1, i),
+        Axis::AxisV => second_differs(surface, i, surface.n - 1),
     }
 }
 
@@ -130,8 +126,8 @@ fn rim_steps(surface: Surface, axis: Axis) -> usize
     ensures { λ r. ⌜ r ≡ stepsOf axis (shapeOf surface) ⌝ }
 {
     match axis {
-        Axis::U => surface.n,
-        Axis::V => surface.m,
+        Axis::AxisU => surface.n,
+        Axis::AxisV => surface.m,
     }
 }
 
@@ -220,7 +216,7 @@ fn flip_seam(
 fn count_rims(surface: Surface, starts: &[usize], low: &mut [usize], high: &mut [usize])
     requires { ⌜ Bounded surface × (surface .n < length (now low)) × (surface .n < length (now high)) ⌝ }
     requires { ⌜ Starts surface (now starts) ⌝ }
-    ensures { λ _. ⌜ Rims Axis.U (shapeOf surface) (now (low .exit)) (now (high .exit)) ⌝ }
+    ensures { λ _. ⌜ Rims Axis.AxisU (shapeOf surface) (now (low .exit)) (now (high .exit)) ⌝ }
 {
     let last = surface.m - 1;
     count_row(surface, 0, starts[0], low);
@@ -235,14 +231,14 @@ fn flip_seams(
     starts: &[usize],
     flipped: &mut [usize],
 ) -> usize
-    requires { ⌜ Bounded surface × Rims Axis.U (shapeOf surface) (now low) (now high) × Starts surface (now starts) ⌝ }
+    requires { ⌜ Bounded surface × Rims Axis.AxisU (shapeOf surface) (now low) (now high) × Starts surface (now starts) ⌝ }
     requires { ⌜ 2 * (surface .m + surface .n) ≤ length (now flipped) ⌝ }
     ensures { λ r. ⌜ pairsIn r (now (flipped .exit)) ≡ allFlipped (shapeOf surface) ⌝ }
 {
     let u_seam = surface.u;
     let v_seam = surface.v;
-    let count = flip_seam(surface, Axis::U, u_seam, low, high, flipped, 0);
-    flip_seam(surface, Axis::V, v_seam, starts, starts, flipped, count)
+    let count = flip_seam(surface, Axis::AxisU, u_seam, low, high, flipped, 0);
+    flip_seam(surface, Axis::AxisV, v_seam, starts, starts, flipped, count)
 }
 
 // All flipped pairs. `starts` has the number of triangles before each u, and of all.

@@ -6,13 +6,11 @@ use refusal::Refusal;
 ghost use mathlib.Core.Path.{_≡_};
 ghost use Prim.Native.Nat.{_+_, _*_, _≤_};
 ghost use lib.ListN.{length};
+ghost use Rattle.lent.specs.Lent.{afterwards};
 ghost use Rattle.surface.specs.Found.{uSearch, vSearch, SurfaceMeets};
-ghost use Rattle.grid.specs.Grid.{stepsFit, Accepted};
-ghost use Rattle.refusal.specs.declared.Check.the-variants.{Passed};
-ghost use Rattle.refusal.specs.declared.Refusal.the-variants.{Steps, Room};
-ghost use Rattle.refusal.specs.Refusals.{unless};
+ghost use Rattle.grid.specs.Grid.{Accepted};
 ghost use Rattle.mesh.specs.Corners.{shapeOf, Bounded};
-ghost use Rattle.mesh.specs.Mesh.{roomFits, meshCheck, triangulateGrid, Hands, Filled};
+ghost use Rattle.mesh.specs.Mesh.{meshCheck, meshLists, written, triangulateGrid, statedTriangulation};
 
 pub mod corner;
 pub mod flipped;
@@ -37,25 +35,15 @@ pub struct MeshCounts {
     pub pairs: usize,
 }
 
-// Refusals 1 and 3. It runs before the grid's own tests, so it multiplies only an M and N that pass 1.
-fn check_room(m: usize, n: usize, triangles: &[usize], flipped: &[usize]) -> Check
-    ensures { λ r. ⌜ r ≡ unless (stepsFit m n) Steps (unless (roomFits m n (now (triangles .entry)) (now (flipped .entry))) Room Passed) ⌝ }
+// Refusals 1, 2, 3 and 4. The room is that of an M and N that pass 1.
+fn check_mesh(grid: &[f64], m: usize, n: usize, triangles: &[usize], flipped: &[usize]) -> Check
+    ensures { λ r. ⌜ r ≡ meshCheck (now (grid .entry)) m n (now (triangles .entry)) (now (flipped .entry)) ⌝ }
 {
     if !grid::steps_fit(m, n) {
         return Check::Failed(Refusal::Steps);
     }
-    let fits = (6 * (m * n) <= triangles.len()) & (2 * (m + n) <= flipped.len());
-    if !fits {
-        return Check::Failed(Refusal::Room);
-    }
-    Check::Passed
-}
-
-// Refusals 1, 2, 3 and 4.
-fn check_mesh(grid: &[f64], m: usize, n: usize, triangles: &[usize], flipped: &[usize]) -> Check
-    ensures { λ r. ⌜ r ≡ meshCheck (now (grid .entry)) m n (now (triangles .entry)) (now (flipped .entry)) ⌝ }
-{
-    grid::check_grid(grid, m, n, check_room(m, n, triangles, flipped))
+    let room = lent::check_room(6 * (m * n), triangles.len(), 2 * (m + n), flipped.len());
+    grid::check_grid(grid, m, n, room)
 }
 
 // The u seam compares column u = 0 with u = M, the v seam row v = 0 with v = N.
@@ -72,7 +60,8 @@ fn find_seams(grid: &[f64], m: usize, n: usize) -> Seams
 pub fn triangulate(surface: Surface, triangles: &mut [usize], flipped: &mut [usize]) -> MeshCounts
     requires { ⌜ Bounded surface ⌝ }
     requires { ⌜ (6 * (surface .m * surface .n) ≤ length (now triangles)) × (2 * (surface .m + surface .n) ≤ length (now flipped)) ⌝ }
-    ensures { λ r. ⌜ Filled (shapeOf surface) r (now (triangles .entry)) (now (triangles .exit)) (now (flipped .entry)) (now (flipped .exit)) ⌝ }
+    ensures { λ r. ⌜ afterwards r (meshLists (now (triangles .exit)) (now (flipped .exit)))
+        ≡ written (shapeOf surface) (meshLists (now (triangles .entry)) (now (flipped .entry))) ⌝ }
 {
     let mut starts = [0usize; 256];
     let count = triangles::build_triangles(surface, triangles, &mut starts);
@@ -93,7 +82,8 @@ pub fn triangulate_grid(
     triangles: &mut [usize],
     flipped: &mut [usize],
 ) -> Triangulation
-    ensures handed { λ r. ⌜ Hands (triangulateGrid (now (grid .entry)) m n (now (triangles .entry)) (now (flipped .entry))) r (now (triangles .exit)) (now (flipped .exit)) ⌝ }
+    ensures handed { λ r. ⌜ afterwards (statedTriangulation r) (meshLists (now (triangles .exit)) (now (flipped .exit)))
+        ≡ triangulateGrid (now (grid .entry)) m n (meshLists (now (triangles .entry)) (now (flipped .entry))) ⌝ }
     ensures surface { λ _. ⌜ SurfaceMeets (now (grid .entry)) m n ⌝ }
 {
     match check_mesh(grid, m, n, triangles, flipped) {

@@ -2,8 +2,9 @@
 ghost use mathlib.Core.Path.{_≡_};
 ghost use Prim.Native.Nat.{ℕ, _+_, _*_, _≤_, _<_};
 ghost use lib.ListN.{length, getD};
+ghost use Rattle.basics.specs.Lists.{putAt};
 ghost use Rattle.surface.specs.Surface.{insert, pair};
-ghost use Rattle.mesh.specs.Held.{pairsIn, putAt, Spotted};
+ghost use Rattle.mesh.specs.Held.{pairsIn, Spotted};
 
 // Where a pair belongs: before the pair at an index, or it is there already.
 pub enum Spot {

@@ -6,7 +6,9 @@ use mathlib.Core.Bool.{Bool, true, false, cond}
 use mathlib.Core.List.{List}
 use lib.Dec.{ltb, leb}
 use lib.ListN.{length, length-set}
+use lib.Ieee.{Float}
 use borrow.Author.Tests.{ltb-true}
+use Rattle.float.specs.Consts.{eps}
 use Rattle.refusal.specs.declared.Refusal.the-variants.{Full}
 use Rattle.lent.specs.Lent.{afterwards}
 use Rattle.lent.proofs.After.{same-answer, same-lists}
@@ -14,8 +16,8 @@ use Rattle.crossing.specs.declared.Crossing.{Crossing}
 use Rattle.page.specs.declared.Pen.{Pen}
 use Rattle.page.specs.declared.Penned.{Penned}
 use Rattle.page.specs.declared.Penned.the-variants.{Down}
-use Rattle.page.specs.Moves.{Move, Outcome, on, off, run}
-use Rattle.page.specs.Page.{Lists, pointRoom, Page, hasRoom, closeToPending, written, pushPage, kept, dropped, flushPage, pageAfter, PenFits}
+use Rattle.page.specs.Moves.{Move, Outcome, on, off}
+use Rattle.page.specs.Page.{Lists, pointRoom, Page, hasRoom, closeToPending, written, pushPage, kept, dropped, flushPage, onPage, pageAfter, PenFits}
 use Rattle.page.proofs.Moves.{Any, any-pushed, run-keeps}
 
 -- `PenFits` of a page, and of the page of an outcome that goes on
@@ -36,9 +38,9 @@ fits-down x {r} {l} {pen} u e h = go x u h
         rw (← p, same-lists u) h
     go (off k g) u h = let z : _≡_ {A = ℕ} 0 1 = cc (same-answer u) in absurd (omega arith)
 
-pub push-fits : (c : Crossing) (g : Page) → Fitting g → Fits (pushPage c g)
+pub push-fits : (tolerance : Float) (c : Crossing) (g : Page) → Fitting g → Fits (pushPage tolerance c g)
 unfolding pushPage written
-push-fits c g h = go (closeToPending c g) (hasRoom g) refl
+push-fits tolerance c g h = go (closeToPending tolerance c g) (hasRoom g) refl
   where
     go : (a b : Bool) → hasRoom g ≡ b → Fits (cond a (on g) (cond b (on (written c g)) (off Full g)))
     go true b e = h
@@ -55,5 +57,5 @@ flush-fits g h = go (leb (g .pen .start + 2) (g .pen .count)) (ltb (g .pen .line
     go false b = (omega arith, omega arith)
 
 -- whatever the moves
-pub moves-fit : (ms : List (Move Crossing)) (g : Page) → Fitting g → Fits (run pushPage flushPage ms g)
-moves-fit ms g h = run-keeps Any Fits pushPage flushPage (λ k g h. tt) (λ c a. push-fits c) flush-fits (any-pushed ms) g h
+pub moves-fit : (ms : List (Move Crossing)) (g : Page) → Fitting g → Fits (onPage ms g)
+moves-fit ms g h = run-keeps Any Fits (pushPage eps) flushPage (λ k g h. tt) (λ c a. push-fits eps c) flush-fits (any-pushed ms) g h

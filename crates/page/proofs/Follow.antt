@@ -2,14 +2,18 @@
 use Prim.Native.Nat.{ℕ}
 use native.Mathlib.Omega.{arith}
 use mathlib.Core.Path.{_≡_, refl}
+use mathlib.Core.List.{List, [], _∷_, _++_}
 use Rattle.refusal.specs.declared.Refusal.{Refusal}
+use Rattle.float.specs.Consts.{eps}
 use Rattle.lent.specs.Lent.{afterwards}
 use Rattle.lent.proofs.After.{same-answer, same-lists}
+use Rattle.crossing.specs.declared.Crossing.{Crossing}
 use Rattle.page.specs.declared.Pen.{Pen}
 use Rattle.page.specs.declared.Penned.{Penned}
 use Rattle.page.specs.declared.Penned.the-variants.{Down, Stop}
-use Rattle.page.specs.Moves.{Outcome, on, off, follow}
-use Rattle.page.specs.Page.{Lists, Page, page, pageAfter}
+use Rattle.page.specs.Moves.{Move, Outcome, on, off, follow, move}
+use Rattle.page.specs.Page.{Lists, Page, page, pushPage, flushPage, onPage, pageAfter}
+use Rattle.page.proofs.Moves.{run-append, run-none, run-one}
 
 module _ (x : Outcome Page) (k : Page → Outcome Page) {r : Penned} {l : Lists} (h : afterwards r l ≡ pageAfter x) where
   -- what follows an outcome that goes on
@@ -29,3 +33,14 @@ module _ (x : Outcome Page) (k : Page → Outcome Page) {r : Penned} {l : Lists}
       go : (y : Outcome Page) → afterwards r l ≡ pageAfter y → afterwards (Stop n) l ≡ pageAfter (follow y k)
       go (on g) u = let z : _≡_ {A = ℕ} 0 1 = cc (same-answer u) in absurd (omega arith)
       go (off m g) u = rw (← e) u
+
+-- ---- moves on a page
+
+pub page-append : (ms ns : List (Move Crossing)) (w : Page) → onPage (ms ++ ns) w ≡ follow (onPage ms w) (onPage ns)
+page-append = run-append (pushPage eps) flushPage
+
+pub page-none : (w : Page) → onPage [] w ≡ on w
+page-none = run-none (pushPage eps) flushPage
+
+pub page-one : (x : Move Crossing) (w : Page) → onPage (x ∷ []) w ≡ move (pushPage eps) flushPage x w
+page-one = run-one (pushPage eps) flushPage

@@ -5,6 +5,7 @@ use mathlib.Core.List.{List}
 use Prim.Native.Nat.{ℕ, _+_, _-_, _/_, _≤_, _<_}
 use native.Mathlib.Omega.{arith}
 use lib.ListN.{length, set}
+use lib.Ieee.{Float}
 use borrow.Author.Tests.{lt-ltb, le-ltb, le-leb, lt-leb}
 use Rattle.refusal.specs.declared.Refusal.the-variants.{Full}
 use Rattle.lent.specs.Lent.{afterwards}
@@ -16,29 +17,29 @@ use Rattle.page.specs.declared.Pen.{Pen}
 use Rattle.page.specs.declared.Penned.the-variants.{Down, Stop}
 use Rattle.page.specs.Page.{Lists, pointRoom, writeAt, writeStart, page, penAt, closeToPending, hasRoom, written, pushPage, kept, dropped, flushPage, pageAfter}
 
-module _ (c : Crossing) (l : Lists) (pen : Pen) where
+module _ (tolerance : Float) (c : Crossing) (l : Lists) (pen : Pen) where
   -- ---- a point close to the last pending one
 
-  module _ {x : Vector} {b : Bool} (ex : x ≡ pointAt (l .points) (pen .count - 1)) (eb : b ≡ allClose x (c .point)) (h : pen .start < pen .count) where
-    pub push-close : b ≡ true → afterwards (Down pen) l ≡ pageAfter (pushPage c (page l pen))
+  module _ {x : Vector} {b : Bool} (ex : x ≡ pointAt (l .points) (pen .count - 1)) (eb : b ≡ allClose x (c .point) tolerance) (h : pen .start < pen .count) where
+    pub push-close : b ≡ true → afterwards (Down pen) l ≡ pageAfter (pushPage tolerance c (page l pen))
     unfolding pushPage
     push-close t = simp (lt-ltb _ _ h, ← ex, ← eb, t)
 
-    pub not-close : b ≡ false → closeToPending c (page l pen) ≡ false
+    pub not-close : b ≡ false → closeToPending tolerance c (page l pen) ≡ false
     not-close t = simp (lt-ltb _ _ h, ← ex, ← eb, t)
 
-  pub none-pending : pen .count ≤ pen .start → closeToPending c (page l pen) ≡ false
+  pub none-pending : pen .count ≤ pen .start → closeToPending tolerance c (page l pen) ≡ false
   none-pending h = simp (le-ltb _ _ h)
 
   -- ---- any other point
 
-  module _ (far : closeToPending c (page l pen) ≡ false) where
-    pub push-full : pointRoom l ≤ pen .count → afterwards (Stop Full) l ≡ pageAfter (pushPage c (page l pen))
+  module _ (far : closeToPending tolerance c (page l pen) ≡ false) where
+    pub push-full : pointRoom l ≤ pen .count → afterwards (Stop Full) l ≡ pageAfter (pushPage tolerance c (page l pen))
     unfolding pushPage
     push-full h = let no : hasRoom (page l pen) ≡ false = le-ltb (pen .count) (pointRoom l) h in simp (far, no)
 
     pub push-writes : pen .count < pointRoom l → {m : Lists} → m ≡ writeAt (pen .count) c l →
-        afterwards (Down (penAt (pen .count + 1) (pen .start) (pen .lines))) m ≡ pageAfter (pushPage c (page l pen))
+        afterwards (Down (penAt (pen .count + 1) (pen .start) (pen .lines))) m ≡ pageAfter (pushPage tolerance c (page l pen))
     unfolding pushPage written
     push-writes h e = let yes : hasRoom (page l pen) ≡ true = lt-ltb (pen .count) (pointRoom l) h in simp (far, yes, e)
 

@@ -7,6 +7,7 @@ use lib.Dec.{ltb, leb}
 use lib.ListN.{length, set}
 use lib.Ieee.{Float}
 use Rattle.refusal.specs.declared.Refusal.the-variants.{Full}
+use Rattle.float.specs.Consts.{eps}
 use Rattle.lent.specs.Lent.{Afterwards, afterwards}
 use Rattle.vector.specs.Vectors.{allClose}
 use Rattle.grid.specs.Grid.{pointAt}
@@ -14,7 +15,7 @@ use Rattle.crossing.specs.declared.Crossing.{Crossing}
 use Rattle.page.specs.declared.Pen.{Pen}
 use Rattle.page.specs.declared.Penned.{Penned}
 use Rattle.page.specs.declared.Penned.the-variants.{Down, Stop}
-use Rattle.page.specs.Moves.{Outcome, on, off}
+use Rattle.page.specs.Moves.{Move, Outcome, on, off, run}
 
 -- ---- the lent lists of a trace
 
@@ -61,17 +62,17 @@ page l p = record { lists = l; pen = p }
 abbrev pub hasRoom : Page → Bool
 hasRoom g = ltb (g .pen .count) (pointRoom (g .lists))
 
--- there is a pending point, and the last one is close to c
-abbrev pub closeToPending : Crossing → Page → Bool
-closeToPending c g = ltb (g .pen .start) (g .pen .count) && allClose (pointAt (g .lists .points) (g .pen .count - 1)) (c .point)
+-- there is a pending point, and the last one is close to c by a tolerance
+abbrev pub closeToPending : Float → Crossing → Page → Bool
+closeToPending tolerance c g = ltb (g .pen .start) (g .pen .count) && allClose (pointAt (g .lists .points) (g .pen .count - 1)) (c .point) tolerance
 
 -- c as one more pending point
 unfoldable pub written : Crossing → Page → Page
 written c g = page (writeAt (g .pen .count) c (g .lists)) (penAt (g .pen .count + 1) (g .pen .start) (g .pen .lines))
 
 -- `push_segment_point`: a point close to the last pending one is left out; 12 where a list is full
-unfoldable pub pushPage : Crossing → Page → Outcome Page
-pushPage c g = cond (closeToPending c g) (on g) (cond (hasRoom g) (on (written c g)) (off Full g))
+unfoldable pub pushPage : Float → Crossing → Page → Outcome Page
+pushPage tolerance c g = cond (closeToPending tolerance c g) (on g) (cond (hasRoom g) (on (written c g)) (off Full g))
 
 -- the pending points become a line
 unfoldable pub kept : Page → Page
@@ -87,6 +88,10 @@ flushPage g =
     cond (leb (g .pen .start + 2) (g .pen .count))
     (cond (ltb (g .pen .lines) (length (g .lists .starts))) (on (kept g)) (off Full g))
     (on (dropped g))
+
+-- moves in order, on a page; points closer than EPS are left out
+abbrev pub onPage : List (Move Crossing) → Page → Outcome Page
+onPage = run (pushPage eps) flushPage
 
 -- ---- what a function says of it: its answer, and the lists afterwards
 

@@ -7,6 +7,7 @@ ghost use mathlib.Core.List.{List};
 ghost use Prim.Native.Nat.{ℕ, _+_, _*_, _≤_};
 ghost use lib.ListN.{length};
 ghost use lib.Ieee.{Float};
+ghost use Rattle.float.specs.Consts.{eps};
 ghost use Rattle.lent.specs.Lent.{afterwards};
 ghost use Rattle.page.specs.Moves.{on};
 ghost use Rattle.page.specs.Page.{lists, writeAt, page, pushPage, flushPage, pageAfter, PenFits};
@@ -54,7 +55,7 @@ pub fn push_segment_point(
 ) -> Penned
     requires { ⌜ PenFits (now points) pen ⌝ }
     ensures { λ r. ⌜ ((starts : List ℕ) → afterwards r (lists (now (points .exit)) starts (now (sides .exit)) (now (fractions .exit)))
-        ≡ pageAfter (pushPage c (page (lists (now (points .entry)) starts (now (sides .entry)) (now (fractions .entry))) pen))) ⌝ }
+        ≡ pageAfter (pushPage eps c (page (lists (now (points .entry)) starts (now (sides .entry)) (now (fractions .entry))) pen))) ⌝ }
 {
     let count = pen.count;
     if pen.start < count {

@@ -1,6 +1,7 @@
 -- What `gridPaths` says where its tests refuse, and where they pass.
 use Prim.Native.Nat.{ℕ, _+_, _*_, _≤_}
-use mathlib.Core.Path.{_≡_, refl, ap, _∙_}
+use mathlib.Core.Path.{_≡_, sym, ap, _∙_}
+use mathlib.Core.Bool.{false}
 use mathlib.Core.List.{List, _++_, flatten}
 use lib.Ieee.{Float}
 use lib.ListN.{length}
@@ -13,30 +14,40 @@ use Rattle.refusal.specs.declared.Check.the-variants.{Passed, Failed}
 use Rattle.refusal.specs.declared.Refusal.{Refusal}
 use Rattle.refusal.specs.declared.Refusal.the-variants.{Steps, Room}
 use Rattle.refusal.specs.Refusals.{unless}
-use Rattle.lent.specs.Lent.{filled}
+use Rattle.refusal.proofs.Laws.{unless-passed}
+use Rattle.lent.specs.Lent.{filled, afterwards}
 use Rattle.grid.specs.Grid.{stepsFit, gridCheck}
-use Rattle.grid.proofs.Laws.{Shaped, unless-passed, grid-passed, steps-twice}
+use Rattle.grid.proofs.Laws.{Shaped, grid-passed, steps-refused}
+use Rattle.path.specs.declared.GridPathsAnswer.{GridPathsAnswer}
 use Rattle.path.specs.declared.GridPathsAnswer.the-variants.{Drawn, Refused}
-use Rattle.path.specs.GridPaths.{gridLines, coordinates, roomFits, pathsCheck, gridPaths, Leaves}
+use Rattle.path.specs.GridPaths.{gridLines, coordinates, roomFits, pathsCheck, gridPaths, pathLists, statedPaths}
 use Rattle.path.specs.Runs.{spaced}
 use Rattle.path.proofs.Lines.{grid-starts}
 
 module _ (g : List Float) (m n : ℕ) (points : List Float) (starts : List ℕ) where
-  -- the grid's tests, with the test of room between them, are those of `pathsCheck`
-  pub checked : {room c : Check} → room ≡ unless (stepsFit m n) Steps (unless (roomFits m n points starts) Room Passed) → c ≡ gridCheck g m n room → c ≡ pathsCheck g m n points starts
+  -- 1 applies; or the grid's tests, with the test of room between them, are those of `pathsCheck`
+  pub no-steps : stepsFit m n ≡ false → Failed Steps ≡ pathsCheck g m n points starts
   unfolding pathsCheck
-  checked er ec = ec ∙ ap (gridCheck g m n) er ∙ steps-twice g m n (unless (roomFits m n points starts) Room Passed)
+  no-steps h = sym (steps-refused g m n (unless (roomFits m n points starts) Room Passed) h)
 
-  pub refused : {c : Check} {k : Refusal} → c ≡ pathsCheck g m n points starts → c ≡ Failed k → Leaves (gridPaths g m n points starts) (Refused k) points starts
+  pub checked : {room c : Check} → room ≡ unless (roomFits m n points starts) Room Passed → c ≡ gridCheck g m n room → c ≡ pathsCheck g m n points starts
+  unfolding pathsCheck
+  checked er ec = ec ∙ ap (gridCheck g m n) er
+
+  -- the answer a, with the lists ps and ss
+  abbrev Leaves : GridPathsAnswer → List Float → List ℕ → Type 0
+  Leaves a ps ss = afterwards (statedPaths a) (pathLists ps ss) ≡ gridPaths g m n (pathLists points starts)
+
+  pub refused : {c : Check} {k : Refusal} → c ≡ pathsCheck g m n points starts → c ≡ Failed k → Leaves (Refused k) points starts
   unfolding gridPaths
-  refused ec e = rw (← ec, e) (record { answer = refl; points = refl; starts = refl })
+  refused ec e = rw (← ec, e)
 
   pub drawn : pathsCheck g m n points starts ≡ Passed →
       {ps : List Float} {ss : List ℕ} → ps ≡ filled zero64 (coordinates (flatten (gridLines g m n))) points →
       ss ≡ filled 0 (spaced 0 (m + 1) (n + 1) ++ spaced ((m + 1) * (n + 1)) (n + 1) (m + 1)) starts →
-      Leaves (gridPaths g m n points starts) (Drawn (2 * ((m + 1) * (n + 1))) (m + n + 2)) ps ss
+      Leaves (Drawn (2 * ((m + 1) * (n + 1))) (m + n + 2)) ps ss
   unfolding gridPaths
-  drawn e ep es = rw e (record { answer = refl; points = ep; starts = rw (grid-starts g m n) es })
+  drawn e ep es = rw (e, ep, es, grid-starts g m n)
 
   -- the grid that passed, and the room of the lists
   pub passed-shape : pathsCheck g m n points starts ≡ Passed → Shaped g m n

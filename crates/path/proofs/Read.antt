@@ -14,7 +14,7 @@ use Rattle.float.specs.Consts.{zero64}
 use Rattle.refusal.specs.declared.Check.the-variants.{Passed}
 use Rattle.lent.specs.Lent.{filled}
 use Rattle.vector.specs.declared.Vector.{Vector}
-use Rattle.path.specs.GridPaths.{counting, alongU, alongV, gridLines, coordinates, startsFrom, pointCount, lineCount, pathsCheck, gridPaths}
+use Rattle.path.specs.GridPaths.{counting, alongU, alongV, gridLines, coordinates, startsFrom, pointCount, lineCount, pathsCheck, PathLists, gridPaths}
 use Rattle.path.specs.Line.{lineStart, lineEnd, partOf, lineAt}
 use Rattle.path.proofs.Stores.{length-coordinates, coordinates-append, flatten-append, length-flatten-runs}
 use Rattle.path.proofs.Lines.{grid-lines}
@@ -145,24 +145,24 @@ line-v g m n u h =
     rw (e, getD-append-add, getD-counting, z)
 
 -- line number k of what a call leaves in its lists
-abbrev pub lineOf : List Float → ℕ → ℕ → List Float → List ℕ → ℕ → List Float
-lineOf g m n points starts k = lineAt (gridPaths g m n points starts .points) (gridPaths g m n points starts .starts) (pointCount m n) (lineCount m n) k
+abbrev pub lineOf : List Float → ℕ → ℕ → PathLists → ℕ → List Float
+lineOf g m n lent k = let l = gridPaths g m n lent .lists in lineAt (l .points) (l .starts) (pointCount m n) (lineCount m n) k
 
 -- what the two calls are to each other: each line of `grid_paths`, read back by `get`, is the row or column that it stands for
-pub record ReadBack (g : List Float) (m n : ℕ) (points : List Float) (starts : List ℕ) : Type 0 where
-  pub along-u : (v : ℕ) → v ≤ n → lineOf g m n points starts v ≡ coordinates (alongU g m n v)
-  pub along-v : (u : ℕ) → u ≤ m → lineOf g m n points starts (n + 1 + u) ≡ coordinates (alongV g m n u)
+pub record ReadBack (g : List Float) (m n : ℕ) (lent : PathLists) : Type 0 where
+  pub along-u : (v : ℕ) → v ≤ n → lineOf g m n lent v ≡ coordinates (alongU g m n v)
+  pub along-v : (u : ℕ) → u ≤ m → lineOf g m n lent (n + 1 + u) ≡ coordinates (alongV g m n u)
 
-module _ (g : List Float) (m n : ℕ) (points : List Float) (starts : List ℕ) (passed : pathsCheck g m n points starts ≡ Passed) where
-  line-of : (k : ℕ) → k < lineCount m n → lineOf g m n points starts k ≡ coordinates (getD (gridLines g m n) k [])
+module _ (g : List Float) (m n : ℕ) (lent : PathLists) (passed : pathsCheck g m n (lent .points) (lent .starts) ≡ Passed) where
+  line-of : (k : ℕ) → k < lineCount m n → lineOf g m n lent k ≡ coordinates (getD (gridLines g m n) k [])
   unfolding gridPaths
   line-of k h =
-      let r = passed-room g m n points starts passed in
+      let r = passed-room g m n (lent .points) (lent .starts) passed in
       let p = point-count g m n in
       let l = line-count g m n in
-      rw (passed, ← p, ← l) (line-read (gridLines g m n) points starts (omega arith) (omega arith) k (omega arith))
+      rw (passed, ← p, ← l) (line-read (gridLines g m n) (lent .points) (lent .starts) (omega arith) (omega arith) k (omega arith))
 
-  pub read-back : ReadBack g m n points starts
+  pub read-back : ReadBack g m n lent
   read-back =
       record {
         along-u = λ v h. line-of v (omega arith) ∙ ap coordinates (line-u g m n v h);

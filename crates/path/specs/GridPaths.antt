@@ -1,6 +1,5 @@
--- "Grid lines: N+1 lines along u, then M+1 along v, 2·(M+1)·(N+1) points, no closeness test." Assumes nothing.
+-- "Grid lines: N+1 lines along u, then M+1 along v, 2·(M+1)·(N+1) points, no closeness test."
 use Prim.Native.Nat.{ℕ, zero, suc, _+_, _*_}
-use mathlib.Core.Path.{_≡_}
 use mathlib.Core.Bool.{Bool, _&&_}
 use mathlib.Core.List.{List, [], _∷_, _++_, map, flatten}
 use lib.Dec.{leb}
@@ -8,10 +7,10 @@ use lib.ListN.{length}
 use lib.Ieee.{Float}
 use Rattle.float.specs.Consts.{zero64}
 use Rattle.refusal.specs.declared.Check.{Check}
-use Rattle.refusal.specs.declared.Check.the-variants.{Passed, Failed}
+use Rattle.refusal.specs.declared.Check.the-variants.{Passed}
 use Rattle.refusal.specs.declared.Refusal.the-variants.{Room}
 use Rattle.refusal.specs.Refusals.{Answer, ok, refused, numberOf, unless}
-use Rattle.lent.specs.Lent.{filled}
+use Rattle.lent.specs.Lent.{filled, Afterwards, afterwards, ifPassed, Counts, counts}
 use Rattle.vector.specs.declared.Vector.{Vector}
 use Rattle.grid.specs.Grid.{pointNumber, pointAt, gridCheck}
 use Rattle.path.specs.declared.GridPathsAnswer.{GridPathsAnswer}
@@ -62,36 +61,26 @@ roomFits m n points starts = leb (6 * ((m + 1) * (n + 1))) (length points) && le
 unfoldable pub pathsCheck : List Float → ℕ → ℕ → List Float → List ℕ → Check
 pathsCheck g m n points starts = gridCheck g m n (unless (roomFits m n points starts) Room Passed)
 
-pub record Counts : Type 0 where
-  pub points : ℕ
-  pub lines : ℕ
-
--- an answer, and the lent lists after the call
-pub record GridPaths : Type 0 where
-  pub answer : Answer Counts
+-- the two lists that are lent for the lines
+pub record PathLists : Type 0 where
   pub points : List Float
   pub starts : List ℕ
 
--- the lines drawn; a refusal of 1 to 10 leaves the lists untouched
-abbrev pub drawnWhere : Check → List Float → ℕ → ℕ → List Float → List ℕ → GridPaths
-drawnWhere Passed g m n points starts =
-    record {
-      answer = ok (record { points = pointCount m n; lines = lineCount m n });
-      points = filled zero64 (coordinates (flatten (gridLines g m n))) points;
-      starts = filled 0 (startsFrom 0 (gridLines g m n)) starts;
-    }
-drawnWhere (Failed k) g m n points starts = record { answer = refused (numberOf k); points = points; starts = starts }
+abbrev pub pathLists : List Float → List ℕ → PathLists
+pathLists points starts = record { points = points; starts = starts }
 
-unfoldable pub gridPaths : List Float → ℕ → ℕ → List Float → List ℕ → GridPaths
-gridPaths g m n points starts = drawnWhere (pathsCheck g m n points starts) g m n points starts
+-- the lines, drawn into these lists
+abbrev pub drawnInto : PathLists → List Float → ℕ → ℕ → PathLists
+drawnInto lent g m n =
+    pathLists (filled zero64 (coordinates (flatten (gridLines g m n))) (lent .points)) (filled 0 (startsFrom 0 (gridLines g m n)) (lent .starts))
+
+-- the open call, reference `grid_paths`; a refusal of 1 to 10 leaves the lists untouched
+unfoldable pub gridPaths : List Float → ℕ → ℕ → PathLists → Afterwards (Answer Counts) PathLists
+gridPaths g m n lent =
+    ifPassed (pathsCheck g m n (lent .points) (lent .starts)) lent
+    (afterwards (ok (counts (pointCount m n) (lineCount m n))) (drawnInto lent g m n))
 
 -- 01's number and values of each answer
 abbrev pub statedPaths : GridPathsAnswer → Answer Counts
-statedPaths (Drawn p l) = ok (record { points = p; lines = l })
+statedPaths (Drawn p l) = ok (counts p l)
 statedPaths (Refused k) = refused (numberOf k)
-
--- the answer and both lists afterwards are those of the definition
-pub record Leaves (d : GridPaths) (r : GridPathsAnswer) (after : List Float) (startsAfter : List ℕ) : Type 0 where
-  pub answer : statedPaths r ≡ d .answer
-  pub points : after ≡ d .points
-  pub starts : startsAfter ≡ d .starts

@@ -7,11 +7,8 @@ use refusal::Refusal;
 ghost use mathlib.Core.Path.{_≡_};
 ghost use Prim.Native.Nat.{_≤_, _<_};
 ghost use lib.ListN.{length};
-ghost use Rattle.refusal.specs.declared.Check.the-variants.{Passed};
-ghost use Rattle.refusal.specs.declared.Refusal.the-variants.{Steps, Room};
-ghost use Rattle.refusal.specs.Refusals.{unless};
-ghost use Rattle.grid.specs.Grid.{stepsFit};
-ghost use Rattle.path.specs.GridPaths.{roomFits, gridPaths, Leaves};
+ghost use Rattle.lent.specs.Lent.{afterwards};
+ghost use Rattle.path.specs.GridPaths.{pathsCheck, gridPaths, pathLists, statedPaths};
 ghost use Rattle.path.specs.Line.{lineEnd, lineSpan, lineAt, statedLine};
 
 pub enum GridPathsAnswer {
@@ -26,18 +23,20 @@ pub enum LineAnswer {
     Refused(Refusal),
 }
 
-// Refusals 1 and 3. It runs before the grid's own tests, so it multiplies only an M and N that pass 1.
-fn check_room(m: usize, n: usize, points: &[f64], starts: &[usize]) -> Check
-    ensures { λ r. ⌜ r ≡ unless (stepsFit m n) Steps (unless (roomFits m n (now (points .entry)) (now (starts .entry))) Room Passed) ⌝ }
+// Refusals 1, 2, 3 and 4. The room is that of an M and N that pass 1.
+fn check_paths(grid: &[f64], m: usize, n: usize, points: &[f64], starts: &[usize]) -> Check
+    ensures { λ r. ⌜ r ≡ pathsCheck (now (grid .entry)) m n (now (points .entry)) (now (starts .entry)) ⌝ }
 {
     if !grid::steps_fit(m, n) {
         return Check::Failed(Refusal::Steps);
     }
-    let fits = (6 * ((m + 1) * (n + 1)) <= points.len()) & (m + n + 2 <= starts.len());
-    if !fits {
-        return Check::Failed(Refusal::Room);
-    }
-    Check::Passed
+    let room = lent::check_room(
+        6 * ((m + 1) * (n + 1)),
+        points.len(),
+        m + n + 2,
+        starts.len(),
+    );
+    grid::check_grid(grid, m, n, room)
 }
 
 // The grid's lines: those along u, v by v, then those along v, u by u. Three f64 a point go into `points`, the number of
@@ -49,11 +48,10 @@ pub fn grid_paths(
     points: &mut [f64],
     starts: &mut [usize],
 ) -> GridPathsAnswer
-    ensures { λ r. ⌜ Leaves (gridPaths (now (grid .entry)) m n (now (points .entry)) (now (starts .entry))) r
-        (now (points .exit)) (now (starts .exit)) ⌝ }
+    ensures { λ r. ⌜ afterwards (statedPaths r) (pathLists (now (points .exit)) (now (starts .exit)))
+        ≡ gridPaths (now (grid .entry)) m n (pathLists (now (points .entry)) (now (starts .entry))) ⌝ }
 {
-    let room = check_room(m, n, points, starts);
-    match grid::check_grid(grid, m, n, room) {
+    match check_paths(grid, m, n, points, starts) {
         Check::Failed(k) => GridPathsAnswer::Refused(k),
         Check::Passed => {
             let count = (m + 1) * (n + 1);

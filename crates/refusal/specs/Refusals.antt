@@ -1,4 +1,4 @@
--- "Who sends the caller back", and what an answer is. Assumes nothing.
+-- "Who sends the caller back", and what an answer is.
 use Prim.Native.Nat.{ℕ}
 use mathlib.Core.Bool.{Bool, true, false}
 use Rattle.refusal.specs.declared.Refusal.{Refusal}

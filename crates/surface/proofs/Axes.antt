@@ -1,91 +1,89 @@
 -- A covered joining is a strip when it is seen along one of its two seams: the other seam is unjoined or joins each point to the one opposite, so
--- it closes the columns or leaves them open, and no more. Assumes nothing.
+-- it closes the columns or leaves them open, and no more. Along u the columns are those of u, along v those of v.
 use Prim.Native.Nat.{ℕ, zero, suc, _+_, _*_, _≤_, _<_}
 use mathlib.Core.Path.{_≡_, refl, sym, ap, _∙_}
 use mathlib.Core.Logic.{_⊎_, inl, inr, ⊎-elim}
 use mathlib.Core.Bool.{Bool, true, not, true≢false}
 use native.Mathlib.Omega.{arith}
 use lib.Arith.{digits-div, digits-mod}
+use Rattle.param.specs.declared.Axis.{Axis}
+use Rattle.param.specs.declared.Axis.the-variants.{AxisU, AxisV}
 use Rattle.surface.specs.Surface.{Seam, unjoined, forward, reverse, joined, reversed, inverse, Rule, once, twice, Split, falling, rising, Shape, number, at, StepsAround, NoneOfTwo}
 use Rattle.surface.proofs.Covered.{AtZero, Beside, Covered, neither, only-u, only-v, both-u, both-v}
 use Rattle.surface.proofs.Steps.{Fits, Offset, inv-forward, inv-reverse}
 use Rattle.surface.proofs.Strip.{Strip, Kind, straight, across, diagonal}
 use Rattle.surface.proofs.Halves.{cellHalf, cellDir}
 
--- along u the columns are those of u, along v those of v
-pub data Axis : Type 0 where
-  axisU axisV : Axis
-
 abbrev pub columns : Axis → Shape → ℕ
-columns axisU s = s .M
-columns axisV s = s .N
+columns AxisU s = s .M
+columns AxisV s = s .N
 
 abbrev pub rows : Axis → Shape → ℕ
-rows axisU s = s .N
-rows axisV s = s .M
+rows AxisU s = s .N
+rows AxisV s = s .M
 
 -- the seam that joins the last column to the first, and the one that closes the columns
 abbrev pub seamOf : Axis → Shape → Seam
-seamOf axisU s = s .su
-seamOf axisV s = s .sv
+seamOf AxisU s = s .su
+seamOf AxisV s = s .sv
 
 abbrev pub closing : Axis → Shape → Seam
-closing axisU s = s .sv
-closing axisV s = s .su
+closing AxisU s = s .sv
+closing AxisV s = s .su
 
 -- the column and the row of (u, v); and, as two turns are none, the u and the v of a column and a row
 abbrev pub xOf : {A : Type 0} → Axis → A → A → A
-xOf axisU i j = i
-xOf axisV i j = j
+xOf AxisU i j = i
+xOf AxisV i j = j
 
 abbrev pub yOf : {A : Type 0} → Axis → A → A → A
-yOf axisU i j = j
-yOf axisV i j = i
+yOf AxisU i j = j
+yOf AxisV i j = i
 
 pub turn-x : {A : Type 0} (a : Axis) (i j : A) → xOf a (xOf a i j) (yOf a i j) ≡ i
-turn-x axisU i j = refl
-turn-x axisV i j = refl
+turn-x AxisU i j = refl
+turn-x AxisV i j = refl
 
 pub turn-y : {A : Type 0} (a : Axis) (i j : A) → yOf a (xOf a i j) (yOf a i j) ≡ j
-turn-y axisU i j = refl
-turn-y axisV i j = refl
+turn-y AxisU i j = refl
+turn-y AxisV i j = refl
 
 -- a step of v goes along a column of u and across the columns of v
 abbrev pub kindOf : Axis → Kind → Kind
-kindOf axisU k = k
-kindOf axisV straight = across
-kindOf axisV across = straight
-kindOf axisV diagonal = diagonal
+kindOf AxisU k = k
+kindOf AxisV straight = across
+kindOf AxisV across = straight
+kindOf AxisV diagonal = diagonal
 
 pub turn-kind : (a : Axis) (k : Kind) → kindOf a (kindOf a k) ≡ k
-turn-kind axisU k = refl
-turn-kind axisV straight = refl
-turn-kind axisV across = refl
-turn-kind axisV diagonal = refl
+turn-kind AxisU k = refl
+turn-kind AxisV straight = refl
+turn-kind AxisV across = refl
+turn-kind AxisV diagonal = refl
 
 -- which half has a side, and which way it runs along it; a falling diagonal starts at its other end when u and v change places
 abbrev pub sideHalf : Axis → Split → Kind → Bool → Bool
 sideHalf a d k t = cellHalf d (kindOf a k) t
 
 abbrev pub sideDir : Axis → Split → Kind → Bool → Bool
-sideDir axisU d k t = cellDir k t
-sideDir axisV d straight t = not t
-sideDir axisV d across t = t
-sideDir axisV falling diagonal t = not t
-sideDir axisV rising diagonal t = t
+sideDir AxisU d k t = cellDir k t
+sideDir AxisV d straight t = not t
+sideDir AxisV d across t = t
+sideDir AxisV falling diagonal t = not t
+sideDir AxisV rising diagonal t = t
 
 pub half-diagonal : (a : Axis) (d : Split) (t : Bool) → sideHalf a d diagonal t ≡ t
-half-diagonal axisU d t = refl
-half-diagonal axisV d t = refl
+half-diagonal AxisU d t = refl
+half-diagonal AxisV d t = refl
 
 pub dir-not : (a : Axis) (d : Split) (k : Kind) (t : Bool) → sideDir a d k (not t) ≡ not (sideDir a d k t)
-dir-not axisU d straight t = refl
-dir-not axisU d across t = refl
-dir-not axisU d diagonal t = refl
-dir-not axisV d straight t = refl
-dir-not axisV d across t = refl
-dir-not axisV falling diagonal t = refl
-dir-not axisV rising diagonal t = refl
+dir-not AxisU d straight t = refl
+dir-not AxisU d across t = refl
+dir-not AxisU d diagonal t = refl
+dir-not AxisV d straight t = refl
+dir-not AxisV d across t = refl
+dir-not AxisV falling diagonal t = refl
+dir-not AxisV rising diagonal t = refl
 
 -- ---- what a shape must be to be seen so
 
@@ -109,8 +107,8 @@ digits-inj q r q′ r′ m h h′ e = (cc (digits-div q h, digits-div q′ h′)
 -- a point's number tells its column and its row
 pub number-inj : (a : Axis) (s : Shape) (x y x′ y′ : ℕ) → x ≤ columns a s → y ≤ rows a s → x′ ≤ columns a s → y′ ≤ rows a s →
     number s (at (xOf a x y) (yOf a x y)) ≡ number s (at (xOf a x′ y′) (yOf a x′ y′)) → (x ≡ x′) × (y ≡ y′)
-number-inj axisU s x y x′ y′ h k h′ k′ e = digits-inj x y x′ y′ (s .N + 1) (omega arith) (omega arith) e
-number-inj axisV s x y x′ y′ h k h′ k′ e = let r = digits-inj y x y′ x′ (s .N + 1) (omega arith) (omega arith) e in (r .1, r .0)
+number-inj AxisU s x y x′ y′ h k h′ k′ e = digits-inj x y x′ y′ (s .N + 1) (omega arith) (omega arith) e
+number-inj AxisV s x y x′ y′ h k h′ k′ e = let r = digits-inj y x y′ x′ (s .N + 1) (omega arith) (omega arith) e in (r .1, r .0)
 
 -- steps both ways, and 2 around wherever a seam joins
 pub record HasSteps (s : Shape) : Type 0 where
@@ -119,17 +117,17 @@ pub record HasSteps (s : Shape) : Type 0 where
   pub around : StepsAround 2 s
 
 pub some : (a : Axis) (s : Shape) → HasSteps s → (0 < columns a s) × (0 < rows a s)
-some axisU s h = (h .u-some, h .v-some)
-some axisV s h = (h .v-some, h .u-some)
+some AxisU s h = (h .u-some, h .v-some)
+some AxisV s h = (h .v-some, h .u-some)
 
 -- so many steps around, by columns and rows
 pub around-seen : (k : ℕ) (a : Axis) (s : Shape) → StepsAround k s → (joined (seamOf a s) ≡ true → k ≤ columns a s) × (joined (closing a s) ≡ true → k ≤ rows a s)
-around-seen k axisU s h = h
-around-seen k axisV s h = (h .1, h .0)
+around-seen k AxisU s h = h
+around-seen k AxisV s h = (h .1, h .0)
 
 pub none-seen : (a : Axis) (s : Shape) → NoneOfTwo s → reversed (seamOf a s) ≡ true → rows a s ≡ 2 → ⊥
-none-seen axisU s h = h .0
-none-seen axisV s h = h .1
+none-seen AxisU s h = h .0
+none-seen AxisV s h = h .1
 
 -- the strip that a shape is, seen along an axis
 unfoldable pub strip : (s : Shape) → HasSteps s → (a : Axis) → SeenAlong a s → Strip
@@ -201,8 +199,8 @@ module _ (a : Axis) (s : Shape) where
       keeps twice h = tt
 
 pub covered-along : (s : Shape) → Covered s → (a : Axis) × SeenAlong a s
-covered-along s (neither p q) = (axisU, open-columns axisU s q (unjoined-fits (s .su) (joined (s .sv)) (s .N) p))
-covered-along s (only-u p q) = (axisU, open-columns axisU s q (at-zero-fits (s .su) (joined (s .sv)) (s .N) p))
-covered-along s (only-v p q) = (axisV, open-columns axisV s p (at-zero-fits (s .sv) (joined (s .su)) (s .M) q))
-covered-along s (both-u p q) = (axisU, closed-columns axisU s q p)
-covered-along s (both-v p q) = (axisV, closed-columns axisV s p q)
+covered-along s (neither p q) = (AxisU, open-columns AxisU s q (unjoined-fits (s .su) (joined (s .sv)) (s .N) p))
+covered-along s (only-u p q) = (AxisU, open-columns AxisU s q (at-zero-fits (s .su) (joined (s .sv)) (s .N) p))
+covered-along s (only-v p q) = (AxisV, open-columns AxisV s p (at-zero-fits (s .sv) (joined (s .su)) (s .M) q))
+covered-along s (both-u p q) = (AxisU, closed-columns AxisU s q p)
+covered-along s (both-v p q) = (AxisV, closed-columns AxisV s p q)

@@ -1,13 +1,14 @@
 -- The sides of a cell. Each has a low and a high side of each kind, its diagonal being both, and each side of the strip is the low side of one cell
--- and the high side of one other (of a diagonal, of the same cell); on a rim one of the two is missing. Assumes nothing.
+-- and the high side of one other (of a diagonal, of the same cell); on a rim one of the two is missing.
 use Prim.Native.Nat.{ℕ, _+_, _-_, _≤_, _<_}
 use mathlib.Core.Path.{_≡_, refl, sym, ap, _∙_}
 use mathlib.Core.Logic.{_⊎_, inl, inr, ⊎-elim}
 use mathlib.Core.Bool.{Bool, true, false, not, cond}
 use native.Mathlib.Omega.{arith}
 use borrow.Author.Tests.{eq-eqb}
+use Rattle.basics.proofs.Numbers.{lt-or-le}
 use Rattle.surface.specs.Surface.{Seam, unjoined, forward, reverse, joined, Split, falling, rising}
-use Rattle.surface.proofs.Steps.{lt-or-le, wrap-open, wrap-below, wrap-end, laidOn, laidBack, back-below, on-back, on-inj}
+use Rattle.surface.proofs.Steps.{wrap-open, wrap-below, wrap-end, laidOn, laidBack, back-below, on-back, on-inj}
 use Rattle.surface.proofs.Strip.{Strip, crossing, colOf, rowOf, pointOf, stepAt, turned, next, Kind, straight, across, diagonal, nameFrom, nameTo, fromY, toY, Valid, row-below, col-below, step-below, stepAt-lt, col-le, next-le, next-ne, next-inj, col-ne, col-inj, row-next, adjacent}
 
 abbrev pub Cell : Strip → ℕ → ℕ → Type 0

@@ -1,12 +1,12 @@
 -- Demand 3 for the seams that are found. A search tries offsets below the steps of its rows only, so a mapping that it finds has its row's steps
--- and an offset below them; with that, 01's list of joinings is the one that the theorem on shapes is proved for. Assumes nothing.
+-- and an offset below them; with that, 01's list of joinings is the one that the theorem on shapes is proved for.
 use Prim.Native.Nat.{ℕ, _+_, _*_, _≤_}
 use mathlib.Core.Path.{_≡_, refl, ap}
 use mathlib.Core.Logic.{inl, inr}
 use mathlib.Core.List.{List}
 use native.Mathlib.Omega.{arith}
 use lib.Ieee.{Float}
-use Rattle.vector.specs.Vectors.{allClose}
+use Rattle.float.specs.Consts.{eps}
 use Rattle.grid.proofs.Laws.{accepted-known}
 use Rattle.cyclic.specs.declared.mapping.CyclicMapping.{CyclicMapping}
 use Rattle.cyclic.specs.declared.mapping.CyclicMapping.the-variants.{Forward, Reverse}
@@ -14,7 +14,7 @@ use Rattle.cyclic.specs.declared.seam.Seam.{Seam}
 use Rattle.cyclic.specs.declared.seam.Seam.the-variants.{Joined, Unjoined}
 use Rattle.cyclic.specs.Mapping.{stepsOf}
 use Rattle.cyclic.specs.Mapping as mapping
-use Rattle.cyclic.specs.Search.{Row, rowOf, Closeness, searchRows}
+use Rattle.cyclic.specs.Search.{Row, rowOf, Closeness, closeAt, searchRows}
 use Rattle.cyclic.proofs.Laws.{found-steps, found-below}
 use Rattle.surface.specs.Surface.{forward, inverse, Meets}
 use Rattle.surface.specs.Found.{uSearch, vSearch, ofMapping, surfaceWith, ForwardAtZero, CoveredJoining, SurfaceMeets, Maps}
@@ -32,10 +32,10 @@ found-of-row close a b steps h = go (searchRows close a b steps .seam) refl
     go (Joined k) e = (found-steps close a b steps e, found-below close a b steps h e)
 
 pub u-of-row : (g : List Float) (m n : ℕ) → 1 ≤ n → Maps (uSearch g m n .seam) n
-u-of-row g m n h = rw (u-search g m n h) (found-of-row allClose (rowOf g 0 1) (rowOf g (m * (n + 1)) 1) n h)
+u-of-row g m n h = rw (u-search g m n h) (found-of-row (closeAt eps) (rowOf g 0 1) (rowOf g (m * (n + 1)) 1) n h)
 
 pub v-of-row : (g : List Float) (m n : ℕ) → 1 ≤ m → Maps (vSearch g m n .seam) m
-v-of-row g m n h = rw (v-search g m n h) (found-of-row allClose (rowOf g 0 (n + 1)) (rowOf g n (n + 1)) m h)
+v-of-row g m n h = rw (v-search g m n h) (found-of-row (closeAt eps) (rowOf g 0 (n + 1)) (rowOf g n (n + 1)) m h)
 
 -- the inverse image that a surface takes is the mapping's own
 pub inverse-of : (k : CyclicMapping) (b : ℕ) → inverse (ofMapping k) (stepsOf k) b ≡ mapping.inverse k b

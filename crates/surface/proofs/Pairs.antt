@@ -1,5 +1,5 @@
 -- The list of flipped pairs: that `insert` keeps it ascending, what `process` puts into it, how long it is at most, and that its numbers are of
--- triangles in the list. Assumes nothing.
+-- triangles in the list.
 use Prim.Native.Nat.{ℕ, zero, suc, _+_, _≤_, _<_}
 use mathlib.Core.Path.{_≡_, refl, sym, ap, _∙_}
 use mathlib.Core.Logic.{_⊎_, inl, inr, ⊎-elim}
@@ -12,8 +12,9 @@ use lib.ListN.{length}
 use borrow.Author.Tests.{eq-eqb, ne-eqb, ltb-true, ltb-false, lt-ltb}
 use Rattle.surface.specs.Surface.{Seam, reverse, reversed, Shape, slot, proper, triangles, Pair, pair, ordered, insert, triangleNumber, stepOn, process, flipped, lowU, highU, lowV, highV, wrapEnds}
 use Rattle.basics.proofs.Tests.{and-both, cond-keeps, cond-case}
+use Rattle.basics.proofs.Numbers.{eqb-cases}
 use Rattle.cyclic.proofs.Mappings.{three}
-use Rattle.surface.proofs.Steps.{eqb-cases, Offset, laidOn, Meet, reverse-step}
+use Rattle.surface.proofs.Steps.{Offset, laidOn, Meet, reverse-step}
 use Rattle.surface.proofs.Triangles.{number-below}
 use Rattle.surface.proofs.Halves.{lowU-lt, highU-lt, lowV-lt, highV-lt}
 

@@ -1,7 +1,7 @@
 -- J and the corner rule give the points of the strip. The rule of the strip's seam carries the last column to the first; the rule of the other seam
 -- does no more than read the last row of a closed column as its first. One after the other, in either order, they give the strip's point, and no
 -- further rule moves it. A corner in a row before the last leaves out the v rule, which has nothing to do there: a covered joining takes no
--- point inside a column to its end. Assumes nothing.
+-- point inside a column to its end.
 use Prim.Native.Nat.{ℕ, _+_, _≤_, _<_}
 use mathlib.Core.Path.{_≡_, refl, sym, ap, _∙_}
 use mathlib.Core.Logic.{inl, inr, ⊎-elim}
@@ -10,23 +10,26 @@ use native.Mathlib.Omega.{arith}
 use lib.Dec.{eqb}
 use borrow.Author.Tests.{ne-eqb}
 use Rattle.basics.proofs.Tests.{cond-keeps}
+use Rattle.basics.proofs.Numbers.{eqb-cases}
+use Rattle.param.specs.declared.Axis.{Axis}
+use Rattle.param.specs.declared.Axis.the-variants.{AxisU, AxisV}
 use Rattle.surface.specs.Surface.{Seam, joined, inverse, Point, at, Rule, once, twice, Shape, uRule, vRule, number, joinedBy, J, cornerBy, corner}
-use Rattle.surface.proofs.Steps.{eqb-cases, wrap, wrap-open, wrap-closed, wrap-below, wrap-wrap, carried, carried-wrap, inv-forward-0}
+use Rattle.surface.proofs.Steps.{wrap, wrap-open, wrap-closed, wrap-below, wrap-wrap, carried, carried-wrap, inv-forward-0}
 use Rattle.surface.proofs.Strip.{Strip, colOf, rowOf, pointOf, row-below, col-below}
 use Rattle.surface.proofs.CellSides.{shift, shift-le, corners}
 use Rattle.surface.proofs.Halves.{cellCorners}
-use Rattle.surface.proofs.Axes.{Axis, axisU, axisV, columns, rows, seamOf, closing, xOf, yOf, Plain, KeepsInside, SeenAlong, HasSteps, some, strip}
+use Rattle.surface.proofs.Axes.{columns, rows, seamOf, closing, xOf, yOf, Plain, KeepsInside, SeenAlong, HasSteps, some, strip}
 
 -- ---- the two rules, by column and row
 
 -- the rule of the strip's seam, and that of the other
 abbrev seamRule : Axis → Shape → Point → Point
-seamRule axisU s p = uRule s p
-seamRule axisV s p = vRule s p
+seamRule AxisU s p = uRule s p
+seamRule AxisV s p = vRule s p
 
 abbrev closingRule : Axis → Shape → Point → Point
-closingRule axisU s p = vRule s p
-closingRule axisV s p = uRule s p
+closingRule AxisU s p = vRule s p
+closingRule AxisV s p = uRule s p
 
 -- the point of column x and row y
 abbrev pt : Axis → ℕ → ℕ → Point
@@ -43,8 +46,8 @@ cond-at false u v u′ v′ = refl
 seam-rule : (s : Shape) (a : Axis) (x y : ℕ) →
     seamRule a s (pt a x y) ≡ pt a (wrap (joined (seamOf a s)) (columns a s) x) (cond (last a s x) (inverse (seamOf a s) (rows a s) y) y)
 unfolding wrap
-seam-rule s axisU x y = cond-at (last axisU s x) 0 (inverse (s .su) (s .N) y) x y
-seam-rule s axisV x y = cond-at (last axisV s x) (inverse (s .sv) (s .M) y) 0 y x
+seam-rule s AxisU x y = cond-at (last AxisU s x) 0 (inverse (s .su) (s .N) y) x y
+seam-rule s AxisV x y = cond-at (last AxisV s x) (inverse (s .sv) (s .M) y) 0 y x
 
 -- a plain seam takes each point to the one opposite
 plain-cond : (m : Seam) → Plain m → (t : Bool) (n b : ℕ) → cond t (inverse m n b) b ≡ b
@@ -53,8 +56,8 @@ plain-cond m (inr e) true n b = rw e (inv-forward-0 n b)
 plain-cond m e false n b = refl
 
 closing-rule : (s : Shape) (a : Axis) (x y : ℕ) → Plain (closing a s) → closingRule a s (pt a x y) ≡ pt a x (wrap (joined (closing a s)) (rows a s) y)
-closing-rule s axisU x y e = seam-rule s axisV y x ∙ rw (plain-cond (s .sv) e (last axisV s y) (s .M) x)
-closing-rule s axisV x y e = seam-rule s axisU y x ∙ rw (plain-cond (s .su) e (last axisU s y) (s .N) x)
+closing-rule s AxisU x y e = seam-rule s AxisV y x ∙ rw (plain-cond (s .sv) e (last AxisV s y) (s .M) x)
+closing-rule s AxisV x y e = seam-rule s AxisU y x ∙ rw (plain-cond (s .su) e (last AxisU s y) (s .N) x)
 
 -- an index before the end of a closed row is read as it is, and what is read is before the end
 wrap-fix : (c : Bool) (n i : ℕ) → (c ≡ true → i < n) → wrap c n i ≡ i
@@ -181,14 +184,14 @@ module _ (s : Shape) (steps : HasSteps s) (a : Axis) (w : SeenAlong a s) where
 joined-place : (s : Shape) (steps : HasSteps s) (a : Axis) (w : SeenAlong a s) (r : Rule) →
     KeepsInside r (seamOf a s) (joined (closing a s)) (rows a s) → (x y : ℕ) → y ≤ rows a s → joinedBy r s (pt a x y) ≡ place s steps a w x y
 unfolding joinedBy
-joined-place s steps axisU w once k x y h = seam-closing s steps axisU w x y
-joined-place s steps axisU w twice k x y h =
-    ap (λ (p : Point). vRule s (uRule s p)) (seam-closing s steps axisU w x y) ∙ ap (vRule s) (seam-stays s steps axisU w x y) ∙ closing-stays s steps axisU w x y
-joined-place s steps axisV w once k x y h = closing-seam s steps axisV w k x y h
-joined-place s steps axisV w twice k x y h =
-    ap (λ (p : Point). vRule s (uRule s (vRule s p))) (closing-rule s axisV x y (w .plain))
-    ∙ ap (vRule s) (seam-closing s steps axisV w x (wrap (joined (s .su)) (s .M) y) ∙ closed-first s steps axisV w x y)
-    ∙ seam-stays s steps axisV w x y
+joined-place s steps AxisU w once k x y h = seam-closing s steps AxisU w x y
+joined-place s steps AxisU w twice k x y h =
+    ap (λ (p : Point). vRule s (uRule s p)) (seam-closing s steps AxisU w x y) ∙ ap (vRule s) (seam-stays s steps AxisU w x y) ∙ closing-stays s steps AxisU w x y
+joined-place s steps AxisV w once k x y h = closing-seam s steps AxisV w k x y h
+joined-place s steps AxisV w twice k x y h =
+    ap (λ (p : Point). vRule s (uRule s (vRule s p))) (closing-rule s AxisV x y (w .plain))
+    ∙ ap (vRule s) (seam-closing s steps AxisV w x (wrap (joined (s .su)) (s .M) y) ∙ closed-first s steps AxisV w x y)
+    ∙ seam-stays s steps AxisV w x y
 
 -- a corner is where both rules lead; before row N−1, where the u rule leads
 corner-once : (s : Shape) (row : ℕ) (p q : Point) → vRule s (uRule s p) ≡ q → ((row + 1 ≡ s .N → ⊥) → uRule s p ≡ q) → cornerBy once s row p ≡ q
@@ -203,12 +206,12 @@ twice-corner s row p = refl
 corner-place : (s : Shape) (steps : HasSteps s) (a : Axis) (w : SeenAlong a s) (r : Rule) →
     KeepsInside r (seamOf a s) (joined (closing a s)) (rows a s) → (row u v : ℕ) → row < s .N → v ≤ row + 1 → u ≤ s .M →
     cornerBy r s row (at u v) ≡ place s steps a w (xOf a u v) (yOf a u v)
-corner-place s steps axisU w once k row u v h i l =
-    corner-once s row (at u v) (place s steps axisU w u v) (seam-closing s steps axisU w u v) (λ e. seam-alone s steps axisU w k u v (omega arith))
-corner-place s steps axisV w once k row u v h i l =
-    corner-once s row (at u v) (place s steps axisV w v u) (closing-seam s steps axisV w k v u l) (λ e. closing-alone s steps axisV w v u (omega arith))
-corner-place s steps axisU w twice k row u v h i l = twice-corner s row (at u v) ∙ joined-place s steps axisU w twice k u v (omega arith)
-corner-place s steps axisV w twice k row u v h i l = twice-corner s row (at u v) ∙ joined-place s steps axisV w twice k v u l
+corner-place s steps AxisU w once k row u v h i l =
+    corner-once s row (at u v) (place s steps AxisU w u v) (seam-closing s steps AxisU w u v) (λ e. seam-alone s steps AxisU w k u v (omega arith))
+corner-place s steps AxisV w once k row u v h i l =
+    corner-once s row (at u v) (place s steps AxisV w v u) (closing-seam s steps AxisV w k v u l) (λ e. closing-alone s steps AxisV w v u (omega arith))
+corner-place s steps AxisU w twice k row u v h i l = twice-corner s row (at u v) ∙ joined-place s steps AxisU w twice k u v (omega arith)
+corner-place s steps AxisV w twice k row u v h i l = twice-corner s row (at u v) ∙ joined-place s steps AxisV w twice k v u l
 
 -- J of a grid point is the strip's point
 pub J-is : (s : Shape) (steps : HasSteps s) (a : Axis) (w : SeenAlong a s) (x y : ℕ) → y ≤ rows a s →
@@ -220,5 +223,5 @@ J-is s steps a w x y h = ap (number s) (joined-place s steps a w (s .rule) (w .i
 pub corner-is : (s : Shape) (steps : HasSteps s) (a : Axis) (w : SeenAlong a s) (u v : ℕ) → u < s .M → v < s .N → (i j : Bool) →
     cellCorners s u v i j ≡ corners (strip s steps a w) (xOf a u v) (yOf a u v) (xOf a i j) (yOf a i j)
 unfolding corner pointOf strip place
-corner-is s steps axisU w u v h k i j = ap (number s) (corner-place s steps axisU w (s .rule) (w .inside) v (shift i u) (shift j v) k (shift-le j v) (omega (arith, shift-le i u)))
-corner-is s steps axisV w u v h k i j = ap (number s) (corner-place s steps axisV w (s .rule) (w .inside) v (shift i u) (shift j v) k (shift-le j v) (omega (arith, shift-le i u)))
+corner-is s steps AxisU w u v h k i j = ap (number s) (corner-place s steps AxisU w (s .rule) (w .inside) v (shift i u) (shift j v) k (shift-le j v) (omega (arith, shift-le i u)))
+corner-is s steps AxisV w u v h k i j = ap (number s) (corner-place s steps AxisV w (s .rule) (w .inside) v (shift i u) (shift j v) k (shift-le j v) (omega (arith, shift-le i u)))

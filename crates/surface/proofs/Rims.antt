@@ -1,12 +1,12 @@
 -- The rims and the edges of a strip, as 01 words them: a rim's sides are those between neighbouring points of its first or last column or row,
--- and every edge between neighbouring grid points, or along a cell's diagonal, is a side of some cell. Assumes nothing.
+-- and every edge between neighbouring grid points, or along a cell's diagonal, is a side of some cell.
 use Prim.Native.Nat.{ℕ, _+_, _-_, _≤_, _<_}
 use mathlib.Core.Path.{_≡_, refl}
 use mathlib.Core.Logic.{_⊎_, inl, inr, ⊎-elim}
 use mathlib.Core.Bool.{Bool, true, false}
 use native.Mathlib.Omega.{arith}
+use Rattle.basics.proofs.Numbers.{lt-or-le}
 use Rattle.surface.specs.Surface.{unjoined, Split, falling, rising, Same}
-use Rattle.surface.proofs.Steps.{lt-or-le}
 use Rattle.surface.proofs.Strip.{Strip, Kind, straight, across, diagonal, pointOf}
 use Rattle.surface.proofs.CellSides.{Cell, shift, shift-le, corners, endsOf, sideFrom, sideTo, RimAt}
 use Rattle.surface.proofs.Owners.{same-sym, same-trans, SideAt, side-flip, OnRim}

@@ -1,10 +1,12 @@
 -- A surface seen along an axis: its triangles, rims, edges and flipped pairs are those of the strip, with u and v in their places or exchanged.
--- Assumes nothing.
+--
 use Prim.Native.Nat.{ℕ, _-_, _≤_, _<_}
 use mathlib.Core.Path.{_≡_, sym, ap, _∙_}
 use mathlib.Core.Logic.{inl, inr, ⊎-elim}
 use mathlib.Core.Bool.{Bool, true, false, not, true≢false, cond}
 use mathlib.Core.List.{[]}
+use Rattle.param.specs.declared.Axis.{Axis}
+use Rattle.param.specs.declared.Axis.the-variants.{AxisU, AxisV}
 use Rattle.surface.specs.Surface.{Seam, unjoined, joined, reversed, Split, falling, rising, Shape, J, halfOf, Follows, Rim, GridEdge, along-u, along-v, falls, rises, process, flipped, lowU, highU, lowV, highV}
 use Rattle.surface.proofs.Strip.{Strip, Kind, straight, across, diagonal, pointOf}
 use Rattle.surface.proofs.CellSides.{Cell, corners, endsOf, sideFrom, sideTo}
@@ -13,7 +15,7 @@ use Rattle.surface.proofs.Rims.{Numbered, EdgeAt, edge-flip, rim-to, ri
 use Rattle.surface.proofs.Directions.{Runs, along-ends, ends-along}
 use Rattle.surface.proofs.Triangles.{halfNum, index}
 use Rattle.surface.proofs.Halves.{cellDir, start, finish, cellCorners, follows-run, run-follows, lowU-index, highU-index, lowV-index, highV-index}
-use Rattle.surface.proofs.Axes.{Axis, axisU, axisV, columns, rows, seamOf, closing, xOf, yOf, kindOf, turn-kind, sideHalf, sideDir, Plain, SeenAlong, HasSteps, strip}
+use Rattle.surface.proofs.Axes.{columns, rows, seamOf, closing, xOf, yOf, kindOf, turn-kind, sideHalf, sideDir, Plain, SeenAlong, HasSteps, strip}
 use Rattle.surface.proofs.Points.{J-is, corner-is}
 
 -- ---- runs along a cell's sides
@@ -31,14 +33,14 @@ run-not false p q = (q, p)
 run-is : (c c′ : Bool → Bool → ℕ) (a : Axis) → ((i j : Bool) → c i j ≡ c′ (xOf a i j) (yOf a i j)) → (d : Split) (k : Kind) (t : Bool) →
     (start (cellDir (kindOf a k) t) (endsOf c (kindOf a k) d t) ≡ start (sideDir a d k t) (endsOf c′ k d t))
     × (finish (cellDir (kindOf a k) t) (endsOf c (kindOf a k) d t) ≡ finish (sideDir a d k t) (endsOf c′ k d t))
-run-is c c′ axisU e d straight t = run-same t (e t false) (e t true)
-run-is c c′ axisU e d across t = run-same (not t) (e false t) (e true t)
-run-is c c′ axisU e falling diagonal t = run-same t (e false true) (e true false)
-run-is c c′ axisU e rising diagonal t = run-same t (e false false) (e true true)
-run-is c c′ axisV e d straight t = run-same (not t) (e false t) (e true t)
-run-is c c′ axisV e d across t = run-same t (e t false) (e t true)
-run-is c c′ axisV e falling diagonal t = run-not t (e false true) (e true false)
-run-is c c′ axisV e rising diagonal t = run-same t (e false false) (e true true)
+run-is c c′ AxisU e d straight t = run-same t (e t false) (e t true)
+run-is c c′ AxisU e d across t = run-same (not t) (e false t) (e true t)
+run-is c c′ AxisU e falling diagonal t = run-same t (e false true) (e true false)
+run-is c c′ AxisU e rising diagonal t = run-same t (e false false) (e true true)
+run-is c c′ AxisV e d straight t = run-same (not t) (e false t) (e true t)
+run-is c c′ AxisV e d across t = run-same t (e t false) (e t true)
+run-is c c′ AxisV e falling diagonal t = run-not t (e false true) (e true false)
+run-is c c′ AxisV e rising diagonal t = run-same t (e false false) (e true true)
 
 -- a plain seam that is not joined is unjoined, and none is reversed
 plain-open : (m : Seam) → Plain m → joined m ≡ false → m ≡ unjoined
@@ -51,32 +53,32 @@ plain-reversed m (inr e) = ap reversed e
 
 -- the slots of the strip's first and last column
 abbrev pub lows : Axis → Shape → ℕ → ℕ
-lows axisU s = lowU s
-lows axisV s = lowV s
+lows AxisU s = lowU s
+lows AxisV s = lowV s
 
 abbrev pub highs : Axis → Shape → ℕ → ℕ
-highs axisU s = highU s
-highs axisV s = highV s
+highs AxisU s = highU s
+highs AxisV s = highV s
 
 pub low-index : (s : Shape) (a : Axis) (y : ℕ) → lows a s y ≡ index s (sideHalf a (s .split) straight false) (xOf a 0 y) (yOf a 0 y)
-low-index s axisU y = lowU-index s y
-low-index s axisV y = lowV-index s y
+low-index s AxisU y = lowU-index s y
+low-index s AxisV y = lowV-index s y
 
 pub high-index : (s : Shape) (a : Axis) (y : ℕ) → highs a s y ≡ index s (sideHalf a (s .split) straight true) (xOf a (columns a s - 1) y) (yOf a (columns a s - 1) y)
-high-index s axisU y = highU-index s y
-high-index s axisV y = highV-index s y
+high-index s AxisU y = highU-index s y
+high-index s AxisV y = highV-index s y
 
 -- ---- cells
 
 cell-seen : (s : Shape) (steps : HasSteps s) (a : Axis) (w : SeenAlong a s) (u v : ℕ) → u < s .M → v < s .N → Cell (strip s steps a w) (xOf a u v) (yOf a u v)
 unfolding strip
-cell-seen s steps axisU w u v h k = (h, k)
-cell-seen s steps axisV w u v h k = (k, h)
+cell-seen s steps AxisU w u v h k = (h, k)
+cell-seen s steps AxisV w u v h k = (k, h)
 
 pub seen-cell : (s : Shape) (steps : HasSteps s) (a : Axis) (w : SeenAlong a s) (x y : ℕ) → Cell (strip s steps a w) x y → (xOf a x y < s .M) × (yOf a x y < s .N)
 unfolding strip
-seen-cell s steps axisU w x y c = (c .0, c .1)
-seen-cell s steps axisV w x y c = (c .1, c .0)
+seen-cell s steps AxisU w x y c = (c .0, c .1)
+seen-cell s steps AxisV w x y c = (c .1, c .0)
 
 -- ---- triangles, rims, edges and flipped pairs
 
@@ -123,31 +125,31 @@ module _ (s : Shape) (steps : HasSteps s) (a : Axis) (w : SeenAlong a s) where
 -- 01's rims are the strip's, and its edges are sides of the strip's cells
 pub rim-seen : (s : Shape) (steps : HasSteps s) (a : Axis) (w : SeenAlong a s) (p q : ℕ) → Rim s p q → OnRim (strip s steps a w) p q
 unfolding strip
-rim-seen s steps axisU w p q (inl r) = rim-to (by-J s steps axisU w) p q (inl r)
-rim-seen s steps axisU w p q (inr r) = rim-to (by-J s steps axisU w) p q (inr (ap joined (r .0), r .1))
-rim-seen s steps axisV w p q (inl r) = rim-to (by-J s steps axisV w) p q (inr (ap joined (r .0), r .1))
-rim-seen s steps axisV w p q (inr r) = rim-to (by-J s steps axisV w) p q (inl r)
+rim-seen s steps AxisU w p q (inl r) = rim-to (by-J s steps AxisU w) p q (inl r)
+rim-seen s steps AxisU w p q (inr r) = rim-to (by-J s steps AxisU w) p q (inr (ap joined (r .0), r .1))
+rim-seen s steps AxisV w p q (inl r) = rim-to (by-J s steps AxisV w) p q (inr (ap joined (r .0), r .1))
+rim-seen s steps AxisV w p q (inr r) = rim-to (by-J s steps AxisV w) p q (inl r)
 
 pub seen-rim : (s : Shape) (steps : HasSteps s) (a : Axis) (w : SeenAlong a s) (p q : ℕ) → OnRim (strip s steps a w) p q → Rim s p q
 unfolding strip
-seen-rim s steps axisU w p q r = ⊎-elim (λ z. inl z) (λ z. inr (plain-open (s .sv) (w .plain) (z .0), z .1)) (rim-from (by-J s steps axisU w) p q r)
-seen-rim s steps axisV w p q r = ⊎-elim (λ z. inr z) (λ z. inl (plain-open (s .su) (w .plain) (z .0), z .1)) (rim-from (by-J s steps axisV w) p q r)
+seen-rim s steps AxisU w p q r = ⊎-elim (λ z. inl z) (λ z. inr (plain-open (s .sv) (w .plain) (z .0), z .1)) (rim-from (by-J s steps AxisU w) p q r)
+seen-rim s steps AxisV w p q r = ⊎-elim (λ z. inr z) (λ z. inl (plain-open (s .su) (w .plain) (z .0), z .1)) (rim-from (by-J s steps AxisV w) p q r)
 
 pub edge-seen : (s : Shape) (steps : HasSteps s) (a : Axis) (w : SeenAlong a s) (i j i′ j′ : ℕ) → GridEdge s i j i′ j′ →
     EdgeAt (strip s steps a w) (J s i j) (J s i′ j′)
 unfolding strip
-edge-seen s steps axisU w i j i′ j′ (along-u {u} {v} h k) = edge-across (by-J s steps axisU w) u v h k
-edge-seen s steps axisU w i j i′ j′ (along-v {u} {v} h k) = edge-straight (by-J s steps axisU w) u v h k
-edge-seen s steps axisU w i j i′ j′ (falls {u} {v} h k e) = edge-falling (by-J s steps axisU w) u v h k e
-edge-seen s steps axisU w i j i′ j′ (rises {u} {v} h k e) = edge-rising (by-J s steps axisU w) u v h k e
-edge-seen s steps axisV w i j i′ j′ (along-u {u} {v} h k) = edge-straight (by-J s steps axisV w) v u k h
-edge-seen s steps axisV w i j i′ j′ (along-v {u} {v} h k) = edge-across (by-J s steps axisV w) v u k h
-edge-seen s steps axisV w i j i′ j′ (falls {u} {v} h k e) = edge-flip (edge-falling (by-J s steps axisV w) v u k h e)
-edge-seen s steps axisV w i j i′ j′ (rises {u} {v} h k e) = edge-rising (by-J s steps axisV w) v u k h e
+edge-seen s steps AxisU w i j i′ j′ (along-u {u} {v} h k) = edge-across (by-J s steps AxisU w) u v h k
+edge-seen s steps AxisU w i j i′ j′ (along-v {u} {v} h k) = edge-straight (by-J s steps AxisU w) u v h k
+edge-seen s steps AxisU w i j i′ j′ (falls {u} {v} h k e) = edge-falling (by-J s steps AxisU w) u v h k e
+edge-seen s steps AxisU w i j i′ j′ (rises {u} {v} h k e) = edge-rising (by-J s steps AxisU w) u v h k e
+edge-seen s steps AxisV w i j i′ j′ (along-u {u} {v} h k) = edge-straight (by-J s steps AxisV w) v u k h
+edge-seen s steps AxisV w i j i′ j′ (along-v {u} {v} h k) = edge-across (by-J s steps AxisV w) v u k h
+edge-seen s steps AxisV w i j i′ j′ (falls {u} {v} h k e) = edge-flip (edge-falling (by-J s steps AxisV w) v u k h e)
+edge-seen s steps AxisV w i j i′ j′ (rises {u} {v} h k e) = edge-rising (by-J s steps AxisV w) v u k h e
 
 -- only the strip's seam can be reversed
 pub flipped-seen : (s : Shape) (a : Axis) → Plain (closing a s) →
     flipped s ≡ cond (reversed (seamOf a s)) (process s (seamOf a s) (rows a s) (lows a s) (highs a s) (rows a s) []) []
 unfolding flipped
-flipped-seen s axisU w = rw (plain-reversed (s .sv) w)
-flipped-seen s axisV w = rw (plain-reversed (s .su) w)
+flipped-seen s AxisU w = rw (plain-reversed (s .sv) w)
+flipped-seen s AxisV w = rw (plain-reversed (s .su) w)

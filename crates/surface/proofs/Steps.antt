@@ -1,13 +1,14 @@
 -- Steps along a row, and what a seam does to them. The inverse image carries the two ends of step y of row b to the two ends of one step of row a,
 -- `laidOn`: in their order if the seam is forward, the other way round if it is reversed (`adj-forward`, `adj-reverse`). Every step of row a is
--- met by exactly one of row b (`on-inj`, `on-back`). Assumes nothing.
+-- met by exactly one of row b (`on-inj`, `on-back`).
 use Prim.Native.Nat.{ℕ, zero, suc, _+_, _-_, _≤_, _<_}
 use mathlib.Core.Path.{_≡_, refl, sym, ap, _∙_}
 use mathlib.Core.Logic.{_⊎_, inl, inr, ⊎-elim}
 use mathlib.Core.Bool.{Bool, true, false, _&&_, cond}
 use native.Mathlib.Omega.{arith}
 use lib.Dec.{eqb, ltb}
-use borrow.Author.Tests.{eqb-true, eqb-false, ltb-true, ltb-false, lt-ltb, le-ltb}
+use borrow.Author.Tests.{lt-ltb, le-ltb}
+use Rattle.basics.proofs.Numbers.{eqb-cases, lt-or-le}
 use Rattle.cyclic.specs.Mapping as mapping
 use Rattle.cyclic.proofs.Mappings.{three, inverse-at, reverse-at, reverse-same}
 use Rattle.surface.specs.Surface.{Seam, unjoined, forward, reverse, inverse}
@@ -18,21 +19,6 @@ four (inl a) (inl c) f g h k = f a c
 four (inl a) (inr d) f g h k = g a d
 four (inr b) (inl c) f g h k = h b c
 four (inr b) (inr d) f g h k = k b d
-
--- a test with what it says
-pub eqb-cases : (a b : ℕ) → ((eqb a b ≡ true) × (a ≡ b)) ⊎ ((eqb a b ≡ false) × (a ≡ b → ⊥))
-eqb-cases a b = go (eqb a b) refl
-  where
-    go : (t : Bool) → eqb a b ≡ t → ((eqb a b ≡ true) × (a ≡ b)) ⊎ ((eqb a b ≡ false) × (a ≡ b → ⊥))
-    go true e = inl (e, eqb-true a b e)
-    go false e = inr (e, eqb-false a b e)
-
-pub lt-or-le : (a b : ℕ) → (a < b) ⊎ (b ≤ a)
-lt-or-le a b = go (ltb a b) refl
-  where
-    go : (t : Bool) → ltb a b ≡ t → (a < b) ⊎ (b ≤ a)
-    go true e = inl (ltb-true a b e)
-    go false e = inr (ltb-false a b e)
 
 -- ---- a row of n steps, closed or open
 

@@ -1,5 +1,5 @@
 -- The list of triangles: a slot emits one at most; slot 2·(u·N + v) + h is half h of cell (u, v) and no other; and where every slot emits its
--- triangle, slot i is triangle i. Assumes nothing.
+-- triangle, slot i is triangle i.
 use Prim.Native.Nat.{ℕ, zero, suc, _+_, _*_, _/_, _%_, _≤_, _<_}
 use mathlib.Core.Path.{_≡_, refl, sym, _∙_}
 use mathlib.Core.Logic.{⊎-elim}
@@ -13,8 +13,8 @@ use lib.Seq.{getD-at}
 use lib.ListN.{length, length-append, List·getD-append}
 use borrow.Author.Tests.{eq-eqb, ne-eqb}
 use Rattle.basics.proofs.Tests.{cond-keeps}
+use Rattle.basics.proofs.Numbers.{eqb-cases, lt-or-le}
 use Rattle.surface.specs.Surface.{Shape, tri, halfOf, slot, slots, proper, kept, triangles, triangleNumber, nth}
-use Rattle.surface.proofs.Steps.{eqb-cases, lt-or-le}
 
 -- ---- of any shape
 

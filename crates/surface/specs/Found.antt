@@ -1,11 +1,11 @@
 -- The surface of a grid: the seams that the search finds in it, the joined surface that they make, and demand 3 of its lists (01, "Joining and
--- triangles", "Joinings that demand 3 covers"). Assumes nothing.
+-- triangles", "Joinings that demand 3 covers").
 use Prim.Native.Nat.{ℕ, _+_, _<_}
 use mathlib.Core.Path.{_≡_}
 use mathlib.Core.Logic.{_⊎_}
 use mathlib.Core.List.{List}
 use lib.Ieee.{Float}
-use Rattle.vector.specs.Vectors.{allClose}
+use Rattle.float.specs.Consts.{eps}
 use Rattle.grid.specs.Grid.{pointNumber, pointAt, Accepted}
 use Rattle.cyclic.specs.declared.mapping.CyclicMapping.{CyclicMapping}
 use Rattle.cyclic.specs.declared.mapping.CyclicMapping.the-variants.{Forward, Reverse}
@@ -13,7 +13,7 @@ use Rattle.cyclic.specs.declared.seam.Seam.{Seam}
 use Rattle.cyclic.specs.declared.seam.Seam.the-variants.{Joined, Unjoined}
 use Rattle.cyclic.specs.declared.seam.SeamSearch.{SeamSearch}
 use Rattle.cyclic.specs.Mapping.{offsetOf, stepsOf}
-use Rattle.cyclic.specs.Search.{Row, search}
+use Rattle.cyclic.specs.Search.{Row, closeAt, search}
 use Rattle.surface.specs.Surface as surface
 
 -- the points with u fixed, by v, and those with v fixed, by u
@@ -25,10 +25,10 @@ row g n v u = pointAt g (pointNumber n u v)
 
 -- "The u seam compares column u=0 as a with u=M as b; the v seam row v=0 with v=N."
 unfoldable pub uSearch : List Float → ℕ → ℕ → SeamSearch
-uSearch g m n = search allClose (column g n 0) (column g n m) (n + 1) (n + 1)
+uSearch g m n = search (closeAt eps) (column g n 0) (column g n m) (n + 1) (n + 1)
 
 unfoldable pub vSearch : List Float → ℕ → ℕ → SeamSearch
-vSearch g m n = search allClose (row g n 0) (row g n n) (m + 1) (m + 1)
+vSearch g m n = search (closeAt eps) (row g n 0) (row g n n) (m + 1) (m + 1)
 
 -- a seam's answer as a surface holds it: without the steps, which are its row's
 abbrev pub ofMapping : CyclicMapping → surface.Seam

@@ -22,7 +22,8 @@ use Rattle.float.proofs.Differences.{sub-self}
 use Rattle.refusal.specs.declared.Check.the-variants.{Passed}
 use Rattle.refusal.specs.declared.Refusal.the-variants.{Direction, NotThere}
 use Rattle.refusal.specs.Refusals.{ok, unless}
-use Rattle.grid.proofs.Laws.{Stepped, steps-known, unless-passed}
+use Rattle.refusal.proofs.Laws.{unless-passed}
+use Rattle.grid.proofs.Laws.{Stepped, steps-known}
 use Rattle.param.specs.Param.{param}
 use Rattle.param.specs.declared.ParamPoint.{ParamPoint}
 use Rattle.texture.specs.declared.plan.ParametricSurfaceTexture.{ParametricSurfaceTexture}

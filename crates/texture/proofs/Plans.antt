@@ -1,4 +1,4 @@
--- `raysOf`, `samplesPerRay` and `plan` by the cases of the code, from what the calls gave. Assumes nothing.
+-- `raysOf`, `samplesPerRay` and `plan` by the cases of the code, from what the calls gave.
 use mathlib.Core.Path.{_≡_, refl, sym}
 use mathlib.Core.Bool.{Bool, true, false, _&&_}
 use Prim.Native.Nat.{ℕ, max}
@@ -10,7 +10,7 @@ use Rattle.refusal.specs.declared.Check.the-variants.{Passed, Failed}
 use Rattle.refusal.specs.Refusals.{Answer, ok, refused, unless, passing}
 use Rattle.refusal.specs.declared.Refusal.the-variants.{Steps, Texture, Count}
 use Rattle.grid.specs.Grid.{stepsFit}
-use Rattle.grid.proofs.Laws.{unless-passed}
+use Rattle.refusal.proofs.Laws.{unless-passed}
 use Rattle.texture.specs.declared.plan.ParametricSurfaceTexture.{ParametricSurfaceTexture}
 use Rattle.texture.specs.declared.plan.ParametricSurfaceTexture.the-variants.{Swirl, Spiral}
 use Rattle.texture.specs.Plan.{textureSpacing, swirlRays, radialSampleCount, spiralSampleCount, raysOf, samplesPerRay, textureFits, maxCount, countsFit, planCheck, Plan, planOf, plan}

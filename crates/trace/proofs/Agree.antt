@@ -8,7 +8,7 @@ use native.Mathlib.Omega.{arith}
 use lib.Dec.{ltb, leb}
 use lib.ListN.{length}
 use lib.Ieee.{Float}
-use Rattle.float.specs.Consts.{zero64}
+use Rattle.float.specs.Consts.{eps, zero64}
 use Rattle.refusal.specs.declared.Refusal.the-variants.{Full}
 use Rattle.lent.specs.Lent.{filled, zeroedFrom, afterwards}
 use Rattle.lent.proofs.Laws.{zeroed-filled}
@@ -16,8 +16,8 @@ use Rattle.lent.proofs.After.{same-answer, same-lists}
 use Rattle.param.specs.declared.Cells.{Cells}
 use Rattle.crossing.specs.declared.Crossing.{Crossing}
 use Rattle.page.specs.declared.Penned.{Penned}
-use Rattle.page.specs.Moves.{Move, flush, Outcome, on, off, follow, run}
-use Rattle.page.specs.Page.{Lists, lists, Page, penAt, page, pushPage, flushPage, pageAfter}
+use Rattle.page.specs.Moves.{Move, flush, Outcome, on, off, follow}
+use Rattle.page.specs.Page.{Lists, lists, Page, penAt, page, pushPage, flushPage, onPage, pageAfter}
 use Rattle.page.proofs.Moves.{run-append, run-one, Any, any-pushed, Related, both-on, both-off, run-related}
 use Rattle.trace.specs.declared.curve.Previous.{Previous}
 use Rattle.trace.specs.Curve.{Sample, afterSample, visitOf, visitMoves, traceMoves}
@@ -47,11 +47,11 @@ first-shows l =
     }
 
 -- both, from the first move to the last
-moves-related : (l : Lists) (ms : List (Move Crossing)) → Related (Shows l) (SizedPage l) (run pushPage flushPage ms (firstPage l)) (draw (roomIn l) ms nothingDrawn)
+moves-related : (l : Lists) (ms : List (Move Crossing)) → Related (Shows l) (SizedPage l) (onPage ms (firstPage l)) (draw (roomIn l) ms nothingDrawn)
 moves-related l ms =
-    run-related Any (Shows l) (SizedPage l) pushPage flushPage (pushSegmentPoint (roomIn l)) (flushSegment (roomIn l))
+    run-related Any (Shows l) (SizedPage l) (pushPage eps) flushPage (pushSegmentPoint eps (roomIn l)) (flushSegment (roomIn l))
     (λ s t r. r .sized)
-    (λ c good s t r. push-related l s t r c)
+    (λ c good s t r. push-related l s t r eps c)
     (λ s t r. flush-related l s t r)
     (any-pushed ms) (firstPage l) nothingDrawn (first-shows l)
 
@@ -74,9 +74,9 @@ follow-ends (off r d) k h = tt
 
 trace-flushed : (room : Room) (g : List Float) (k : Cells) (xs : List Sample) (p : Previous) (d : Drawing) → NonePending (draw room (traceMoves g k xs p) d)
 unfolding traceMoves
-trace-flushed room g k [] p d = rw (run-one (pushSegmentPoint room) (flushSegment room) flush d) (flush-ends room d)
+trace-flushed room g k [] p d = rw (run-one (pushSegmentPoint eps room) (flushSegment room) flush d) (flush-ends room d)
 trace-flushed room g k (x ∷ xs) p d =
-    rw (run-append (pushSegmentPoint room) (flushSegment room) (visitMoves g k (visitOf p x)) (traceMoves g k xs (afterSample x)) d)
+    rw (run-append (pushSegmentPoint eps room) (flushSegment room) (visitMoves g k (visitOf p x)) (traceMoves g k xs (afterSample x)) d)
     (follow-ends (draw room (visitMoves g k (visitOf p x)) d) (draw room (traceMoves g k xs (afterSample x))) (trace-flushed room g k xs (afterSample x)))
 
 -- what the open call is left to do: zero each list past its count
@@ -111,6 +111,6 @@ ended l (both-off {s = g} h) e u =
 
 -- THE LAW: from what the inner walk ensures to what the open call promises
 pub trace-ends : (l : Lists) (g : List Float) (k : Cells) (xs : List Sample) (p : Previous) {r : Penned} {m : Lists}
-    → afterwards r m ≡ pageAfter (run pushPage flushPage (traceMoves g k xs p) (firstPage l))
+    → afterwards r m ≡ pageAfter (onPage (traceMoves g k xs p) (firstPage l))
     → afterwards (statedTrace (answerOf r)) (zeroedPast (countIn r) (linesIn r) m) ≡ finished (draw (roomIn l) (traceMoves g k xs p) nothingDrawn) l
 trace-ends l g k xs p u = ended l (moves-related l (traceMoves g k xs p)) (trace-flushed (roomIn l) g k xs p nothingDrawn) u

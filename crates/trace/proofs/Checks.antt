@@ -18,7 +18,8 @@ use Rattle.refusal.specs.declared.Refusal.the-variants.{Length, Mark, Sample}
 use Rattle.refusal.specs.Refusals.{unless, andThen}
 use Rattle.float.specs.Sign.{atMost}
 use Rattle.grid.specs.Grid.{gridCheck}
-use Rattle.grid.proofs.Laws.{Shaped, unless-passed, then-passed, grid-passed}
+use Rattle.refusal.proofs.Laws.{unless-passed, then-passed}
+use Rattle.grid.proofs.Laws.{Shaped, grid-passed}
 use Rattle.trace.specs.Trace.{samplesLengthFits, marksFit, maxSample, pairsFit, traceCheck}
 
 -- ---- the marks

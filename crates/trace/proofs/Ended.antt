@@ -15,8 +15,7 @@ use Rattle.param.specs.Param.{cells}
 use Rattle.crossing.specs.Crossing.{GridFits}
 use Rattle.page.specs.declared.Penned.{Penned}
 use Rattle.page.specs.declared.Penned.the-variants.{Down, Stop}
-use Rattle.page.specs.Moves.{run}
-use Rattle.page.specs.Page.{Lists, lists, pushPage, flushPage, pageAfter}
+use Rattle.page.specs.Page.{Lists, lists, onPage, pageAfter}
 use Rattle.page.proofs.Fits.{fits-down, moves-fit}
 use Rattle.trace.specs.declared.curve.Previous.the-variants.{Nowhere}
 use Rattle.trace.specs.declared.flat.Trace.{Trace}
@@ -40,7 +39,7 @@ module _ (g : List Float) (m n : ℕ) (pairs : List Float) (marks : List ℕ) wh
     unfolding traceFlat
     refused-before ec ek = rw (← ec, ek)
 
-    module _ {r : Penned} {w : Lists} (u : afterwards r w ≡ pageAfter (run pushPage flushPage (traceMoves g (cells m n) (samplesOf marks pairs) Nowhere) (firstPage l))) where
+    module _ {r : Penned} {w : Lists} (u : afterwards r w ≡ pageAfter (onPage (traceMoves g (cells m n) (samplesOf marks pairs) Nowhere) (firstPage l))) where
       -- there is room for the points that are counted
       pub counted : 3 * countIn r ≤ length (w .points)
       counted = go r refl
@@ -48,7 +47,7 @@ module _ (g : List Float) (m n : ℕ) (pairs : List Float) (marks : List ℕ) wh
           go : (o : Penned) → r ≡ o → 3 * countIn o ≤ length (w .points)
           go (Down pen) e =
               let fits = moves-fit (traceMoves g (cells m n) (samplesOf marks pairs) Nowhere) (firstPage l) (omega arith, omega arith) in
-              fits-down (run pushPage flushPage (traceMoves g (cells m n) (samplesOf marks pairs) Nowhere) (firstPage l)) u e fits .1
+              fits-down (onPage (traceMoves g (cells m n) (samplesOf marks pairs) Nowhere) (firstPage l)) u e fits .1
           go (Stop k) e = omega arith
 
       -- the lists that a walk left, zeroed past its counts

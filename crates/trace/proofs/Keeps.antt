@@ -6,6 +6,7 @@ use Prim.Native.Nat.{ℕ, _+_, _≤_}
 use lib.Dec.{ltb, leb}
 use lib.ListN.{length}
 use borrow.Author.Tests.{leb-true}
+use Rattle.float.specs.Consts.{eps}
 use Rattle.refusal.specs.declared.Refusal.the-variants.{Full}
 use Rattle.crossing.specs.declared.Crossing.{Crossing}
 use Rattle.page.specs.Moves.{Move, Outcome, on, off}
@@ -24,9 +25,9 @@ module _ (P : Drawing → Type 0) (Good : Crossing → Type 0)
     (dropped : (d : Drawing) → P d → P (drawing (d .drawn) (d .starts) []))
     (room : Room)
   where
-    push-keeps : (c : Crossing) → Good c → (d : Drawing) → P d → Holding P (pushSegmentPoint room c d)
+    push-keeps : (c : Crossing) → Good c → (d : Drawing) → P d → Holding P (pushSegmentPoint eps room c d)
     unfolding pushSegmentPoint
-    push-keeps c good d h = go (closeToLast (d .segment) c) (ltb (length (d .drawn) + length (d .segment)) (room .points))
+    push-keeps c good d h = go (closeToLast eps (d .segment) c) (ltb (length (d .drawn) + length (d .segment)) (room .points))
       where
         go : (a b : Bool) → Holding P (cond a (on d) (cond b (on (drawing (d .drawn) (d .starts) (d .segment ++ (c ∷ [])))) (off Full d)))
         go true b = h
@@ -44,4 +45,4 @@ module _ (P : Drawing → Type 0) (Good : Crossing → Type 0)
         go false b e = dropped d h
 
     pub draw-keeps : {ms : List (Move Crossing)} → AllPushed Good ms → Holding P (draw room ms nothingDrawn)
-    draw-keeps good = run-keeps Good (Holding P) (pushSegmentPoint room) (flushSegment room) (λ k d h. tt) push-keeps flush-keeps good nothingDrawn start
+    draw-keeps good = run-keeps Good (Holding P) (pushSegmentPoint eps room) (flushSegment room) (λ k d h. tt) push-keeps flush-keeps good nothingDrawn start

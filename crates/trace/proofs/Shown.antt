@@ -124,10 +124,10 @@ last-view (c ∷ cs) = go (last-view cs)
     go (inr w) = inr (c ∷ w .0, w .1, rw (w .2))
 
 -- closeness to the last point, where that is known
-close-last : (ys : List Crossing) (y c : Crossing) → closeToLast (ys ++ (y ∷ [])) c ≡ allClose (y .point) (c .point)
-close-last [] y c = refl
-close-last (a ∷ []) y c = refl
-close-last (a ∷ (b ∷ ys)) y c = close-last (b ∷ ys) y c
+close-last : (tolerance : Float) (ys : List Crossing) (y c : Crossing) → closeToLast tolerance (ys ++ (y ∷ [])) c ≡ allClose (y .point) (c .point) tolerance
+close-last tolerance [] y c = refl
+close-last tolerance (a ∷ []) y c = refl
+close-last tolerance (a ∷ (b ∷ ys)) y c = close-last tolerance (b ∷ ys) y c
 
 -- the point that stands last in a list is the last point
 last-point : (l : List Float) (cs : List Crossing) (c : Crossing) → Holds 3 pointOf l (cs ++ (c ∷ [])) → pointAt l (length cs) ≡ c .point
@@ -155,12 +155,12 @@ write-side l c {i} {k} e =
 write-fraction : (l : List Float) (c : Crossing) {i k : ℕ} → i ≡ k → set l i (c .t) ≡ sets l (1 * k) (fractionOf c)
 write-fraction l c {i} {k} e = let e0 : i ≡ 1 * k = omega arith in rw e0
 
-module _ (l : Lists) (g : Page) (d : Drawing) (h : Shows l g d) (c : Crossing) where
+module _ (l : Lists) (g : Page) (d : Drawing) (h : Shows l g d) (tolerance : Float) (c : Crossing) where
   -- closeness to the last pending point, by the list and by the drawing
-  close-same : closeToPending c g ≡ closeToLast (d .segment) c
+  close-same : closeToPending tolerance c g ≡ closeToLast tolerance (d .segment) c
   close-same = go (last-view (d .segment))
     where
-      go : (d .segment ≡ []) ⊎ HasLast (d .segment) → closeToPending c g ≡ closeToLast (d .segment) c
+      go : (d .segment ≡ []) ⊎ HasLast (d .segment) → closeToPending tolerance c g ≡ closeToLast tolerance (d .segment) c
       go (inl e) =
           let none : g .pen .count ≤ g .pen .start = omega (arith, h .count, h .start, ap length e) in
           rw (le-ltb (g .pen .start) (g .pen .count) none, e)
@@ -171,7 +171,7 @@ module _ (l : Lists) (g : Page) (d : Drawing) (h : Shows l g d) (c : Crossing) w
           let some : g .pen .start < g .pen .count = omega (arith, h .count, h .start) in
           let at : g .pen .count - 1 ≡ length (d .drawn ++ ys) = omega (arith, h .count, length-append (d .drawn) ys) in
           let last : Holds 3 pointOf (g .lists .points) ((d .drawn ++ ys) ++ (y ∷ [])) = rw append-assoc (rw (w .2) at (h .points)) in
-          rw (lt-ltb (g .pen .start) (g .pen .count) some, at, last-point (g .lists .points) (d .drawn ++ ys) y last, w .2, close-last ys y c)
+          rw (lt-ltb (g .pen .start) (g .pen .count) some, at, last-point (g .lists .points) (d .drawn ++ ys) y last, w .2, close-last tolerance ys y c)
 
   -- room for one point more, in each list
   room-same : hasRoom g ≡ ltb (length (d .drawn) + length (d .segment)) (roomIn l .points)
@@ -194,10 +194,10 @@ module _ (l : Lists) (g : Page) (d : Drawing) (h : Shows l g d) (c : Crossing) w
         starts = h .starts;
       }
 
-  pub push-related : Related (Shows l) (SizedPage l) (pushPage c g) (pushSegmentPoint (roomIn l) c d)
+  pub push-related : Related (Shows l) (SizedPage l) (pushPage tolerance c g) (pushSegmentPoint tolerance (roomIn l) c d)
   unfolding pushPage pushSegmentPoint
   push-related =
-      test-related (closeToPending c g) (closeToLast (d .segment) c) close-same
+      test-related (closeToPending tolerance c g) (closeToLast tolerance (d .segment) c) close-same
       (λ p. both-on h)
       (λ p. test-related (hasRoom g) (ltb (length (d .drawn) + length (d .segment)) (roomIn l .points)) room-same
       (λ q. both-on (written-shows (room-same ∙ q)))

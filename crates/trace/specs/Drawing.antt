@@ -4,6 +4,8 @@ use mathlib.Core.List.{List, [], _∷_, _++_}
 use Prim.Native.Nat.{ℕ, _+_}
 use lib.Dec.{ltb, leb}
 use lib.ListN.{length}
+use lib.Ieee.{Float}
+use Rattle.float.specs.Consts.{eps}
 use Rattle.refusal.specs.declared.Refusal.the-variants.{Full}
 use Rattle.vector.specs.Vectors.{allClose}
 use Rattle.crossing.specs.declared.Crossing.{Crossing}
@@ -30,16 +32,16 @@ pub record Room : Type 0 where
 abbrev pub roomIn : Lists → Room
 roomIn l = record { points = pointRoom l; lines = length (l .starts) }
 
--- the pending line's last point is close to c
-abbrev pub closeToLast : List Crossing → Crossing → Bool
-closeToLast [] c = false
-closeToLast (x ∷ []) c = allClose (x .point) (c .point)
-closeToLast (x ∷ (y ∷ ys)) c = closeToLast (y ∷ ys) c
+-- the pending line's last point is close to c by a tolerance
+abbrev pub closeToLast : Float → List Crossing → Crossing → Bool
+closeToLast tolerance [] c = false
+closeToLast tolerance (x ∷ []) c = allClose (x .point) (c .point) tolerance
+closeToLast tolerance (x ∷ (y ∷ ys)) c = closeToLast tolerance (y ∷ ys) c
 
 -- `push_segment_point`: a point close to the last one is left out; 12 where there is no room for it, pending points counted
-unfoldable pub pushSegmentPoint : Room → Crossing → Drawing → Outcome Drawing
-pushSegmentPoint room c d =
-    cond (closeToLast (d .segment) c) (on d)
+unfoldable pub pushSegmentPoint : Float → Room → Crossing → Drawing → Outcome Drawing
+pushSegmentPoint tolerance room c d =
+    cond (closeToLast tolerance (d .segment) c) (on d)
     (cond (ltb (length (d .drawn) + length (d .segment)) (room .points))
     (on (drawing (d .drawn) (d .starts) (d .segment ++ (c ∷ []))))
     (off Full d))
@@ -53,6 +55,6 @@ flushSegment room d =
     (off Full d))
     (on (drawing (d .drawn) (d .starts) []))
 
--- moves in order, from a drawing on
+-- moves in order, from a drawing on; points closer than EPS are left out
 abbrev pub draw : Room → List (Move Crossing) → Drawing → Outcome Drawing
-draw room = run (pushSegmentPoint room) (flushSegment room)
+draw room = run (pushSegmentPoint eps room) (flushSegment room)

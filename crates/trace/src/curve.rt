@@ -13,8 +13,7 @@ ghost use lib.Ieee.{nan};
 ghost use Rattle.lent.specs.Lent.{afterwards};
 ghost use Rattle.param.specs.Param.{param};
 ghost use Rattle.crossing.specs.Crossing.{GridFits};
-ghost use Rattle.page.specs.Moves.{run};
-ghost use Rattle.page.specs.Page.{lists, penAt, page, pushPage, flushPage, pageAfter, PenFits};
+ghost use Rattle.page.specs.Page.{lists, penAt, page, onPage, pageAfter, PenFits};
 ghost use Rattle.trace.specs.Curve.{sampleAt, samplesOf, afterSample, visitOf, visitMoves, traceMoves};
 
 // The most candidates of a leg: 2 ends, 256 U and 256 V lines, 509 diagonals.
@@ -83,7 +82,7 @@ fn trace_sample(
     requires { ⌜ GridFits (now grid) cells ⌝ }
     requires { ⌜ PenFits (now points) pen ⌝ }
     ensures { λ r. ⌜ afterwards r (lists (now (points .exit)) (now (starts .exit)) (now (sides .exit)) (now (fractions .exit)))
-        ≡ pageAfter (run pushPage flushPage (visitMoves (now (grid .entry)) cells visit)
+        ≡ pageAfter (onPage (visitMoves (now (grid .entry)) cells visit)
         (page (lists (now (points .entry)) (now (starts .entry)) (now (sides .entry)) (now (fractions .entry))) pen)) ⌝ }
 {
     match visit {
@@ -119,7 +118,7 @@ pub fn trace_parametric_edge_curve(
     requires { ⌜ GridFits (now grid) cells ⌝ }
     requires { ⌜ (length (now pairs) ≡ 2 * length (now marks)) × (length (now marks) ≤ 65537) ⌝ }
     ensures { λ r. ⌜ afterwards r (lists (now (points .exit)) (now (starts .exit)) (now (sides .exit)) (now (fractions .exit)))
-        ≡ pageAfter (run pushPage flushPage (traceMoves (now (grid .entry)) cells (samplesOf (now (marks .entry)) (now (pairs .entry))) Previous.Nowhere)
+        ≡ pageAfter (onPage (traceMoves (now (grid .entry)) cells (samplesOf (now (marks .entry)) (now (pairs .entry))) Previous.Nowhere)
         (page (lists (now (points .entry)) (now (starts .entry)) (now (sides .entry)) (now (fractions .entry))) (penAt 0 0 0))) ⌝ }
 {
     let mut lambdas = [0.0; MAX_EVENTS];

@@ -1,7 +1,6 @@
--- "A Vector holds three f64; the Vector operations keep their names and hand back a new Vector." One rounding per operation. Assumes nothing.
+-- "A Vector holds three f64; the Vector operations keep their names and hand back a new Vector." One rounding per operation.
 use mathlib.Core.Bool.{Bool}
 use lib.Ieee.{Float, binary64, lt, add, sub, mul}
-use Rattle.float.specs.Consts.{eps}
 use Rattle.float.specs.Sign.{absolute}
 use Rattle.float.specs.Order.{larger}
 use Rattle.vector.specs.declared.Vector.{Vector}
@@ -29,6 +28,6 @@ largest a = larger (larger (a .x) (a .y)) (a .z)
 abbrev pub absolutes : Vector → Vector
 absolutes a = vector (absolute (a .x)) (absolute (a .y)) (absolute (a .z))
 
--- "Closeness: the largest of the three absolute differences is below EPS"
-unfoldable pub allClose : Vector → Vector → Bool
-allClose a b = lt (largest (absolutes (minus a b))) eps
+-- "Closeness: the largest of the three absolute differences is below EPS", at any tolerance
+unfoldable pub allClose : Vector → Vector → Float → Bool
+allClose a b tolerance = lt (largest (absolutes (minus a b))) tolerance

@@ -1,10 +1,9 @@
 // A point or direction of three f64. The operations keep the source's names and hand back a new Vector.
 use float::consts::EPS;
 ghost use mathlib.Core.Path.{_≡_};
-ghost use mathlib.Core.Bool.{not, _||_};
-ghost use lib.Ieee.{lt, isNan};
+ghost use mathlib.Core.Bool.{_||_};
+ghost use lib.Ieee.{le, neg};
 ghost use Rattle.float.specs.Consts.{eps};
-ghost use Rattle.float.specs.Sign.{absolute};
 ghost use Rattle.vector.specs.Vectors.{plus, minus, scaled, allClose};
 
 pub struct Vector {
@@ -47,25 +46,25 @@ impl Vector {
     // Whether the largest of the three absolute differences is below EPS: none is EPS or more, and
     // not all are NaNs, which f64::max passes over.
     pub fn all_close(self, other: Vector) -> bool
-        ensures { λ r. ⌜ r ≡ allClose self other ⌝ }
+        ensures { λ r. ⌜ r ≡ allClose self other eps ⌝ }
     {
         let d = self.sub(other);
-        if apart(d.x) {
+        if apart(d.x, EPS) {
             return false;
         }
-        if apart(d.y) {
+        if apart(d.y, EPS) {
             return false;
         }
-        if apart(d.z) {
+        if apart(d.z, EPS) {
             return false;
         }
         (d.x == d.x) | (d.y == d.y) | (d.z == d.z)
     }
 }
 
-// Whether a difference is EPS or more in magnitude.
-fn apart(d: f64) -> bool
-    ensures { λ r. ⌜ r ≡ not (lt (absolute d) eps || isNan d) ⌝ }
+// Whether a difference is the tolerance or more in magnitude.
+fn apart(d: f64, tolerance: f64) -> bool
+    ensures { λ r. ⌜ r ≡ (le tolerance d || le d (neg tolerance)) ⌝ }
 {
-    (EPS <= d) | (d <= -EPS)
+    (tolerance <= d) | (d <= -tolerance)
 }

@@ -27,10 +27,9 @@ use Rattle.edges.proofs.Laws.{events-inside}
 use Rattle.page.specs.declared.Pen.{Pen}
 use Rattle.page.specs.declared.Penned.{Penned}
 use Rattle.page.specs.declared.Penned.the-variants.{Down, Stop}
-use Rattle.page.specs.Moves.{Outcome, on, off, follow, run}
-use Rattle.page.specs.Page.{Lists, Page, page, pushPage, flushPage, pageAfter}
-use Rattle.page.proofs.Follow.{down, stops}
-use Rattle.page.proofs.Moves.{run-append, run-none}
+use Rattle.page.specs.Moves.{Outcome, on, off, follow}
+use Rattle.page.specs.Page.{Lists, Page, page, flushPage, onPage, pageAfter}
+use Rattle.page.proofs.Follow.{down, stops, page-append, page-none}
 use Rattle.walk.specs.declared.Decision.{Decision}
 use Rattle.walk.specs.Walk.{nextLambda, decide, movesOf, endMoves, eventsMoves, legMoves}
 use Rattle.walk.proofs.Drawn.{end-run}
@@ -69,15 +68,15 @@ follow-follow (off r s) h k = refl
 module _ (g : List Float) (k : Cells) (l : Leg) where
   -- the line's end where the leg leaves the grid
   abbrev ending : Page → Outcome Page
-  ending = run pushPage flushPage (endMoves (paramInBounds k (l .b)))
+  ending = onPage (endMoves (paramInBounds k (l .b)))
 
   -- the events es, after one at `previous`, and the end
   abbrev pub left : List EdgeEvent → Float → Page → Outcome Page
-  left es previous w = follow (run pushPage flushPage (eventsMoves g k l previous es) w) ending
+  left es previous w = follow (onPage (eventsMoves g k l previous es) w) ending
 
-  pub leg-starts : (w : Page) {es : List EdgeEvent} → es ≡ sortedEdgeEvents k l → run pushPage flushPage (legMoves g k l) w ≡ left es zero64 w
+  pub leg-starts : (w : Page) {es : List EdgeEvent} → es ≡ sortedEdgeEvents k l → onPage (legMoves g k l) w ≡ left es zero64 w
   unfolding legMoves
-  leg-starts w e = rw e (run-append pushPage flushPage _ _ w)
+  leg-starts w e = rw e (page-append _ _ w)
 
   module _ (ls : List Float) (cs : List ℕ) (count i : ℕ) (h : count ≤ length ls) (s : length ls ≡ length cs) where
     -- the events from i on
@@ -86,20 +85,20 @@ module _ (g : List Float) (k : Cells) (l : Leg) where
 
     pub leg-ends : (previous : Float) (w : Page) → count ≤ i → left (rest i) previous w ≡ cond (paramInBounds k (l .b)) (on w) (flushPage w)
     unfolding eventsMoves
-    leg-ends previous w t = rw (ended ls cs count i h s t, run-none pushPage flushPage w) (end-run (paramInBounds k (l .b)) w)
+    leg-ends previous w t = rw (ended ls cs count i h s t, page-none w) (end-run (paramInBounds k (l .b)) w)
 
     module _ (t : i < count) (previous : Float) (w : Page) {v : EdgeEvent} {x : Float} {d : Decision}
         (ev : v ≡ eventOf (getD ls i nan) (getD cs i 0)) (ex : x ≡ cond (ltb (i + 1) count) (getD ls (i + 1) nan) one64) (ed : d ≡ decide g k l previous v x)
       where
         -- the event at i
         abbrev here : Outcome Page
-        here = run pushPage flushPage (movesOf d) w
+        here = onPage (movesOf d) w
 
         turn : left (rest i) previous w ≡ follow here (left (rest (i + 1)) (v .lambda))
         unfolding eventsMoves
         turn =
             let first : rest i ≡ v ∷ rest (i + 1) = rw ev (next-event ls cs count i s h t) in
-            rw (first, next-is ls cs count (i + 1) h s ex, ← ed, run-append pushPage flushPage) (follow-follow here _ ending)
+            rw (first, next-is ls cs count (i + 1) h s ex, ← ed, page-append) (follow-follow here _ ending)
 
         module _ {z : Outcome Page} (ez : z ≡ left (rest i) previous w) {r : Penned} {m : Lists} (u : afterwards r m ≡ pageAfter here) where
           -- the walk goes on

@@ -24,8 +24,7 @@ ghost use Rattle.float.specs.Consts.{one64};
 ghost use Rattle.lent.specs.Lent.{afterwards};
 ghost use Rattle.edges.specs.Events.{Inside};
 ghost use Rattle.crossing.specs.Crossing.{GridFits};
-ghost use Rattle.page.specs.Moves.{run};
-ghost use Rattle.page.specs.Page.{lists, page, pushPage, flushPage, pageAfter, PenFits};
+ghost use Rattle.page.specs.Page.{lists, page, onPage, pageAfter, PenFits};
 ghost use Rattle.walk.specs.Walk.{beforeInside, afterInside, decide, movesOf, legMoves};
 
 // What becomes of an event's point: it is pushed, there is none to push, or refusal 11 ends the walk.
@@ -108,7 +107,7 @@ fn draw_event(
 ) -> Penned
     requires { ⌜ PenFits (now points) pen ⌝ }
     ensures { λ r. ⌜ afterwards r (lists (now (points .exit)) (now (starts .exit)) (now (sides .exit)) (now (fractions .exit)))
-        ≡ pageAfter (run pushPage flushPage (movesOf decision)
+        ≡ pageAfter (onPage (movesOf decision)
         (page (lists (now (points .entry)) (now (starts .entry)) (now (sides .entry)) (now (fractions .entry))) pen)) ⌝ }
 {
     let inside = decision.inside;
@@ -151,7 +150,7 @@ pub fn append_edge_crossings(
     requires { ⌜ GridFits (now grid) cells ⌝ }
     requires { ⌜ PenFits (now points) pen ⌝ }
     ensures { λ r. ⌜ afterwards r (lists (now (points .exit)) (now (starts .exit)) (now (sides .exit)) (now (fractions .exit)))
-        ≡ pageAfter (run pushPage flushPage (legMoves (now (grid .entry)) cells leg)
+        ≡ pageAfter (onPage (legMoves (now (grid .entry)) cells leg)
         (page (lists (now (points .entry)) (now (starts .entry)) (now (sides .entry)) (now (fractions .entry))) pen)) ⌝ }
 {
     let count = sorted_edge_events(lambdas, codes, cells, leg);

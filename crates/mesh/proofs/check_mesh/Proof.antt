@@ -1,13 +1,37 @@
--- `mesh::check_mesh` meets its contract: the grid's own tests, with the room between them. Assumes nothing.
+-- `mesh::check_mesh` meets its contract: 1 is refused at once, and past it M and N are at most 255, so that the room is a number that fits.
+use native.Mathlib.Omega.{arith}
 use borrow.Author.Needs.{needs}
-use Rattle.mesh.proofs.Answers.{mesh-checked}
+use Rattle.basics.proofs.Tests.{held, failed}
+use Rattle.grid.proofs.Laws.{Stepped, steps-known}
+use Rattle.mesh.proofs.Answers.{no-steps, mesh-checked}
 use Rattle.mesh.proofs.check_mesh.Statement.{statement}
 use Rattle.mesh.proofs.check_mesh.Tie as tie
+
+-- 1 does not apply
+stepped : (e : tie.Else1) → let a = e .before .before .before .before .before .args in Stepped (a .m) (a .n)
+stepped e = steps-known _ _ (held (e .before .steps-fit .ensures) (e .if1 .left))
 
 returns : tie.Need-returns
 returns c =
     let a = c .before .before .before .before .before .args in
-    mesh-checked (a .grid .now) (a .m) (a .n) (a .triangles .now) (a .flipped .now) (c .before .check-room .ensures) (c .check-grid .ensures)
+    no-steps (a .grid .now) (a .m) (a .n) (a .triangles .now) (a .flipped .now) (failed (c .before .steps-fit .ensures) (c .if1 .taken))
+
+returns-2 : tie.Need-returns-2
+returns-2 c =
+    let r = c .before in
+    let a = r .before .before .before .before .before .before .args in
+    mesh-checked (a .grid .now) (a .m) (a .n) (a .triangles .now) (a .flipped .now) (r .check-room .ensures) (c .check-grid .ensures)
 
 pub check-mesh-spec : {M : Type 1} → statement M
-check-mesh-spec = tie.close (tie.spec (λ c κs. search needs) (λ c κs. search needs) returns)
+check-mesh-spec =
+    tie.close
+    (tie.spec
+    (λ c κs. search needs)
+    returns
+    (λ c. omega (arith, stepped c))
+    (λ c. omega (arith, stepped c))
+    (λ c. omega (arith, stepped c))
+    (λ c. omega (arith, stepped c))
+    (λ c κs. search needs)
+    (λ c κs. search needs)
+    returns-2)

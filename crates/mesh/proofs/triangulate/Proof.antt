@@ -1,4 +1,4 @@
--- `mesh::triangulate` meets its contract: the triangles and the pairs are in front of their lists, and zero is written past them. Assumes nothing.
+-- `mesh::triangulate` meets its contract: the triangles and the pairs are in front of their lists, and zero is written past them.
 use Prim.Native.Nat.{_+_, _*_, _≤_}
 use mathlib.Core.Path.{_≡_, _∙_}
 use native.Mathlib.Omega.{arith}
@@ -8,7 +8,7 @@ use Rattle.mesh.specs.Corners.{shapeOf}
 use Rattle.mesh.specs.Held.{trianglesIn}
 use Rattle.mesh.proofs.Cells.{held-triangles}
 use Rattle.mesh.proofs.Flips.{held-pairs}
-use Rattle.mesh.proofs.Answers.{all-kept, triangles-most, triangles-filled, pairs-most, pairs-filled}
+use Rattle.mesh.proofs.Answers.{all-kept, triangles-most, triangles-filled, pairs-most, pairs-filled, lists-written}
 use Rattle.mesh.proofs.triangulate.Statement.{statement}
 use Rattle.mesh.proofs.triangulate.Tie as tie
 
@@ -48,16 +48,13 @@ returns c =
     let b = built found .build-triangles in
     let p = found .find-flipped in
     let all : trianglesIn (b .result) (b .last .1 .0) ≡ triangles s = all-kept s (b .ensures .0) in
-    record {
-      triangle-list =
-          c .before .before .before .before .before .before .zero-numbers .ensures
-          ∙ triangles-filled s (b .result) (b .last .1 .0) (a .triangles .now) all (omega (arith, triangles-fit (built found))) (b .kept .1 .0);
-      pair-list =
-          c .before .before .zero-numbers2 .ensures
-          ∙ pairs-filled s (p .result) (p .last .1 .1 .0) (a .flipped .now) (p .ensures) (omega (arith, pairs-fit found)) (p .kept .1 .1 .0);
-      triangle-count = held-triangles (b .result) (b .last .1 .0) all;
-      pair-count = held-pairs (p .result) (p .last .1 .1 .0) (p .ensures);
-    }
+    lists-written s (a .triangles .now) (a .flipped .now)
+    (c .before .before .before .before .before .before .zero-numbers .ensures
+    ∙ triangles-filled s (b .result) (b .last .1 .0) (a .triangles .now) all (omega (arith, triangles-fit (built found))) (b .kept .1 .0))
+    (c .before .before .zero-numbers2 .ensures
+    ∙ pairs-filled s (p .result) (p .last .1 .1 .0) (a .flipped .now) (p .ensures) (omega (arith, pairs-fit found)) (p .kept .1 .1 .0))
+    (held-triangles (b .result) (b .last .1 .0) all)
+    (held-pairs (p .result) (p .last .1 .1 .0) (p .ensures))
 
 pub triangulate-spec : {M : Type 1} → statement M
 triangulate-spec =

@@ -1,4 +1,4 @@
--- `mesh::triangulate_grid` meets its contract: the refusals in order, then the seams, then the lists; and demand 3 of the grid's lists. Assumes nothing.
+-- `mesh::triangulate_grid` meets its contract: the refusals in order, then the seams, then the lists; and demand 3 of the grid's lists.
 use mathlib.Core.Path.{sym, _∙_}
 use borrow.Author.Needs.{needs}
 use Rattle.surface.proofs.Joinings.{surface-meets}

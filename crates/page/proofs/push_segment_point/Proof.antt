@@ -6,6 +6,7 @@ use mathlib.Core.List.{List}
 use mathlib.Core.Logic.{⊎-elim}
 use native.Mathlib.Omega.{arith}
 use denote.Ref.{now}
+use Rattle.float.specs.Consts.{eps}
 use Rattle.page.specs.Page.{lists, page, closeToPending}
 use Rattle.page.proofs.Pages.{push-close, not-close, none-pending, push-full, push-writes}
 use borrow.Author.Needs.{needs}
@@ -19,34 +20,34 @@ started j = j .before .before .before .before .before
 -- past them no pending point is close
 far : (j : tie.Joined1) (s : List ℕ) →
     let a = started j .args in
-    closeToPending (a .c) (page (lists (now (a .points)) s (now (a .sides)) (now (a .fractions))) (a .pen)) ≡ false
+    closeToPending eps (a .c) (page (lists (now (a .points)) s (now (a .sides)) (now (a .fractions))) (a .pen)) ≡ false
 far j s =
     let a = started j .args in
     let l = lists (now (a .points)) s (now (a .sides)) (now (a .fractions)) in
     ⊎-elim
-    (λ w. not-close (a .c) l (a .pen) (w .2 .ensures) (w .3 .ensures) (w .0 .taken) (w .4 .left))
-    (λ w. none-pending (a .c) l (a .pen) (w .left))
+    (λ w. not-close eps (a .c) l (a .pen) (w .2 .ensures) (w .3 .ensures) (w .0 .taken) (w .4 .left))
+    (λ w. none-pending eps (a .c) l (a .pen) (w .left))
     (j .if1 .came)
 
 returns : tie.Need-returns
 returns c s =
     let a = c .before in
-    push-close _ (lists _ s _ _) _ (a .before .point-at .ensures) (a .all-close .ensures) (a .before .before .before .if1 .taken) (c .if2 .taken)
+    push-close eps _ (lists _ s _ _) _ (a .before .point-at .ensures) (a .all-close .ensures) (a .before .before .before .if1 .taken) (c .if2 .taken)
 
 returns-2 : tie.Need-returns-2
-returns-2 c s = push-full _ (lists _ s _ _) _ (far (c .before) s) (omega arith)
+returns-2 c s = push-full eps _ (lists _ s _ _) _ (far (c .before) s) (omega arith)
 
 returns-3 : tie.Need-returns-3
-returns-3 c s = push-full _ (lists _ s _ _) _ (far (c .before .before) s) (omega arith)
+returns-3 c s = push-full eps _ (lists _ s _ _) _ (far (c .before .before) s) (omega arith)
 
 returns-4 : tie.Need-returns-4
-returns-4 c s = push-full _ (lists _ s _ _) _ (far (c .before .before .before) s) (omega arith)
+returns-4 c s = push-full eps _ (lists _ s _ _) _ (far (c .before .before .before) s) (omega arith)
 
 returns-5 : tie.Need-returns-5
 returns-5 c s =
     let w = c .before .before .before .before .before .before in
     let e = w .before .before .before .before in
-    push-writes _ (lists _ s _ _) _ (far (e .before .before .before) s) (omega (arith, e .before .before .if3 .left, e .before .if4 .left, e .if5 .left)) (w .write-crossing .ensures s)
+    push-writes eps _ (lists _ s _ _) _ (far (e .before .before .before) s) (omega (arith, e .before .before .if3 .left, e .before .if4 .left, e .if5 .left)) (w .write-crossing .ensures s)
 
 pub push-segment-point-spec : {M : Type 1} → statement M
 push-segment-point-spec =

@@ -1,23 +1,21 @@
--- `path::grid_paths` meets its contract: the grid's tests with that of room between them are those of `pathsCheck`, and past them the two lists are drawn.
+-- `path::grid_paths` meets its contract: the tests are those of `pathsCheck`, and past them the two lists are drawn.
 use mathlib.Core.Path.{_≡_, sym, _∙_}
 use native.Mathlib.Omega.{arith}
 use borrow.Author.Needs.{needs}
 use Rattle.refusal.specs.declared.Check.the-variants.{Passed}
 use Rattle.grid.proofs.Laws.{Shaped}
 use Rattle.path.specs.GridPaths.{pathsCheck}
-use Rattle.path.proofs.Checks.{checked, refused, drawn, passed-shape, passed-room}
+use Rattle.path.proofs.Checks.{refused, drawn, passed-shape, passed-room}
 use Rattle.path.proofs.grid_paths.Statement.{statement}
 use Rattle.path.proofs.grid_paths.Tie as tie
 
 -- no refusal applies
 passed : (e : tie.After-enum-told) →
-    let a = e .before .before .before .before .before .before .before .before .before .args in pathsCheck (a .grid .now) (a .m) (a .n) (a .points .now) (a .starts .now) ≡ Passed
-passed e =
-    let g = e .before .before in
-    sym (checked _ _ _ _ _ (g .before .check-room .ensures) (g .check-grid .ensures)) ∙ e .enum-told .given .1
+    let a = e .before .before .before .before .before .before .before .before .args in pathsCheck (a .grid .now) (a .m) (a .n) (a .points .now) (a .starts .now) ≡ Passed
+passed e = sym (e .before .before .check-paths .ensures) ∙ e .enum-told .given .1
 
 -- the grid that passed
-shape : (e : tie.After-enum-told) → let a = e .before .before .before .before .before .before .before .before .before .args in Shaped (a .grid .now) (a .m) (a .n)
+shape : (e : tie.After-enum-told) → let a = e .before .before .before .before .before .before .before .before .args in Shaped (a .grid .now) (a .m) (a .n)
 shape e = passed-shape _ _ _ _ _ (passed e)
 
 points-requires : tie.Need-points-requires
@@ -32,9 +30,7 @@ starts-requires c κs =
     (s .m-most, s .n-most, passed-room _ _ _ _ _ (passed e) .1)
 
 returns : tie.Need-returns
-returns c =
-    let g = c .before .before .before in
-    refused _ _ _ _ _ (checked _ _ _ _ _ (g .before .check-room .ensures) (g .check-grid .ensures)) (c .before .k .given .1)
+returns c = refused _ _ _ _ _ (c .before .before .before .check-paths .ensures) (c .before .k .given .1)
 
 returns-2 : tie.Need-returns-2
 returns-2 c =
@@ -46,7 +42,6 @@ pub grid-paths-spec : {M : Type 1} → statement M
 grid-paths-spec =
     tie.close
     (tie.spec
-    (λ c κs. search needs)
     (λ c κs. search needs)
     (λ c. search needs)
     (λ c. search needs)

@@ -6,8 +6,7 @@ use denote.Ref.{now}
 use lib.ListN.{length, drop}
 use Rattle.float.specs.Consts.{zero64}
 use Rattle.edges.specs.Scratch.{eventsIn}
-use Rattle.page.specs.Moves.{run}
-use Rattle.page.specs.Page.{lists, page, pushPage, flushPage, PenFits}
+use Rattle.page.specs.Page.{lists, page, onPage, PenFits}
 use Rattle.page.proofs.Fits.{fits-down, moves-fit}
 use Rattle.walk.specs.Walk.{movesOf, legMoves}
 use Rattle.walk.proofs.Walked.{left, event-inside, leg-inside, leg-starts, leg-ends, turn-goes, turn-stops}
@@ -57,7 +56,7 @@ alike l = omega (arith, lambdas-kept l .lambdas .given, codes-kept l .codes .giv
 -- the whole leg is what is left of it before the first event
 whole : (l : tie.At-loop Inv-loop μ-loop) → let a = started l .args in let w = page (lists (now (a .points)) (now (a .starts)) (now (a .sides)) (now (a .fractions))) (a .pen) in
     let o = sorted l .sorted-edge-events in
-    run pushPage flushPage (legMoves (now (a .grid)) (a .cells) (a .leg)) w ≡ left (now (a .grid)) (a .cells) (a .leg) (eventsIn (o .last .0) (o .last .1 .0) (o .result)) zero64 w
+    onPage (legMoves (now (a .grid)) (a .cells) (a .leg)) w ≡ left (now (a .grid)) (a .cells) (a .leg) (eventsIn (o .last .0) (o .last .1 .0) (o .result)) zero64 w
 whole l =
     let a = started l .args in
     leg-starts (now (a .grid)) (a .cells) (a .leg) (page (lists (now (a .points)) (now (a .starts)) (now (a .sides)) (now (a .fractions))) (a .pen)) (sorted l .sorted-edge-events .ensures .1)
@@ -118,7 +117,7 @@ loop-again c =
       omega (arith, c .before .before .before .before .before .before .before .before .starts .given, l .loop .inv .2),
       omega (arith, c .before .before .before .before .before .before .sides .given, l .loop .inv .3),
       omega (arith, c .before .before .before .before .fractions .given, l .loop .inv .4),
-      fits-down (run pushPage flushPage (movesOf (e .decide .result)) w) (d .draw-event .ensures) (c .before .drawn .given .1) (moves-fit (movesOf (e .decide .result)) w (l .loop .inv .5)),
+      fits-down (onPage (movesOf (e .decide .result)) w) (d .draw-event .ensures) (c .before .drawn .given .1) (moves-fit (movesOf (e .decide .result)) w (l .loop .inv .5)),
       turn-goes (now (a .grid)) (a .cells) (a .leg) (o .last .0) (o .last .1 .0) (o .result) (l .loop .i) (below l) (alike l) (looped e .loop-test .taken) _ _
           (e .before .before .before .event-at .ensures) (e .before .lambda-or-one .ensures) (e .decide .ensures) (l .loop .inv .6) (d .draw-event .ensures) (c .before .drawn .given .1),
     )

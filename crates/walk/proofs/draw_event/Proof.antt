@@ -1,6 +1,7 @@
 -- `walk::draw_event` meets its contract: proofs/Drawn.antt has what is done by what was decided, and after a push the pen still fits.
 use denote.Ref.{now}
-use Rattle.page.specs.Page.{Lists, lists, Page, page, pushPage}
+use Rattle.float.specs.Consts.{eps}
+use Rattle.page.specs.Page.{lists, Page, page, pushPage}
 use Rattle.page.proofs.Fits.{push-fits, fits-down}
 use Rattle.walk.proofs.Drawn.{draws-end, draws-stop, draws-point, draws-full}
 use borrow.Author.Needs.{needs}
@@ -25,7 +26,7 @@ flush-unless-requires : tie.Need-flush-unless-requires
 flush-unless-requires c κs =
     let p = pushed (c .before .before) in
     let w = lent (started p) in
-    fits-down (pushPage _ w) (p .push-segment-point .ensures (now (started p .args .starts))) (c .before .before .pushed .given .1) (push-fits _ w (started p .pre)) .0
+    fits-down (pushPage eps _ w) (p .push-segment-point .ensures (now (started p .args .starts))) (c .before .before .pushed .given .1) (push-fits eps _ w (started p .pre)) .0
 
 returns : tie.Need-returns
 returns c =

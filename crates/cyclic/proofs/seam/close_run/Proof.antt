@@ -1,12 +1,12 @@
--- `cyclic::seam::close_run` meets its contract: each turn of the loop adds two points that are close. Assumes nothing.
+-- `cyclic::seam::close_run` meets its contract: each turn of the loop adds two points that are close.
 use Prim.Native.Nat.{_+_, _-_, _≤_}
 use native.Mathlib.Omega.{arith}
 use mathlib.Core.Path.{refl}
 use borrow.Author.Needs.{needs}
 use borrow.Author.Tests.{not-false}
 use denote.Ref.{now}
-use Rattle.vector.specs.Vectors.{allClose}
-use Rattle.cyclic.specs.Search.{rowOf}
+use Rattle.float.specs.Consts.{eps}
+use Rattle.cyclic.specs.Search.{rowOf, closeAt}
 use Rattle.basics.proofs.Tests.{and-both}
 use Rattle.cyclic.proofs.Remains.{Run, two-longer}
 use Rattle.cyclic.proofs.Rows.{Stand, inside-next, close-next}
@@ -15,7 +15,7 @@ use Rattle.cyclic.proofs.seam.close_run.Tie as tie
 
 abbrev Inv-loop : tie.InvT-loop
 Inv-loop a a-start b b-start stride steps reverse run₀ run =
-    (run ≤ steps) × Run allClose (rowOf a a-start stride) (rowOf b b-start stride) steps reverse run
+    (run ≤ steps) × Run (closeAt eps) (rowOf a a-start stride) (rowOf b b-start stride) steps reverse run
 
 abbrev μ-loop : tie.MeasureT-loop
 μ-loop a a-start b b-start stride steps reverse run₀ run = steps - run
@@ -60,9 +60,9 @@ loop-again c =
     let b = rowOf (now (s .args .b)) (s .args .b-start) (s .args .stride) in
     let both = and-both (p .points-near .result) (q .points-near2 .result) (not-false _ (c .if2 .left)) in (
       omega arith,
-      two-longer allClose a b (s .args .steps) (s .args .reverse) (l .loop .run) (l .loop .inv .1)
-          (close-next (s .pre) (l .before .if1 .left) (s .args .reverse) (l .loop .run) (o .opposite .ensures) refl (p .points-near .ensures (both .0)))
-          (close-next (s .pre) (l .before .if1 .left) (s .args .reverse) (l .loop .run + 1) (n .opposite2 .ensures) (omega arith) (q .points-near2 .ensures (both .1))),
+      two-longer (closeAt eps) a b (s .args .steps) (s .args .reverse) (l .loop .run) (l .loop .inv .1)
+          (close-next (s .pre) (l .before .if1 .left) (s .args .reverse) (l .loop .run) (o .opposite .ensures) (closeAt eps) refl (p .points-near .ensures (both .0)))
+          (close-next (s .pre) (l .before .if1 .left) (s .args .reverse) (l .loop .run + 1) (n .opposite2 .ensures) (closeAt eps) (omega arith) (q .points-near2 .ensures (both .1))),
     )
 
 returns-3 : tie.Need-returns-3 Inv-loop μ-loop

@@ -1,4 +1,4 @@
--- `cyclic::seam::points_near` meets its contract: differences below EPS make two points close. Assumes nothing.
+-- `cyclic::seam::points_near` meets its contract: differences below EPS make two points close.
 use borrow.Author.Needs.{needs}
 use mathlib.Core.Path.{ap₂, _∙_}
 use denote.Ref.{now}
@@ -17,7 +17,7 @@ returns c =
     let q = d .before in
     let p = q .before in
     let s = p .before .before .before .args in
-    λ h. close-within (pointAt (now (s .a)) (s .i)) (pointAt (now (s .b)) (s .k)) (d .sub .result) (d .sub .ensures ∙ ap₂ minus (p .point-at .ensures) (q .point-at2 .ensures)) h
+    λ h. close-within (pointAt (now (s .a)) (s .i)) (pointAt (now (s .b)) (s .k)) (d .sub .result) eps (d .sub .ensures ∙ ap₂ minus (p .point-at .ensures) (q .point-at2 .ensures)) h
 
 pub points-near-spec : {M : Type 1} → statement M
 points-near-spec = tie.close (tie.spec (λ c κs. search needs) (λ c κs. search needs) (λ c κs. search needs) returns)

@@ -1,4 +1,4 @@
--- `cyclic::seam::rows_closed` meets its contract: the second comparison is made only where the first holds. Assumes nothing.
+-- `cyclic::seam::rows_closed` meets its contract: the second comparison is made only where the first holds.
 use borrow.Author.Needs.{needs}
 use denote.Ref.{now}
 use Rattle.cyclic.specs.Search.{closed}

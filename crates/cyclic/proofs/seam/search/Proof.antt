@@ -1,4 +1,4 @@
--- `cyclic::seam::search` meets its contract: a list of points is a row that starts at 0 with stride 1. Assumes nothing.
+-- `cyclic::seam::search` meets its contract: a list of points is a row that starts at 0 with stride 1.
 use Prim.Native.Nat.{_/_, _≤_}
 use native.Mathlib.Omega.{arith}
 use mathlib.Core.Path.{_≡_, sym, _∙_}
@@ -7,8 +7,9 @@ use borrow.Author.Needs.{needs}
 use borrow.Author.Tests.{eqb-true, eqb-false, not-true, not-false}
 use denote.Ref.{now}
 use lib.ListN.{length}
-use Rattle.vector.specs.Vectors.{allClose}
+use Rattle.float.specs.Consts.{eps}
 use Rattle.grid.specs.Grid.{pointAt}
+use Rattle.cyclic.specs.Search.{closeAt}
 use Rattle.cyclic.proofs.Rows.{whole-row, short-rows, long-rows}
 use Rattle.cyclic.proofs.seam.search.Statement.{statement}
 use Rattle.cyclic.proofs.seam.search.Tie as tie
@@ -17,7 +18,7 @@ returns : tie.Need-returns
 returns c =
     let s = c .before .before .before .before .args in
     c .unjoined .ensures
-    ∙ sym (short-rows allClose (pointAt (now (s .a))) (pointAt (now (s .b))) _ _
+    ∙ sym (short-rows (closeAt eps) (pointAt (now (s .a))) (pointAt (now (s .b))) _ _
     (⊎-elim (λ w. inl (w .taken)) (λ w. inr (eqb-false _ _ (not-true _ (w .1 .taken)))) (c .before .if1 .came)))
 
 search-rows-requires : tie.Need-search-rows-requires

@@ -1,15 +1,15 @@
 -- `cyclic::seam::search_rows` meets its contract. The outer loop's invariant: the whole search is the search of the offsets that are left, after the
 -- comparisons so far. The inner loops': all points tried at an offset are the points that are left, after one comparison for each before, and k is the image of j.
--- At most 131,072 comparisons are made at an offset, so that their sum fits. Assumes nothing.
+-- At most 131,072 comparisons are made at an offset, so that their sum fits.
 use Prim.Native.Nat.{_+_, _-_, _*_, _<_}
 use native.Mathlib.Omega.{arith}
 use mathlib.Core.Path.{sym, _∙_}
 use mathlib.Core.Logic.{⊎-elim}
 use borrow.Author.Needs.{needs}
 use denote.Ref.{now}
-use Rattle.vector.specs.Vectors.{allClose}
+use Rattle.float.specs.Consts.{eps}
 use Rattle.cyclic.specs.declared.mapping.CyclicMapping.the-variants.{Forward, Reverse}
-use Rattle.cyclic.specs.Search.{rowOf}
+use Rattle.cyclic.specs.Search.{rowOf, closeAt}
 use Rattle.cyclic.proofs.Remains.{Trying, Searching, point-after-run, first-point, next-point, last-point, far-point, first-offset, forward-fits, reverse-fits, next-offset, no-offset}
 use Rattle.cyclic.proofs.Rows.{Stand, inside}
 use Rattle.cyclic.proofs.seam.search_rows.Statement.{statement}
@@ -17,21 +17,21 @@ use Rattle.cyclic.proofs.seam.search_rows.Tie as tie
 
 abbrev Inv-loop : tie.InvT-loop
 Inv-loop a a-start b b-start stride steps end comparisons offset j₀ k₀ j k =
-    Trying allClose (rowOf a a-start stride) (rowOf b b-start stride) (Forward offset steps) comparisons j k
+    Trying (closeAt eps) (rowOf a a-start stride) (rowOf b b-start stride) (Forward offset steps) comparisons j k
 
 abbrev μ-loop : tie.MeasureT-loop
 μ-loop a a-start b b-start stride steps end comparisons offset j₀ k₀ j k = steps - j
 
 abbrev Inv-loop2 : tie.InvT-loop2
 Inv-loop2 a a-start b b-start stride steps end comparisons offset j₁ k₁ j₀ k₀ j k =
-    Trying allClose (rowOf a a-start stride) (rowOf b b-start stride) (Reverse offset steps) comparisons j k
+    Trying (closeAt eps) (rowOf a a-start stride) (rowOf b b-start stride) (Reverse offset steps) comparisons j k
 
 abbrev μ-loop2 : tie.MeasureT-loop2
 μ-loop2 a a-start b b-start stride steps end comparisons offset j₁ k₁ j₀ k₀ j k = steps - j
 
 abbrev Inv-offsets : tie.InvT-offsets
 Inv-offsets a a-start b b-start stride steps end comparisons₀ offset₀ comparisons offset =
-    Searching allClose (rowOf a a-start stride) (rowOf b b-start stride) steps end comparisons offset
+    Searching (closeAt eps) (rowOf a a-start stride) (rowOf b b-start stride) steps end comparisons offset
 
 abbrev μ-offsets : tie.MeasureT-offsets
 μ-offsets a a-start b b-start stride steps end comparisons₀ offset₀ comparisons offset = end - offset

@@ -1,11 +1,12 @@
 -- `paths_to_c` is given what `grid_paths` answers, and the lists are those that it leaves.
 use borrow.Author.Needs.{needs}
-use Rattle.merlontrispa.proofs.Answers.{leaves}
+use Rattle.lent.proofs.Laws.{answered-in}
+use Rattle.merlontrispa.specs.Lines.{pathsAnswer}
 use Rattle.merlontrispa.proofs.lines.mt_grid_paths.Statement.{statement}
 use Rattle.merlontrispa.proofs.lines.mt_grid_paths.Tie as tie
 
 returns : tie.Need-returns
-returns c = leaves (c .paths-to-c .ensures) (c .before .before .before .before .before .grid-paths .ensures)
+returns c = answered-in pathsAnswer (c .paths-to-c .ensures) (c .before .before .before .before .before .grid-paths .ensures)
 
 pub mt-grid-paths-spec : {M : Type 1} → statement M
 mt-grid-paths-spec =

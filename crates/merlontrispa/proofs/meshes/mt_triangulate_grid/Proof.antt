@@ -1,13 +1,14 @@
 -- `mesh_to_c` is given what `triangulate_grid` answers, the lists are those that it leaves, and what it says of the surface is passed on.
 use borrow.Author.Needs.{needs}
-use Rattle.merlontrispa.proofs.Answers.{hands}
+use Rattle.lent.proofs.Laws.{answered-in}
+use Rattle.merlontrispa.specs.Meshes.{meshAnswer}
 use Rattle.merlontrispa.proofs.meshes.mt_triangulate_grid.Statement.{statement}
 use Rattle.merlontrispa.proofs.meshes.mt_triangulate_grid.Tie as tie
 
 returns : tie.Need-returns
 returns c =
     let e = c .before .before .before .before .before .triangulate-grid .ensures in
-    (hands (c .mesh-to-c .ensures) (e .0), e .1)
+    (answered-in meshAnswer (c .mesh-to-c .ensures) (e .0), e .1)
 
 pub mt-triangulate-grid-spec : {M : Type 1} → statement M
 mt-triangulate-grid-spec =

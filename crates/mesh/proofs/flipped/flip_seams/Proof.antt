@@ -1,10 +1,10 @@
--- `mesh::flipped::flip_seams` meets its contract: the u seam's pairs, and the v seam's put into them. Assumes nothing.
+-- `mesh::flipped::flip_seams` meets its contract: the u seam's pairs, and the v seam's put into them.
 use mathlib.Core.Path.{_≡_, _∙_}
 use mathlib.Core.List.{[]}
 use native.Mathlib.Omega.{arith}
 use borrow.Author.Needs.{needs}
+use Rattle.param.specs.declared.Axis.the-variants.{AxisU}
 use Rattle.surface.specs.Found.{seamOf}
-use Rattle.mesh.specs.declared.flipped.Axis.the-variants.{U}
 use Rattle.mesh.specs.Corners.{shapeOf}
 use Rattle.mesh.specs.Held.{firsts, pairsIn}
 use Rattle.mesh.specs.Rims.{flips}
@@ -16,7 +16,7 @@ abbrev start : tie.After-flip-seam → tie.Start
 start e = e .before .before .before .before .before .before
 
 -- the u seam's pairs
-first : (e : tie.After-flip-seam) → pairsIn (e .flip-seam .result) (e .flip-seam .last .1 .1 .1 .1 .1 .0) ≡ flips U (shapeOf (start e .args .surface)) (seamOf (start e .args .surface .u)) []
+first : (e : tie.After-flip-seam) → pairsIn (e .flip-seam .result) (e .flip-seam .last .1 .1 .1 .1 .1 .0) ≡ flips AxisU (shapeOf (start e .args .surface)) (seamOf (start e .args .surface .u)) []
 unfolding firsts
 first e = e .flip-seam .ensures
 
@@ -27,7 +27,7 @@ flip-seam-requires-2 c κs =
     let f = c .before .before .before .flip-seam in
     let k = held-pairs (f .result) (f .last .1 .1 .1 .1 .1 .0) (first (c .before .before .before)) in (
       (t .pre .0 .0, t .pre .0 .0 .v-maps),
-      (rims-v (a .surface) (t .pre .0 .0) (a .starts .now) (t .pre .0 .2), omega (arith, seam-most U (shapeOf (a .surface)) (seamOf (a .surface .u)) [])),
+      (rims-v (a .surface) (t .pre .0 .0) (a .starts .now) (t .pre .0 .2), omega (arith, seam-most AxisU (shapeOf (a .surface)) (seamOf (a .surface .u)) [])),
     )
 
 returns : tie.Need-returns

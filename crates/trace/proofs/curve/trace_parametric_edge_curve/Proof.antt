@@ -5,8 +5,7 @@ use mathlib.Core.Path.{_≡_, _∙_}
 use native.Mathlib.Omega.{arith}
 use denote.Ref.{now}
 use lib.ListN.{length, drop}
-use Rattle.page.specs.Moves.{run}
-use Rattle.page.specs.Page.{lists, penAt, page, pushPage, flushPage, PenFits}
+use Rattle.page.specs.Page.{lists, penAt, page, onPage, PenFits}
 use Rattle.page.proofs.Fits.{fits-down, moves-fit}
 use Rattle.trace.specs.declared.curve.Previous.the-variants.{Nowhere}
 use Rattle.trace.specs.Curve.{samplesOf, visitMoves, traceMoves}
@@ -19,8 +18,8 @@ abbrev Inv-loop : tie.InvT-loop
 Inv-loop grid cells pairs marks points₀ starts₀ sides₀ fractions₀ lambdas₀ codes₀ pen₀ previous₀ i₀ points starts sides fractions lambdas codes pen previous i =
     (i ≤ length marks) × (length points ≡ length points₀) × (length starts ≡ length starts₀) × (length sides ≡ length sides₀) × (length fractions ≡ length fractions₀)
     × (length lambdas ≡ 1023) × (length codes ≡ 1023) × PenFits points pen
-    × (run pushPage flushPage (traceMoves grid cells (samplesOf marks pairs) Nowhere) (page (lists points₀ starts₀ sides₀ fractions₀) (penAt 0 0 0))
-    ≡ run pushPage flushPage (traceMoves grid cells (drop i (samplesOf marks pairs)) previous) (page (lists points starts sides fractions) pen))
+    × (onPage (traceMoves grid cells (samplesOf marks pairs) Nowhere) (page (lists points₀ starts₀ sides₀ fractions₀) (penAt 0 0 0))
+    ≡ onPage (traceMoves grid cells (drop i (samplesOf marks pairs)) previous) (page (lists points starts sides fractions) pen))
 
 abbrev μ-loop : tie.MeasureT-loop
 μ-loop grid cells pairs marks points₀ starts₀ sides₀ fractions₀ lambdas₀ codes₀ pen₀ previous₀ i₀ points starts sides fractions lambdas codes pen previous i = length marks - i
@@ -79,7 +78,7 @@ loop-again c =
       omega (arith, c .before .before .before .before .before .fractions .given, l .loop .inv .4),
       search needs,
       search needs,
-      fits-down (run pushPage flushPage ms w) (t .trace-sample .ensures) (c .before .before .traced .given .1) (moves-fit ms w (l .loop .inv .7)),
+      fits-down (onPage ms w) (t .trace-sample .ensures) (c .before .before .traced .given .1) (moves-fit ms w (l .loop .inv .7)),
       trace-goes (now (a .grid)) (a .cells) (now (a .marks)) (now (a .pairs)) (l .loop .i) (s .pre .1 .0) _ _ (looped v .loop-test .taken) (v .before .point-of .ensures)
           (v .visit-of .ensures) (l .loop .inv .8) (t .trace-sample .ensures) (c .before .before .traced .given .1) (c .after-sample .ensures),
     )

@@ -1,6 +1,7 @@
--- `cyclic::CyclicMapping::new_vector` meets its contract: the refusal that applies, or what the search answers. Assumes nothing.
+-- `cyclic::CyclicMapping::new_vector` meets its contract: the refusal that applies, or what the search answers.
 use mathlib.Core.Path.{_≡_, sym, ap, _∙_}
 use denote.Ref.{now}
+use Rattle.float.specs.Consts.{eps}
 use Rattle.refusal.specs.Refusals.{ok}
 use Rattle.cyclic.specs.declared.seam.Seam.{Seam}
 use Rattle.cyclic.specs.Search.{searched, newVector}
@@ -19,17 +20,17 @@ returns : tie.Need-returns
 returns c =
     let r = c .before .before .before in
     let s = r .before .before .before .args in
-    refused-is (now (s .a)) (now (s .b)) (sym (r .check-rows .ensures) ∙ c .before .k .given .1)
+    refused-is (now (s .a)) (now (s .b)) eps (sym (r .check-rows .ensures) ∙ c .before .k .given .1)
 
 -- what the search answers, as either arm has its seam
 found : (f : tie.After-search) {x : Seam} → f .search .result .seam ≡ x →
     let s = f .before .before .before .before .before .before .args in
-    ok (searched x (f .search .result .comparisons)) ≡ newVector (now (s .a)) (now (s .b))
+    ok (searched x (f .search .result .comparisons)) ≡ newVector (now (s .a)) (now (s .b)) eps
 found f e =
     let t = f .before in
     let r = t .before .before in
     ap (λ (x : Seam). ok (searched x (f .search .result .comparisons))) (sym e)
-    ∙ answer-is _ _ (sym (r .check-rows .ensures) ∙ t .enum-told .given .1) (f .search .ensures)
+    ∙ answer-is _ _ eps (sym (r .check-rows .ensures) ∙ t .enum-told .given .1) (f .search .ensures)
 
 returns-2 : tie.Need-returns-2
 returns-2 c = found (c .before .before .before) (c .before .seam .given .1)
