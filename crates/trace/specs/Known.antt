@@ -40,15 +40,15 @@ pub reverse : (mapIndexInv (Reverse 0 4) 1 ≡ ok 3) × (mapIndexInv (Reverse 1 
 reverse = (seams.reverse-zero, seams.reverse-two, seams.reverse-four)
 
 -- "Rows with x = 0,1,2,3 and 3,2,1,0 (y = z = 0): Reverse(0,3)." `along` gives the points of a row by their x; the comparisons are 6.
-pub rows-reversed : newVector (along (zero64 ∷ one64 ∷ two64 ∷ three64 ∷ [])) (along (three64 ∷ two64 ∷ one64 ∷ zero64 ∷ [])) ≡ ok (searched (Joined (Reverse 0 3)) 6)
+pub rows-reversed : newVector (along (zero64 ∷ one64 ∷ two64 ∷ three64 ∷ [])) (along (three64 ∷ two64 ∷ one64 ∷ zero64 ∷ [])) eps ≡ ok (searched (Joined (Reverse 0 3)) 6)
 rows-reversed = seams.turned
 
 -- "x = 0,1,2,0 and 1,2,0,1: Forward(2,3), 10 comparisons."
-pub rows-shifted : newVector (along (zero64 ∷ one64 ∷ two64 ∷ zero64 ∷ [])) (along (one64 ∷ two64 ∷ zero64 ∷ one64 ∷ [])) ≡ ok (searched (Joined (Forward 2 3)) 10)
+pub rows-shifted : newVector (along (zero64 ∷ one64 ∷ two64 ∷ zero64 ∷ [])) (along (one64 ∷ two64 ∷ zero64 ∷ one64 ∷ [])) eps ≡ ok (searched (Joined (Forward 2 3)) 10)
 rows-shifted = seams.shifted
 
 -- "x = 0,1,2 and 1,2,3: None, 3 comparisons."
-pub rows-apart : newVector (along (zero64 ∷ one64 ∷ two64 ∷ [])) (along (one64 ∷ two64 ∷ three64 ∷ [])) ≡ ok (searched Unjoined 3)
+pub rows-apart : newVector (along (zero64 ∷ one64 ∷ two64 ∷ [])) (along (one64 ∷ two64 ∷ three64 ∷ [])) eps ≡ ok (searched Unjoined 3)
 rows-apart = seams.apart
 
 -- "M=N=1, no seam: triangles 0,2,1 and 2,3,1."
