@@ -580,7 +580,7 @@ def mt_trace_samples_walk():
 
     w.note("`trace_to_c`")
     call(w, "Conv", "(to-conv r v)", ["answer"], "goes-conv r v", [9], "u")
-    hear(w, "After-conv r u", "c", "Conv-said r c", "us", {"e": "c ≡ traceAnswer (statedTrace r)"})
+    hear(w, "After-conv r u", "c", "Conv-said r c", "us", {"e": "c ≡ pathsAnswer (statedTrace r)"})
     land_answer(w, 0, "none", "An", "c", "u", "is′", "LL.lawful An.the-type An′.the-laws 𝓤 H A W")
 
     w.line()

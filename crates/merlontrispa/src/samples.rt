@@ -4,9 +4,12 @@ use crate::traces::trace_to_c;
 use records::Sample;
 use records::trace_samples;
 ghost use Rattle.trace.specs.Demand.{Demand3};
-ghost use Rattle.trace.specs.Trace.{lists, traceFlat};
+ghost use mathlib.Core.Path.{_≡_};
+ghost use Rattle.lent.specs.Lent.{afterwards, answering};
+ghost use Rattle.page.specs.Page.{lists};
+ghost use Rattle.trace.specs.Trace.{traceFlat};
 ghost use Rattle.records.specs.Records.{pairsOf, marksOf};
-ghost use Rattle.merlontrispa.specs.Traces.{Draws};
+ghost use Rattle.merlontrispa.specs.Lines.{pathsAnswer};
 
 #[no_mangle]
 pub extern "C" fn mt_trace_samples(
@@ -19,9 +22,9 @@ pub extern "C" fn mt_trace_samples(
     sides: &mut [usize],
     fractions: &mut [f64],
 ) -> PathsAnswer
-    ensures answer { λ r. ⌜ Draws (traceFlat (now (grid .entry)) m n (pairsOf (now (samples .entry))) (marksOf (now (samples .entry)))
-        (lists (now (points .entry)) (now (starts .entry)) (now (sides .entry)) (now (fractions .entry)))) r
-        (now (points .exit)) (now (starts .exit)) (now (sides .exit)) (now (fractions .exit)) ⌝ }
+    ensures answer { λ r. ⌜ afterwards r (lists (now (points .exit)) (now (starts .exit)) (now (sides .exit)) (now (fractions .exit)))
+        ≡ answering pathsAnswer (traceFlat (now (grid .entry)) m n (pairsOf (now (samples .entry))) (marksOf (now (samples .entry)))
+        (lists (now (points .entry)) (now (starts .entry)) (now (sides .entry)) (now (fractions .entry)))) ⌝ }
     ensures demand { λ _. ⌜ Demand3 (now (grid .entry)) m n ⌝ }
 {
     trace_to_c(trace_samples(grid, m, n, samples, points, starts, sides, fractions))

@@ -3,11 +3,13 @@ use crate::lines::PathsAnswer;
 use trace::flat::Trace;
 ghost use mathlib.Core.Path.{_≡_};
 ghost use Rattle.trace.specs.Demand.{Demand3};
-ghost use Rattle.trace.specs.Trace.{lists, statedTrace, traceFlat};
-ghost use Rattle.merlontrispa.specs.Traces.{traceAnswer, Draws};
+ghost use Rattle.lent.specs.Lent.{afterwards, answering};
+ghost use Rattle.page.specs.Page.{lists};
+ghost use Rattle.trace.specs.Trace.{statedTrace, traceFlat};
+ghost use Rattle.merlontrispa.specs.Lines.{pathsAnswer};
 
 pub fn trace_to_c(answer: Trace) -> PathsAnswer
-    ensures { λ r. ⌜ r ≡ traceAnswer (statedTrace answer) ⌝ }
+    ensures { λ r. ⌜ r ≡ pathsAnswer (statedTrace answer) ⌝ }
 {
     match answer {
         Trace::Drawn(points, lines) => PathsAnswer {
@@ -35,9 +37,9 @@ pub extern "C" fn mt_trace_flat(
     sides: &mut [usize],
     fractions: &mut [f64],
 ) -> PathsAnswer
-    ensures answer { λ r. ⌜ Draws (traceFlat (now (grid .entry)) m n (now (pairs .entry)) (now (marks .entry))
-        (lists (now (points .entry)) (now (starts .entry)) (now (sides .entry)) (now (fractions .entry)))) r
-        (now (points .exit)) (now (starts .exit)) (now (sides .exit)) (now (fractions .exit)) ⌝ }
+    ensures answer { λ r. ⌜ afterwards r (lists (now (points .exit)) (now (starts .exit)) (now (sides .exit)) (now (fractions .exit)))
+        ≡ answering pathsAnswer (traceFlat (now (grid .entry)) m n (now (pairs .entry)) (now (marks .entry))
+        (lists (now (points .entry)) (now (starts .entry)) (now (sides .entry)) (now (fractions .entry)))) ⌝ }
     ensures demand { λ _. ⌜ Demand3 (now (grid .entry)) m n ⌝ }
 {
     trace_to_c(trace::flat::trace_flat(grid, m, n, pairs, marks, points, starts, sides, fractions))

@@ -1,4 +1,4 @@
--- More than 65,537 marks are refused whatever they are: 1 where M or N is wrong, else 2. Assumes nothing.
+-- More than 65,537 marks are refused whatever they are: 1 where M or N is wrong, else 2.
 use mathlib.Core.Path.{_≡_, refl, sym}
 use mathlib.Core.Bool.{Bool, true, false, _&&_}
 use mathlib.Core.List.{List}
@@ -13,7 +13,9 @@ use Rattle.refusal.specs.declared.Refusal.the-variants.{Steps, Length}
 use Rattle.refusal.specs.Refusals.{unless, andThen}
 use Rattle.grid.specs.Grid.{stepsFit, lengthFits, gridCheck}
 use Rattle.trace.specs.declared.flat.Trace.the-variants.{Refused}
-use Rattle.trace.specs.Trace.{Lists, traceCheck, traceFlat, Traces}
+use Rattle.lent.specs.Lent.{afterwards}
+use Rattle.page.specs.Page.{Lists}
+use Rattle.trace.specs.Trace.{statedTrace, traceCheck, traceFlat}
 use Rattle.trace.proofs.Ended.{refused-before}
 
 module _ (g : List Float) (m n : ℕ) (pairs : List Float) (marks : List ℕ) (l : Lists) {b : Bool} (e : b ≡ stepsFit m n) where
@@ -30,8 +32,8 @@ module _ (g : List Float) (m n : ℕ) (pairs : List Float) (marks : List ℕ) (l
       go true false x y = refl
       go false c x y = refl
 
-  pub steps-refused : b ≡ false → Traces (traceFlat g m n pairs marks l) (Refused Steps) (l .points) (l .starts) (l .sides) (l .fractions)
+  pub steps-refused : b ≡ false → afterwards (statedTrace (Refused Steps)) l ≡ traceFlat g m n pairs marks l
   steps-refused f = refused-before g m n pairs marks l (sym (wrong-steps f)) refl
 
-  pub length-refused : b ≡ true → 65537 < length marks → Traces (traceFlat g m n pairs marks l) (Refused Length) (l .points) (l .starts) (l .sides) (l .fractions)
+  pub length-refused : b ≡ true → 65537 < length marks → afterwards (statedTrace (Refused Length)) l ≡ traceFlat g m n pairs marks l
   length-refused t h = refused-before g m n pairs marks l (sym (too-many t h)) refl

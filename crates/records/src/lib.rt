@@ -1,6 +1,6 @@
 // The trace of samples that are a list of records: they are flattened into pairs and marks, which the
 // flat trace takes.
-use edges::point::ParamPoint;
+use param::ParamPoint;
 use refusal::Refusal;
 use trace::flat::Trace;
 use trace::flat::trace_flat;
@@ -9,7 +9,9 @@ ghost use mathlib.Core.Path.{_≡_};
 ghost use mathlib.Core.List.{List};
 ghost use lib.ListN.{length};
 ghost use Rattle.trace.specs.Demand.{Demand3};
-ghost use Rattle.trace.specs.Trace.{lists, traceFlat, Traces};
+ghost use Rattle.lent.specs.Lent.{afterwards};
+ghost use Rattle.page.specs.Page.{lists};
+ghost use Rattle.trace.specs.Trace.{statedTrace, traceFlat};
 ghost use Rattle.records.specs.declared.Sample.{Sample as Record};
 ghost use Rattle.records.specs.Records.{pairsOf, marksOf};
 ghost use Rattle.records.specs.Flattened.{putPair, putMark, pairsUpTo, marksUpTo, Flattened};
@@ -65,9 +67,9 @@ fn trace_flattened(
     fractions: &mut [f64],
 ) -> Trace
     ensures { λ r. ⌜ ((ss : List Record) → length ss ≡ count → Flattened ss (now (pairs .entry)) (now (marks .entry)) →
-        Traces (traceFlat (now (grid .entry)) m n (pairsOf ss) (marksOf ss)
-        (lists (now (points .entry)) (now (starts .entry)) (now (sides .entry)) (now (fractions .entry)))) r
-        (now (points .exit)) (now (starts .exit)) (now (sides .exit)) (now (fractions .exit))) ⌝ }
+        afterwards (statedTrace r) (lists (now (points .exit)) (now (starts .exit)) (now (sides .exit)) (now (fractions .exit)))
+        ≡ traceFlat (now (grid .entry)) m n (pairsOf ss) (marksOf ss)
+        (lists (now (points .entry)) (now (starts .entry)) (now (sides .entry)) (now (fractions .entry)))) ⌝ }
 {
     if MAX_MARKS < count {
         if grid::steps_fit(m, n) {
@@ -105,9 +107,9 @@ pub fn trace_samples(
     sides: &mut [usize],
     fractions: &mut [f64],
 ) -> Trace
-    ensures answer { λ r. ⌜ Traces (traceFlat (now (grid .entry)) m n (pairsOf (now (samples .entry))) (marksOf (now (samples .entry)))
-        (lists (now (points .entry)) (now (starts .entry)) (now (sides .entry)) (now (fractions .entry)))) r
-        (now (points .exit)) (now (starts .exit)) (now (sides .exit)) (now (fractions .exit)) ⌝ }
+    ensures answer { λ r. ⌜ afterwards (statedTrace r) (lists (now (points .exit)) (now (starts .exit)) (now (sides .exit)) (now (fractions .exit)))
+        ≡ traceFlat (now (grid .entry)) m n (pairsOf (now (samples .entry))) (marksOf (now (samples .entry)))
+        (lists (now (points .entry)) (now (starts .entry)) (now (sides .entry)) (now (fractions .entry))) ⌝ }
     ensures demand { λ _. ⌜ Demand3 (now (grid .entry)) m n ⌝ }
 {
     let mut pairs = [0.0; MAX_NUMBERS];

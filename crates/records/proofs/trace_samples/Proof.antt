@@ -1,6 +1,6 @@
 -- `records::trace_samples` meets its contract: a walk of its MIR, by hand, since the borrow checker covers no slice of structs. Written by tools/walks/walks.py.
 -- All that is known of `flatten` and `trace_flattened` is their contracts. The two lists are locals: they are lent by `&mut` to `flatten` and by `&` to `trace_flattened`, each for a
--- lifetime made for the call. The outputs are given to `trace_flattened` for good. Subscripts are the parameters' places, from 0 for the grid to 7 for the fractions. Assumes nothing.
+-- lifetime made for the call. The outputs are given to `trace_flattened` for good. Subscripts are the parameters' places, from 0 for the grid to 7 for the fractions.
 use mathlib.Core.Path.{_≡_, refl, sym, ap, subst}
 use Prim.Native.Nat.{ℕ, _<_, _^_}
 use mathlib.Core.List.{List, [], _∷_}
@@ -46,7 +46,9 @@ use denote.Triple.Spec.{Meets, tripleOf}
 use denote.Triple.Table.{entered, cited}
 use denote.Triple.Walked.{Stays, stay-none, stay-none-slice, gave-slice, walkOf, Walks, ends-at, walked, goes-none, goes-none-slice, goes-gave-slice, walk-meets}
 use denote.Exit.{yes}
-use Rattle.trace.specs.Trace.{lists, traceFlat, Traces}
+use Rattle.lent.specs.Lent.{afterwards}
+use Rattle.page.specs.Page.{lists}
+use Rattle.trace.specs.Trace.{statedTrace, traceFlat}
 use Rattle.trace.specs.declared.flat.Trace.{Trace}
 use Rattle.trace.proofs.Demands.{demand3}
 use Rattle.trace.proofs.flat.Trace as An
@@ -189,7 +191,7 @@ module _ {M : Type 1} (𝓤 : URA M) (H : Heap 𝓤) (A : Atoms 𝓤) (W : Given
 
   -- what `trace_flattened` ensures, at the last lists of the outputs
   abbrev Said : Trace → List Float → List ℕ → List ℕ → List Float → Type 0
-  Said r w₄ w₅ w₆ w₇ = (ss : List Sample) → length ss ≡ n → Flattened ss P N → Traces (traceFlat d₀ d₁ d₂ (pairsOf ss) (marksOf ss) (lists d₄ d₅ d₆ d₇)) r w₄ w₅ w₆ w₇
+  Said r w₄ w₅ w₆ w₇ = (ss : List Sample) → length ss ≡ n → Flattened ss P N → afterwards (statedTrace r) (lists w₄ w₅ w₆ w₇) ≡ traceFlat d₀ d₁ d₂ (pairsOf ss) (marksOf ss) (lists d₄ d₅ d₆ d₇)
 
   exits : d₁ < 2 ^ 64 → d₂ < 2 ^ 64 → (r : Trace) (v : Val) (w₄ : List Float) (w₅ w₆ : List ℕ) (w₇ : List Float) → Said r w₄ w₅ w₆ w₇
       → length w₄ ≡ length d₄ → length w₅ ≡ length d₅ → length w₆ ≡ length d₆ → length w₇ ≡ length d₇

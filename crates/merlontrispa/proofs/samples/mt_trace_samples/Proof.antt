@@ -1,6 +1,6 @@
 -- `merlontrispa::samples::mt_trace_samples` meets its contract: a walk of its MIR, by hand, since the borrow checker covers no slice of structs. Written by tools/walks/walks.py.
 -- All that is known of `trace_samples` and `trace_to_c` is their contracts. The outputs are given to `trace_samples` for good.
--- Subscripts are the parameters' places, from 0 for the grid to 7 for the fractions. Assumes nothing.
+-- Subscripts are the parameters' places, from 0 for the grid to 7 for the fractions.
 use mathlib.Core.Path.{_≡_, refl}
 use Prim.Native.Nat.{ℕ, _<_, _^_}
 use mathlib.Core.List.{List, [], _∷_}
@@ -40,7 +40,10 @@ use denote.Triple.Spec.{Meets, tripleOf}
 use denote.Triple.Table.{entered, cited}
 use denote.Triple.Walked.{Stays, stay-none, stay-none-slice, gave-slice, walkOf, Walks, ends-at, walked, goes-none, goes-none-slice, goes-gave-slice, walk-meets}
 use denote.Exit.{yes}
-use Rattle.trace.specs.Trace.{lists, statedTrace, traceFlat, Traces}
+use Rattle.lent.specs.Lent.{afterwards}
+use Rattle.lent.proofs.Laws.{answered-in}
+use Rattle.page.specs.Page.{lists}
+use Rattle.trace.specs.Trace.{statedTrace, traceFlat}
 use Rattle.trace.specs.Demand.{Demand3}
 use Rattle.trace.specs.declared.flat.Trace.{Trace}
 use Rattle.trace.proofs.flat.Trace as Tr
@@ -53,9 +56,8 @@ use Rattle.records.proofs.trace_samples as rec
 use Rattle.records.proofs.trace_samples.Symbol as rec-def
 use Rattle.records.proofs.trace_samples.Symbol.{name as #records·trace-samples}
 use Rattle.records.proofs.trace_samples.Met as rec-thm
-use Rattle.merlontrispa.specs.Traces.{traceAnswer}
+use Rattle.merlontrispa.specs.Lines.{pathsAnswer}
 use Rattle.merlontrispa.specs.declared.lines.PathsAnswer.{PathsAnswer}
-use Rattle.merlontrispa.proofs.Answers.{draws}
 use Rattle.merlontrispa.proofs.lines.PathsAnswer as An
 use Rattle.merlontrispa.proofs.lines.PathsAnswer.Laws as An′
 use Rattle.merlontrispa.proofs.traces.trace_to_c as conv
@@ -174,15 +176,15 @@ module _ {M : Type 1} (𝓤 : URA M) (H : Heap 𝓤) (A : Atoms 𝓤) (W : Given
 
   -- what `trace_samples` ensures of its answer, at the last lists of the outputs
   abbrev Said : Trace → List Float → List ℕ → List ℕ → List Float → Type 0
-  Said r w₄ w₅ w₆ w₇ = Traces (traceFlat d₀ d₁ d₂ (pairsOf d₃) (marksOf d₃) (lists d₄ d₅ d₆ d₇)) r w₄ w₅ w₆ w₇
+  Said r w₄ w₅ w₆ w₇ = afterwards (statedTrace r) (lists w₄ w₅ w₆ w₇) ≡ traceFlat d₀ d₁ d₂ (pairsOf d₃) (marksOf d₃) (lists d₄ d₅ d₆ d₇)
 
   exits : d₁ < 2 ^ 64 → d₂ < 2 ^ 64 → (r : Trace) (c : PathsAnswer) (v : Val) (w₄ : List Float) (w₅ w₆ : List ℕ) (w₇ : List Float) → Said r w₄ w₅ w₆ w₇ → Demand3 d₀ d₁ d₂
-      → c ≡ traceAnswer (statedTrace r) → length w₄ ≡ length d₄ → length w₅ ≡ length d₅ → length w₆ ≡ length d₆ → length w₇ ≡ length d₇
+      → c ≡ pathsAnswer (statedTrace r) → length w₄ ≡ length d₄ → length w₅ ≡ length d₅ → length w₆ ≡ length d₆ → length w₇ ≡ length d₇
       → ent 𝓤 (⋆ 𝓤 H A (Left w₄ w₅ w₆ w₇ (‵ (An.the-row .own c (v ∷ [])) ∷ []))) (Post v)
   exits g₁ g₂ r c v w₄ w₅ w₆ w₇ said demand e e₄ e₅ e₆ e₇ =
       qed W (Left w₄ w₅ w₆ w₇ (‵ (An.the-row .own c (v ∷ [])) ∷ [])) ∵
       suffices ! _ (ends-at 𝓤 H A f.ended stayed (f.clauses 𝓤 H A mem run) W bound v c (tt, (tt, (tt, (tt, (w₄, (w₅, (w₆, (w₇, tt)))))))) (tt, (tt, (tt, (tt, (e₄, (e₅, (e₆, (e₇, tt))))))))) $
-      says-both ! (draws e said) demand $
+      says-both ! (answered-in pathsAnswer e said) demand $
       nothing ! $ move ! (6 ∷ 0 ∷ []) $ join ! $ move ! (5 ∷ 0 ∷ []) $ join ! $ move ! (4 ∷ 0 ∷ []) $ join ! $ move ! (3 ∷ 0 ∷ []) $ join ! $ move ! (2 ∷ 0 ∷ []) $ join ! $ move ! (1 ∷ 0 ∷ []) $ join ! $
       frame ! $
       nothing ! $ move ! (6 ∷ 0 ∷ []) $ fjoin ! $ move ! (5 ∷ 0 ∷ []) $ fjoin ! $ move ! (4 ∷ 0 ∷ []) $ fjoin ! $ move ! (3 ∷ 0 ∷ []) $ fjoin ! $ move ! (2 ∷ 0 ∷ []) $ fjoin ! $
@@ -226,7 +228,7 @@ module _ {M : Type 1} (𝓤 : URA M) (H : Heap 𝓤) (A : Atoms 𝓤) (W : Given
   After-conv r u c = (‵ ftrue ⊛ ‵ (An.the-row .own c (u ∷ []))) ⊛ raw (ensured 𝓤 H A conv.ended (conv.clauses 𝓤 H A mem run) tt (r, tt) tt c)
 
   abbrev Conv-said : Trace → PathsAnswer → Unit {0} × Unit {0} → Item 𝓤
-  Conv-said r c us = ‵ (lasts conv.ended tt (r, tt) us) ⊛ raw (fact 𝓤 (c ≡ traceAnswer (statedTrace r)))
+  Conv-said r c us = ‵ (lasts conv.ended tt (r, tt) us) ⊛ raw (fact 𝓤 (c ≡ pathsAnswer (statedTrace r)))
 
   module _ (C : Calls 𝓤 H) (Λ : Loops 𝓤 H) (fm : FmC 𝓤 H (W .laws) C)
       (known-rec : Triple 𝓤 (C #records·trace-samples) (Rec 𝓤 H A mem run)) (known-conv : Triple 𝓤 (C #merlontrispa·traces·trace-to-c) (Conv 𝓤 H A mem run)) where
@@ -271,7 +273,7 @@ module _ {M : Type 1} (𝓤 : URA M) (H : Heap 𝓤) (A : Atoms 𝓤) (W : Given
         use1 W (raw (Conv 𝓤 H A mem run .pre (to-conv r v))) (goes-conv r v) $
         calls-at ! fm (Conv 𝓤 H A mem run) known-conv (to-conv r v) (and-then ! (local ! 33 refl) (no-more !)) (λ u.
         use1 W (later (some (After-conv r u))) (id⊢ 𝓤 _) $ await ! tt $ pick ! (λ c. split ! $ move ! (1 ∷ []) $ use1 W (some (Conv-said r c)) (id⊢ 𝓤 _) $ pick ! (λ us. split ! $ move ! (1 ∷ []) $
-        heard ! (c ≡ traceAnswer (statedTrace r)) (λ e. move ! (1 ∷ []) $ split ! $ move ! (1 ∷ []) $
+        heard ! (c ≡ pathsAnswer (statedTrace r)) (λ e. move ! (1 ∷ []) $ split ! $ move ! (1 ∷ []) $
         peeks ! An.the-row (Is An.the-row) (shows 𝓤 H A An.the-row) c (u ∷ []) (λ is′. land ! (from ! (stop !)) (init ! 53 refl (LL.lawful An.the-type An′.the-laws 𝓤 H A W .typed c _ is′ .0)) $
         move ! (3 ∷ []) $ split ! $ move ! (1 ∷ []) $ split ! $ move ! (1 ∷ []) $ split ! $ move ! (1 ∷ []) $ split ! $ move ! (1 ∷ []) $ split ! $ move ! (1 ∷ []) $ split ! $
         -- the locals go

@@ -1,13 +1,14 @@
 -- `trace_to_c` is given what `trace_flat` answers, the lists are those that it leaves, and demand 3 is passed on.
 use borrow.Author.Needs.{needs}
-use Rattle.merlontrispa.proofs.Answers.{draws}
+use Rattle.lent.proofs.Laws.{answered-in}
+use Rattle.merlontrispa.specs.Lines.{pathsAnswer}
 use Rattle.merlontrispa.proofs.traces.mt_trace_flat.Statement.{statement}
 use Rattle.merlontrispa.proofs.traces.mt_trace_flat.Tie as tie
 
 returns : tie.Need-returns
 returns c =
     let e = c .before .before .before .before .before .before .before .before .before .trace-flat .ensures in
-    (draws (c .trace-to-c .ensures) (e .0), e .1)
+    (answered-in pathsAnswer (c .trace-to-c .ensures) (e .0), e .1)
 
 pub mt-trace-flat-spec : {M : Type 1} → statement M
 mt-trace-flat-spec =
