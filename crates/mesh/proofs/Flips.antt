@@ -18,10 +18,11 @@ use Rattle.cyclic.specs.declared.seam.Seam.the-variants.{Joined}
 use Rattle.cyclic.specs.Mapping as cyclic
 use Rattle.surface.specs.Surface.{Seam, Shape, Pair, ordered, insert, proper, slot, triangleNumber, stepOn, reversed, process, flipped, pair}
 use Rattle.surface.specs.Found.{ofMapping, seamOf}
+use Rattle.surface.specs.Rims.{stepsOf, lowOf, highOf}
 use Rattle.mesh.specs.declared.corner.Surface.{Surface}
 use Rattle.mesh.specs.Corners.{shapeOf, Bounded}
 use Rattle.mesh.specs.Held.{pairAt, pairsIn}
-use Rattle.mesh.specs.Rims.{stepsOf, lowOf, highOf, Starts, Rims, flipStep, flipSteps, flips}
+use Rattle.mesh.specs.Rims.{Starts, Rims, flipStep, flipSteps, flips}
 use Rattle.mesh.proofs.Firsts.{length-firsts}
 use Rattle.mesh.proofs.Numbers.{number-step, low-u, low-v, high-u, high-v}
 

@@ -6,8 +6,8 @@ use mathlib.Core.List.{List}
 use lib.Dec.{ltb}
 use lib.ListN.{length, getD}
 use Rattle.param.specs.declared.Axis.{Axis}
-use Rattle.param.specs.declared.Axis.the-variants.{AxisU, AxisV}
-use Rattle.surface.specs.Surface.{Seam, reversed, Shape, triangleNumber, stepOn, lowU, highU, lowV, highV, Pair, putDown, process}
+use Rattle.surface.specs.Surface.{Seam, reversed, Shape, triangleNumber, stepOn, Pair, putDown, process}
+use Rattle.surface.specs.Rims.{stepsOf, lowOf, highOf}
 use Rattle.mesh.specs.declared.corner.Surface.{Surface}
 use Rattle.mesh.specs.Corners.{shapeOf}
 
@@ -15,20 +15,6 @@ use Rattle.mesh.specs.Corners.{shapeOf}
 abbrev pub oneMore : ℕ → Bool → ℕ
 oneMore k true = k + 1
 oneMore k false = k
-
--- the steps along a seam's rims
-abbrev pub stepsOf : Axis → Shape → ℕ
-stepsOf AxisU s = s .N
-stepsOf AxisV s = s .M
-
--- the slot at step i of the low rim, and of the high rim
-abbrev pub lowOf : Axis → Shape → ℕ → ℕ
-lowOf AxisU s i = lowU s i
-lowOf AxisV s i = lowV s i
-
-abbrev pub highOf : Axis → Shape → ℕ → ℕ
-highOf AxisU s i = highU s i
-highOf AxisV s i = highV s i
 
 -- the number of triangles before each u, and of all
 pub record Starts (surface : Surface) (starts : List ℕ) : Type 0 where

@@ -14,9 +14,10 @@ ghost use lib.ListN.{length, getD};
 ghost use Rattle.cyclic.specs.declared.seam.Seam.the-variants.{Joined};
 ghost use Rattle.surface.specs.Surface.{proper, slot, triangleNumber, wrapEnds, stepOn, flipped as allFlipped};
 ghost use Rattle.surface.specs.Found.{ofMapping, seamOf, Maps};
+ghost use Rattle.surface.specs.Rims.{stepsOf, lowOf, highOf};
 ghost use Rattle.mesh.specs.Corners.{shapeOf, Bounded};
 ghost use Rattle.mesh.specs.Held.{pairsIn};
-ghost use Rattle.mesh.specs.Rims.{stepsOf, lowOf, highOf, Rims, Starts, oneMore, flipStep, flipSteps, flips};
+ghost use Rattle.mesh.specs.Rims.{Rims, Starts, oneMore, flipStep, flipSteps, flips};
 
 // Whether the numbers of the first triangle of cell (u, v) differ.
 fn first_differs(surface: Surface, u: usize, v: usize) -> bool

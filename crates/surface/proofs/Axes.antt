@@ -9,6 +9,7 @@ use lib.Arith.{digits-div, digits-mod}
 use Rattle.param.specs.declared.Axis.{Axis}
 use Rattle.param.specs.declared.Axis.the-variants.{AxisU, AxisV}
 use Rattle.surface.specs.Surface.{Seam, unjoined, forward, reverse, joined, reversed, inverse, Rule, once, twice, Split, falling, rising, Shape, number, at, StepsAround, NoneOfTwo}
+use Rattle.surface.specs.Rims.{stepsOf as rows}
 use Rattle.surface.proofs.Covered.{AtZero, Beside, Covered, neither, only-u, only-v, both-u, both-v}
 use Rattle.surface.proofs.Steps.{Fits, Offset, inv-forward, inv-reverse}
 use Rattle.surface.proofs.Strip.{Strip, Kind, straight, across, diagonal}
@@ -17,10 +18,6 @@ use Rattle.surface.proofs.Halves.{cellHalf, cellDir}
 abbrev pub columns : Axis → Shape → ℕ
 columns AxisU s = s .M
 columns AxisV s = s .N
-
-abbrev pub rows : Axis → Shape → ℕ
-rows AxisU s = s .N
-rows AxisV s = s .M
 
 -- the seam that joins the last column to the first, and the one that closes the columns
 abbrev pub seamOf : Axis → Shape → Seam

@@ -13,6 +13,7 @@ use borrow.Author.Tests.{ne-eqb}
 use Rattle.basics.proofs.Numbers.{lt-or-le}
 use Rattle.param.specs.declared.Axis.{Axis}
 use Rattle.surface.specs.Surface.{Seam, unjoined, forward, reverse, reversed, Shape, J, Triangle, slot, proper, slots, triangles, Pair, pair, ordered, triangleNumber, stepOn, process, flipped, Follows, nth, Owns, OwnedOnce, OwnedTwice, Rim, SameWay, GridEdge, along-u, along-v, number, at, Jₙ, StepsAround, NoneOfTwo, Meets, falls, rises}
+use Rattle.surface.specs.Rims.{lowOf, highOf}
 use Rattle.surface.proofs.Covered.{Covered}
 use Rattle.surface.proofs.Steps.{Fits, laidOn, on-below}
 use Rattle.surface.proofs.Strip.{Strip, ThreeAround, reversed-joined, straight}
@@ -20,7 +21,7 @@ use Rattle.surface.proofs.CellSides.{Cell}
 use Rattle.surface.proofs.Owners.{Holds, SameTri, Other, owned}
 use Rattle.surface.proofs.Directions.{Runs, Turn, runs-holds, holds-flip, holds-runs, runs-differ, same-way, turn-shared}
 use Rattle.surface.proofs.Axes.{xOf, yOf, turn-x, turn-y, SeenAlong, HasSteps, around-seen, none-seen, strip, covered-along}
-use Rattle.surface.proofs.Seen.{to-runs, from-runs, seen-cell, rim-seen, seen-rim, edge-seen, lows, highs, low-index, high-index, flipped-seen}
+use Rattle.surface.proofs.Seen.{to-runs, from-runs, seen-cell, rim-seen, seen-rim, edge-seen, low-index, high-index, flipped-seen}
 use Rattle.surface.proofs.Triangles.{index, halfAt, uAt, vAt, slot-at, uAt-lt, vAt-lt, index-at, index-lt, uAt-index, vAt-index, halfAt-index, kept-length, kept-at}
 use Rattle.surface.proofs.Pairs.{step-on, pair-eq, mem-in, AllLaid, process-to, process-from}
 
@@ -223,11 +224,11 @@ module _ (s : Shape) (steps : HasSteps s) (ax : Axis) (seen : SeenAlong ax s) wh
   high-half : Bool
   high-half = S .half straight true
 
-  low-is : (y : ℕ) → lows ax s y ≡ indexOf low-half 0 y
+  low-is : (y : ℕ) → lowOf ax s y ≡ indexOf low-half 0 y
   unfolding indexOf low-half strip
   low-is y = low-index s ax y
 
-  high-is : (x y : ℕ) → x + 1 ≡ S .X → highs ax s y ≡ indexOf high-half x y
+  high-is : (x y : ℕ) → x + 1 ≡ S .X → highOf ax s y ≡ indexOf high-half x y
   unfolding indexOf high-half strip
   high-is x y e = let last : S .X - 1 ≡ x = omega arith in high-index s ax y ∙ ap (λ (z : ℕ). index s (S .half straight true) (xOf ax z y) (yOf ax z y)) last
 
@@ -240,17 +241,17 @@ module _ (s : Shape) (steps : HasSteps s) (ax : Axis) (seen : SeenAlong ax s) wh
   slot-listed : (i : ℕ) → i < slots s → (proper (slot s i) ≡ true) × (triangleNumber s i ≡ i)
   slot-listed i h = (slot-proper i h, number-is i h)
 
-  laid : NoneOfTwo s → reversed (S .seam) ≡ true → AllLaid s (S .seam) (S .Y) (lows ax s) (highs ax s) on
+  laid : NoneOfTwo s → reversed (S .seam) ≡ true → AllLaid s (S .seam) (S .Y) (lowOf ax s) (highOf ax s) on
   unfolding strip
   laid none e =
       record {
         on-is = λ y h. reversed-step (S .seam) (S .closed) (S .Y) y (none-seen ax s none e) (S .fits) e h;
         on-lt = on-lt;
-        low-proper = λ y h. slot-listed (lows ax s y) (omega (arith, low-is y, indexOf-lt low-half 0 y (low-cell y h)));
-        high-proper = λ y h. slot-listed (highs ax s y) (omega (arith, high-is far y far-is, indexOf-lt high-half far y (high-cell y h)));
+        low-proper = λ y h. slot-listed (lowOf ax s y) (omega (arith, low-is y, indexOf-lt low-half 0 y (low-cell y h)));
+        high-proper = λ y h. slot-listed (highOf ax s y) (omega (arith, high-is far y far-is, indexOf-lt high-half far y (high-cell y h)));
       }
 
-  flipped-reversed : reversed (S .seam) ≡ true → flipped s ≡ process s (S .seam) (S .Y) (lows ax s) (highs ax s) (S .Y) []
+  flipped-reversed : reversed (S .seam) ≡ true → flipped s ≡ process s (S .seam) (S .Y) (lowOf ax s) (highOf ax s) (S .Y) []
   unfolding strip
   flipped-reversed e = flipped-seen s ax (seen .plain) ∙ rw e
 
@@ -262,11 +263,11 @@ module _ (s : Shape) (steps : HasSteps s) (ax : Axis) (seen : SeenAlong ax s) wh
   abbrev TurnAt : ℕ → ℕ → Type 0
   TurnAt i j = Turn S (halfAt i) (xAt i) (yAt i) (halfAt j) (xAt j) (yAt j)
 
-  turn-low : (i j : ℕ) → TurnAt i j → i ≡ lows ax s (on (yAt j))
+  turn-low : (i j : ℕ) → TurnAt i j → i ≡ lowOf ax s (on (yAt j))
   unfolding low-half
   turn-low i j t = is-indexOf i low-half 0 (on (yAt j)) (t .low-half, t .low-x, t .low-y) ∙ sym (low-is (on (yAt j)))
 
-  turn-high : (i j : ℕ) → TurnAt i j → j ≡ highs ax s (yAt j)
+  turn-high : (i j : ℕ) → TurnAt i j → j ≡ highOf ax s (yAt j)
   unfolding high-half
   turn-high i j t = is-indexOf j high-half (xAt j) (yAt j) (t .high-half, refl, refl) ∙ sym (high-is (xAt j) (yAt j) (t .high-x))
 

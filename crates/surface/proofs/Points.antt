@@ -14,11 +14,12 @@ use Rattle.basics.proofs.Numbers.{eqb-cases}
 use Rattle.param.specs.declared.Axis.{Axis}
 use Rattle.param.specs.declared.Axis.the-variants.{AxisU, AxisV}
 use Rattle.surface.specs.Surface.{Seam, joined, inverse, Point, at, Rule, once, twice, Shape, uRule, vRule, number, joinedBy, J, cornerBy, corner}
+use Rattle.surface.specs.Rims.{stepsOf as rows}
 use Rattle.surface.proofs.Steps.{wrap, wrap-open, wrap-closed, wrap-below, wrap-wrap, carried, carried-wrap, inv-forward-0}
 use Rattle.surface.proofs.Strip.{Strip, colOf, rowOf, pointOf, row-below, col-below}
 use Rattle.surface.proofs.CellSides.{shift, shift-le, corners}
 use Rattle.surface.proofs.Halves.{cellCorners}
-use Rattle.surface.proofs.Axes.{columns, rows, seamOf, closing, xOf, yOf, Plain, KeepsInside, SeenAlong, HasSteps, some, strip}
+use Rattle.surface.proofs.Axes.{columns, seamOf, closing, xOf, yOf, Plain, KeepsInside, SeenAlong, HasSteps, some, strip}
 
 -- ---- the two rules, by column and row
 

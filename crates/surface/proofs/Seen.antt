@@ -7,7 +7,8 @@ use mathlib.Core.Bool.{Bool, true, false, not, true≢false, cond}
 use mathlib.Core.List.{[]}
 use Rattle.param.specs.declared.Axis.{Axis}
 use Rattle.param.specs.declared.Axis.the-variants.{AxisU, AxisV}
-use Rattle.surface.specs.Surface.{Seam, unjoined, joined, reversed, Split, falling, rising, Shape, J, halfOf, Follows, Rim, GridEdge, along-u, along-v, falls, rises, process, flipped, lowU, highU, lowV, highV}
+use Rattle.surface.specs.Surface.{Seam, unjoined, joined, reversed, Split, falling, rising, Shape, J, halfOf, Follows, Rim, GridEdge, along-u, along-v, falls, rises, process, flipped}
+use Rattle.surface.specs.Rims.{stepsOf as rows, lowOf, highOf}
 use Rattle.surface.proofs.Strip.{Strip, Kind, straight, across, diagonal, pointOf}
 use Rattle.surface.proofs.CellSides.{Cell, corners, endsOf, sideFrom, sideTo}
 use Rattle.surface.proofs.Owners.{OnRim}
@@ -15,7 +16,7 @@ use Rattle.surface.proofs.Rims.{Numbered, EdgeAt, edge-flip, rim-to, ri
 use Rattle.surface.proofs.Directions.{Runs, along-ends, ends-along}
 use Rattle.surface.proofs.Triangles.{halfNum, index}
 use Rattle.surface.proofs.Halves.{cellDir, start, finish, cellCorners, follows-run, run-follows, lowU-index, highU-index, lowV-index, highV-index}
-use Rattle.surface.proofs.Axes.{columns, rows, seamOf, closing, xOf, yOf, kindOf, turn-kind, sideHalf, sideDir, Plain, SeenAlong, HasSteps, strip}
+use Rattle.surface.proofs.Axes.{columns, seamOf, closing, xOf, yOf, kindOf, turn-kind, sideHalf, sideDir, Plain, SeenAlong, HasSteps, strip}
 use Rattle.surface.proofs.Points.{J-is, corner-is}
 
 -- ---- runs along a cell's sides
@@ -52,19 +53,11 @@ plain-reversed m (inl e) = ap reversed e
 plain-reversed m (inr e) = ap reversed e
 
 -- the slots of the strip's first and last column
-abbrev pub lows : Axis → Shape → ℕ → ℕ
-lows AxisU s = lowU s
-lows AxisV s = lowV s
-
-abbrev pub highs : Axis → Shape → ℕ → ℕ
-highs AxisU s = highU s
-highs AxisV s = highV s
-
-pub low-index : (s : Shape) (a : Axis) (y : ℕ) → lows a s y ≡ index s (sideHalf a (s .split) straight false) (xOf a 0 y) (yOf a 0 y)
+pub low-index : (s : Shape) (a : Axis) (y : ℕ) → lowOf a s y ≡ index s (sideHalf a (s .split) straight false) (xOf a 0 y) (yOf a 0 y)
 low-index s AxisU y = lowU-index s y
 low-index s AxisV y = lowV-index s y
 
-pub high-index : (s : Shape) (a : Axis) (y : ℕ) → highs a s y ≡ index s (sideHalf a (s .split) straight true) (xOf a (columns a s - 1) y) (yOf a (columns a s - 1) y)
+pub high-index : (s : Shape) (a : Axis) (y : ℕ) → highOf a s y ≡ index s (sideHalf a (s .split) straight true) (xOf a (columns a s - 1) y) (yOf a (columns a s - 1) y)
 high-index s AxisU y = highU-index s y
 high-index s AxisV y = highV-index s y
 
@@ -149,7 +142,7 @@ edge-seen s steps AxisV w i j i′ j′ (rises {u} {v} h k e) = edge-rising (by-
 
 -- only the strip's seam can be reversed
 pub flipped-seen : (s : Shape) (a : Axis) → Plain (closing a s) →
-    flipped s ≡ cond (reversed (seamOf a s)) (process s (seamOf a s) (rows a s) (lows a s) (highs a s) (rows a s) []) []
+    flipped s ≡ cond (reversed (seamOf a s)) (process s (seamOf a s) (rows a s) (lowOf a s) (highOf a s) (rows a s) []) []
 unfolding flipped
 flipped-seen s AxisU w = rw (plain-reversed (s .sv) w)
 flipped-seen s AxisV w = rw (plain-reversed (s .su) w)

@@ -1,4 +1,4 @@
--- `mesh::flipped::flip_step` meets its contract: its tests are those of `process`, and the count after a kept triangle is one more than its number. Assumes nothing.
+-- `mesh::flipped::flip_step` meets its contract: its tests are those of `process`, and the count after a kept triangle is one more than its number.
 use Prim.Native.Nat.{ℕ, _+_, _-_, _<_}
 use mathlib.Core.Path.{_≡_, sym, _∙_}
 use mathlib.Core.Bool.{Bool, true, _&&_, cond}
@@ -10,9 +10,10 @@ use borrow.Author.Tests.{not-true, not-false}
 use Rattle.basics.proofs.Tests.{and-both}
 use Rattle.surface.specs.Surface.{Shape, Pair, insert, ordered, triangleNumber, stepOn}
 use Rattle.surface.specs.Found.{ofMapping}
+use Rattle.surface.specs.Rims.{stepsOf, lowOf, highOf}
 use Rattle.mesh.specs.Corners.{shapeOf}
 use Rattle.mesh.specs.Held.{pairsIn}
-use Rattle.mesh.specs.Rims.{stepsOf, lowOf, highOf, flipStep}
+use Rattle.mesh.specs.Rims.{flipStep}
 use Rattle.mesh.proofs.Flips.{steps-most, number-before, ordered-up, ordered-down, no-step, step-pair}
 use Rattle.mesh.proofs.flipped.flip_step.Statement.{statement}
 use Rattle.mesh.proofs.flipped.flip_step.Tie as tie

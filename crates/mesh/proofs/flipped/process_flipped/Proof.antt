@@ -1,13 +1,14 @@
--- `mesh::flipped::process_flipped` meets its contract: after i steps the list holds what `process` gives for them. Assumes nothing.
+-- `mesh::flipped::process_flipped` meets its contract: after i steps the list holds what `process` gives for them.
 use Prim.Native.Nat.{_-_, _≤_}
 use mathlib.Core.Path.{_≡_, refl, _∙_}
 use native.Mathlib.Omega.{arith}
 use lib.ListN.{length}
 use borrow.Author.Needs.{needs}
 use Rattle.surface.specs.Found.{ofMapping}
+use Rattle.surface.specs.Rims.{stepsOf}
 use Rattle.mesh.specs.Corners.{shapeOf}
 use Rattle.mesh.specs.Held.{pairsIn, pairAt}
-use Rattle.mesh.specs.Rims.{stepsOf, flipSteps}
+use Rattle.mesh.specs.Rims.{flipSteps}
 use Rattle.mesh.proofs.Firsts.{length-firsts}
 use Rattle.mesh.proofs.Flips.{flips-none, flips-more, flips-most, held-pairs}
 use Rattle.mesh.proofs.flipped.process_flipped.Statement.{statement}

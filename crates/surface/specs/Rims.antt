@@ -1,0 +1,19 @@
+-- The rims of either seam: that of axis u joins u = 0, its low rim, and u = M, its high rim; that of axis v joins v = 0 and v = N.
+use Prim.Native.Nat.{ℕ}
+use Rattle.param.specs.declared.Axis.{Axis}
+use Rattle.param.specs.declared.Axis.the-variants.{AxisU, AxisV}
+use Rattle.surface.specs.Surface.{Shape, lowU, highU, lowV, highV}
+
+-- the steps along the rims
+abbrev pub stepsOf : Axis → Shape → ℕ
+stepsOf AxisU s = s .N
+stepsOf AxisV s = s .M
+
+-- the slot at each step of the low rim, and of the high rim
+abbrev pub lowOf : Axis → Shape → ℕ → ℕ
+lowOf AxisU s = lowU s
+lowOf AxisV s = lowV s
+
+abbrev pub highOf : Axis → Shape → ℕ → ℕ
+highOf AxisU s = highU s
+highOf AxisV s = highV s
