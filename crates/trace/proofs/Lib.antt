@@ -10,3 +10,4 @@ pub mod Drawn
 pub mod Kept
 pub mod Demands
 pub mod Ended
+pub mod Before
