@@ -10,4 +10,3 @@ pub mod Drawn
 pub mod Kept
 pub mod Demands
 pub mod Ended
-pub mod Before
