@@ -21,6 +21,9 @@ use judge::Tried;
 use log::Log;
 use source::Source;
 
+/// The name of a wrong program, and what is wrong with how it was refused.
+type Verdict = (String, Result<(), String>);
+
 fn main() -> ExitCode {
     match run(std::env::args().skip(1).collect()) {
         Ok(0) => ExitCode::SUCCESS,
@@ -76,7 +79,7 @@ fn crates(root: &Path, wanted: &[String]) -> Result<Vec<String>, String> {
 }
 
 /// The verdict on each wrong program of a crate.
-fn judge_crate(root: &Path, krate: &str) -> Result<Vec<(String, Result<(), String>)>, String> {
+fn judge_crate(root: &Path, krate: &str) -> Result<Vec<Verdict>, String> {
     let folder = root.join("crates").join(krate);
     let edits = folder.join("must-fail");
     let mut verdicts = Vec::new();
@@ -84,32 +87,44 @@ fn judge_crate(root: &Path, krate: &str) -> Result<Vec<(String, Result<(), Strin
         return Ok(verdicts);
     }
     let source = Source::new(krate, files(&folder)?);
-    for label in names(&edits)?
-        .iter()
-        .filter_map(|n| n.strip_suffix(".edit"))
-    {
-        let text = read(&edits.join(format!("{label}.edit")))?;
-        let programs = match edit::parse(&text) {
-            Ok(programs) => programs,
-            Err(why) => {
-                verdicts.push((format!("{label}.edit"), Err(why)));
-                continue;
-            }
-        };
-        let copy = root.join("target/must-fail").join(krate).join(label);
-        let tried = Tried {
-            source: &source,
-            checked: &files(&copy)?,
-            log: &Log::new(krate, label, read(&copy.join(".log"))?),
-        };
-        let judged = tried.judge(&programs).into_iter();
-        verdicts.extend(judged.map(|(name, verdict)| (name.to_string(), verdict)));
+    for name in names(&edits)? {
+        let copy = root.join("target/must-fail").join(krate);
+        verdicts.extend(
+            match judge_file(&source, krate, &edits.join(&name), &copy) {
+                Ok(judged) => judged,
+                Err(why) => vec![(name, Err(why))],
+            },
+        );
     }
     Ok(once(verdicts))
 }
 
+/// The verdict on each wrong program of a file, from what `rt` left of its check below the folder `checks`.
+fn judge_file(
+    source: &Source,
+    krate: &str,
+    file: &Path,
+    checks: &Path,
+) -> Result<Vec<Verdict>, String> {
+    let name = file.file_name().unwrap_or_default().to_string_lossy();
+    let label = name
+        .strip_suffix(".edit")
+        .ok_or("no name of an edit: it ends in `.edit`")?;
+    let programs = edit::parse(&read(file)?)?;
+    let copy = checks.join(label);
+    let tried = Tried {
+        source,
+        checked: &files(&copy)?,
+        log: &Log::new(krate, label, read(&copy.join(".log"))?),
+    };
+    let judged = tried.judge(&programs).into_iter();
+    Ok(judged
+        .map(|(name, verdict)| (name.to_string(), verdict))
+        .collect())
+}
+
 /// A name that a crate's wrong programs have twice is a fault of the second.
-fn once(verdicts: Vec<(String, Result<(), String>)>) -> Vec<(String, Result<(), String>)> {
+fn once(verdicts: Vec<Verdict>) -> Vec<Verdict> {
     let mut seen = BTreeSet::new();
     let judged = verdicts.into_iter().map(|(name, verdict)| {
         let fresh = seen.insert(name.clone());
