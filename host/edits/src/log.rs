@@ -5,11 +5,12 @@ use crate::edit::Left;
 /// Rattle and antt have these words where a fact that a proof needs does not hold. An error in other words
 /// shows nothing of the program's meaning: a need that is not there under its name, a name that is not in scope, a file
 /// that cannot be read.
-const FACT_FAILS: [&str; 9] = [
+const FACT_FAILS: [&str; 10] = [
     // a proof of another statement than the one asked for
     "the two types differ",
     "the two types first differ",
     "the two sides differ",
+    "`, but this has type `",
     // `rw` leaves something, or finds nothing to rewrite
     "give a proof of that as the last argument",
     "no equation of the list has an instance in the goal",

@@ -82,7 +82,7 @@ impl Source {
         users.map(|f| f.path.clone()).collect()
     }
 
-    /// The functions that one reaches by calls. A call is told by the function's last name alone, so that it may find
+    /// The other functions that one reaches by calls. A call is told by the function's last name alone, so that it may find
     /// too many and never too few.
     pub fn reached(&self, from: &str) -> BTreeSet<String> {
         let functions = self.functions();
@@ -95,6 +95,7 @@ impl Source {
                 .flat_map(|f| called(f, &functions));
             open.extend(calls.filter(|callee| reached.insert(callee.clone())));
         }
+        reached.remove(from);
         reached
     }
 
@@ -182,7 +183,7 @@ fn constant(line: &str) -> Option<&str> {
 
 /// The functions whose names stand in another's text as those of calls.
 fn called(function: &Function, all: &[Function]) -> Vec<String> {
-    let body = function.text.split_once('\n').map_or("", |(_, rest)| rest);
+    let body = function.text.split_once('(').map_or("", |(_, rest)| rest);
     let calls: BTreeSet<&str> = words(body)
         .filter(|(_, next)| *next == Some('('))
         .map(|(word, _)| word)
@@ -293,6 +294,15 @@ mod tests {
             ])
         );
         assert!(source().reached("float::sign::negative").is_empty());
+    }
+
+    #[test]
+    fn a_call_of_itself_or_on_one_line_is_followed_too() {
+        let mut source = source();
+        let other = "fn down(x: u8) { down(one(x)) }\n\nfn one(x: u8) {}\n";
+        source.files.insert("src/down.rt".into(), other.into());
+        let reached = source.reached("float::down::down");
+        assert_eq!(reached, set(&["float::down::one"]));
     }
 
     #[test]
