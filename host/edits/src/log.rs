@@ -5,17 +5,20 @@ use crate::edit::Left;
 /// Rattle and antt have these words where a fact that a proof needs does not hold. An error in other words
 /// shows nothing of the program's meaning: a need that is not there under its name, a name that is not in scope, a file
 /// that cannot be read.
-const FACT_FAILS: [&str; 10] = [
+const FACT_FAILS: [&str; 12] = [
     // a proof of another statement than the one asked for
     "the two types differ",
     "the two types first differ",
     "the two sides differ",
-    "`, but this has type `",
+    "the two sides first differ",
+    "expected type `",
     // `rw` leaves something, or finds nothing to rewrite
     "give a proof of that as the last argument",
     "no equation of the list has an instance in the goal",
     "no occurrence of the path's left endpoint in the goal",
     "no occurrence of the path's right endpoint in the goal",
+    // `cc`: the equations at hand do not make the two sides one
+    "list the missing equation with its arguments",
     // `search` and `omega`
     "`search`: no proof of",
     "the goal does not follow from what it read",
