@@ -5,13 +5,14 @@ use crate::edit::Left;
 /// Rattle and antt have these words where a fact that a proof needs does not hold. An error in other words
 /// shows nothing of the program's meaning: a need that is not there under its name, a name that is not in scope, a file
 /// that cannot be read.
-const FACT_FAILS: [&str; 12] = [
+const FACT_FAILS: [&str; 13] = [
     // a proof of another statement than the one asked for
     "the two types differ",
     "the two types first differ",
     "the two sides differ",
     "the two sides first differ",
     "expected type `",
+    "does not hold (this comparison",
     // `rw` leaves something, or finds nothing to rewrite
     "give a proof of that as the last argument",
     "no equation of the list has an instance in the goal",
@@ -44,6 +45,12 @@ struct Fault<'a> {
 impl Log {
     /// The log of the file `label` of a crate.
     pub fn new(krate: &str, label: &str, text: String) -> Log {
+        // antt says what it compared on two lines, and of the comparison on a third
+        let text = ["≟ ", "does not hold (this comparison"]
+            .iter()
+            .fold(text, |text, words| {
+                text.replace(&format!("\n  {words}"), &format!(" {words}"))
+            });
         Log {
             folder: format!("/must-fail/{krate}/{label}/"),
             text,
@@ -159,6 +166,15 @@ mod tests {
     }
 
     #[test]
+    fn a_comparison_that_fails_counts() {
+        let compared =
+            "`x`\n  ≟ `y`\n  does not hold (this comparison, made at this position, had to wait)";
+        let own = error("sign/abs/Proof.antt", "returns", compared);
+        let line = "fn float::sign::abs: not proved";
+        assert_eq!(log(&[&own, line]).leaves(&function()), Ok(()));
+    }
+
+    #[test]
     fn a_need_that_search_does_not_close_counts() {
         let line = "fn float::sign::abs: no proof: expected `abs-spec` in /repo/Proof.antt; `search` does not close `returns`";
         assert_eq!(log(&[line]).leaves(&function()), Ok(()));
@@ -195,9 +211,15 @@ mod tests {
             "returns",
             "`tie` has no `Need-returns` that can be named from here",
         );
+        let field = error(
+            "sign/abs/Proof.antt",
+            "returns",
+            "record `After-is-negative`\n  has no field `abs`",
+        );
         let own = error("sign/abs/Proof.antt", "returns-2", DIFFER);
         let line = "fn float::sign::abs: not proved";
         assert!(log(&[&name, line]).leaves(&function()).is_err());
+        assert!(log(&[&field, line]).leaves(&function()).is_err());
         assert!(log(&[&name, &own, line]).leaves(&function()).is_err());
     }
 
