@@ -89,7 +89,10 @@ pub fn parse(text: &str) -> Result<Vec<Wrong>, String> {
         }
     }
     found.iter().try_for_each(whole)?;
-    Ok(found)
+    match found.is_empty() {
+        true => Err("no wrong program".to_string()),
+        false => Ok(found),
+    }
 }
 
 fn split(line: &str) -> Result<(&str, &str), String> {
@@ -143,6 +146,7 @@ mod tests {
     #[test]
     fn a_line_without_its_place_is_a_fault() {
         for text in [
+            "# nothing\n",
             "file: src/lib.rt\n",
             "wrong: w\nleaves: fn a::b\nold: x\nnew: y\n",
             "wrong: w\nleaves: fn a::b\nfile: src/lib.rt\nnew: y\n",

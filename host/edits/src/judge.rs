@@ -80,9 +80,6 @@ impl Tried<'_> {
     /// named again or reaches another one by calls. A changed definition or lemma can bring down any number of
     /// proofs, so its program has a check to itself.
     fn alone(&self, programs: &[Wrong]) -> Result<(), String> {
-        if programs.is_empty() {
-            return Err("no wrong program".to_string());
-        }
         if programs.len() > 1 && !programs.iter().all(Wrong::of_code) {
             return Err("a change of specs/ or proofs/ shares its check".to_string());
         }
@@ -102,13 +99,11 @@ impl Tried<'_> {
     /// What was checked is the crate as it stands with every change of the file.
     fn is_checked(&self, programs: &[Wrong]) -> Result<(), String> {
         let mut source = self.source.clone();
-        let changes = || programs.iter().flat_map(|wrong| &wrong.changes);
-        for Change { file, old, new } in changes() {
+        for Change { file, old, new } in programs.iter().flat_map(|wrong| &wrong.changes) {
             source.replace(file, old, new)?;
         }
-        let differs = |file: &str| self.checked.get(file).map(String::as_str) != source.text(file);
-        match changes().find(|change| differs(&change.file)) {
-            Some(change) => Err(format!("{} was checked in another state", change.file)),
+        match source.differs(self.checked) {
+            Some(file) => Err(format!("{file} was checked in another state")),
             None => Ok(()),
         }
     }

@@ -34,6 +34,14 @@ impl Source {
         self.files.get(file).map(String::as_str)
     }
 
+    /// The first file that other texts have not, or have otherwise.
+    pub fn differs<'a>(&'a self, other: &'a BTreeMap<String, String>) -> Option<&'a str> {
+        let mut names = self.files.keys().chain(other.keys());
+        names
+            .find(|file| self.files.get(*file) != other.get(*file))
+            .map(String::as_str)
+    }
+
     /// Replaces `old`, which stands in the file exactly once, by `new`, and hands back the line where it stood.
     pub fn replace(&mut self, file: &str, old: &str, new: &str) -> Result<usize, String> {
         let text = self
@@ -303,6 +311,16 @@ mod tests {
         source.files.insert("src/down.rt".into(), other.into());
         let reached = source.reached("float::down::down");
         assert_eq!(reached, set(&["float::down::one"]));
+    }
+
+    #[test]
+    fn a_file_that_is_not_the_same_is_found() {
+        let mut other = source().files;
+        assert_eq!(source().differs(&other), None);
+        other.insert("src/more.rt".into(), String::new());
+        assert_eq!(source().differs(&other), Some("src/more.rt"));
+        other.remove("src/lib.rt");
+        assert_eq!(source().differs(&other), Some("src/lib.rt"));
     }
 
     #[test]
