@@ -2,9 +2,9 @@
 
 use crate::edit::Left;
 
-/// Rattle and antt have these words where a fact that a proof needs does not hold. An error in other words
-/// shows nothing of the program's meaning: a need that is not there under its name, a name that is not in scope, a file
-/// that cannot be read.
+/// antt has these words where a proof does not show a fact that it needs. An error in other words tells nothing of the
+/// program's meaning: a need or a field that is not there under its name, a name that is not in scope, a file that
+/// cannot be read.
 const FACT_FAILS: &[&str] = &[
     // a proof of another statement than the one asked for
     "the two types differ",
