@@ -1,5 +1,6 @@
 // Where the events of a leg stand, in order: their lambdas in one list, the codes of their sides
-// in another, and a count. Two lists of numbers are lent where a list of events would be copied.
+// in another, and a count. A lent list of structs would have no help with its proof, and an array
+// of events by value is copied at each call.
 use crate::event::Candidate;
 use crate::event::EdgeEvent;
 use crate::event::ParamEdge;
