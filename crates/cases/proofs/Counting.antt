@@ -1,4 +1,4 @@
--- What `Counts` follows from. Assumes nothing.
+-- What `Counts` follows from.
 use Prim.Native.Nat.{ℕ, _≤_}
 use mathlib.Core.Path.{sym}
 use mathlib.Core.List.{List}

@@ -1,4 +1,4 @@
--- What the contracts of the lengths cite. Assumes nothing.
+-- What the contracts of the lengths cite.
 use Prim.Native.Nat.{ℕ, _≤_}
 use mathlib.Core.Path.{_≡_}
 use mathlib.Core.List.{List}

@@ -1,5 +1,5 @@
 -- Where a mapping takes an index, said without `%`; that `image` and `inverse` undo each other; and the image of the next index.
--- An index is at most steps and an offset below them, so each sum passes steps at most once; the rest is arithmetic modulo steps. Assumes nothing.
+-- An index is at most steps and an offset below them, so each sum passes steps at most once; the rest is arithmetic modulo steps.
 use Prim.Native.Nat.{ℕ, _+_, _-_, _%_, _≤_, _<_}
 use native.Mathlib.Nat.{eq-zero-or-pos, eq-or-lt-of-le, mod-lt, mod-self, mod-eq-of-lt, mod-eq-sub-mod, mod-add-mod, add-mod-mod, add-mod-right}
 use native.Mathlib.Omega.{arith}

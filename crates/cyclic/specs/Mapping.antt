@@ -1,4 +1,4 @@
--- "Mapping follows `map_index` (from a to b) and `map_index_inv` (b to a); note the offset-0 forms." Assumes nothing.
+-- "Mapping follows `map_index` (from a to b) and `map_index_inv` (b to a); note the offset-0 forms."
 use Prim.Native.Nat.{ℕ, _+_, _-_, _%_, _≤_, _<_}
 use mathlib.Core.Bool.{Bool, true, false, _&&_, cond}
 use lib.Dec.{eqb, ltb, leb}

@@ -1,5 +1,5 @@
 -- `floorZ` and `ceilZ` from the cut toward zero: of a negative value the floor is one below the cut where something was cut off, of a positive one the
--- ceiling is one above it; and whether something was cut off is one comparison with the cut as a float, which is exact. Assumes nothing.
+-- ceiling is one above it; and whether something was cut off is one comparison with the cut as a float, which is exact.
 use mathlib.Core.Path.{_≡_, refl, sym, ap, _∙_}
 use Prim.Native.Nat.{ℕ, zero, suc, _-_, _*_, _/_, _%_, _^_, _≤_, _<_}
 use native.Mathlib.Nat.{le-trans, lt-of-lt-of-le, le-of-lt, le-of-eq, lt-irrefl, mul-one, mul-comm, div-one, add-zero, le-add-right, div-mul-le-self, div-add-mod', div-le-of-le-mul, div-lt-iff-lt-mul, le-div-iff-mul-le, lt-of-mul-lt-mul-right, min-eq-left, min-eq-right}

@@ -1,5 +1,5 @@
 -- `totalOrder` is a total order of the values that are no NaN: turned round the answer is the other one, less is transitive, and what is Equal is equal as
--- data, since the bits of a value depend on its sign and size alone. Assumes nothing.
+-- data, since the bits of a value depend on its sign and size alone.
 use mathlib.Core.Path.{_≡_, refl, sym, ap, _∙_}
 use mathlib.Core.Logic.{_⊎_, inl, inr}
 use Prim.Native.Nat.{ℕ, _+_, _-_, _*_, _/_, _^_}

@@ -1,4 +1,4 @@
--- A value between 0 and a count n can be cut to a whole number, which is at most n: it lies above -1 and below 2^64. Assumes nothing.
+-- A value between 0 and a count n can be cut to a whole number, which is at most n: it lies above -1 and below 2^64.
 use mathlib.Core.Path.{_≡_, refl, sym, _∙_}
 use Prim.Native.Nat.{ℕ, _-_, _*_, _/_, _^_, _≤_, _<_}
 use native.Mathlib.Nat.{le-trans, le-of-eq, mul-comm, div-le-of-le-mul, min-le-left}

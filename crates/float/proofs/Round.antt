@@ -1,5 +1,5 @@
 -- `rounded` and `ceiled` from the whole part of the magnitude: twice a magnitude below 2^52 is exact, its whole part is a float exactly, and from 2^52 on a value is whole.
--- Assumes nothing.
+--
 use mathlib.Core.Path.{_≡_, refl, sym, ap, _∙_}
 use Prim.Native.Nat.{ℕ, zero, suc, _+_, _-_, _*_, _/_, _^_, _≤_, _<_}
 use native.Mathlib.Nat.{lt-of-lt-of-le, lt-of-not-le, le-of-suc-le-suc, le-of-eq, lt-irrefl, mul-one, one-mul, zero-lt-suc, mul-pos, mul-le-mul-right, mul-lt-mul-of-pos-right, lt-of-mul-lt-mul-right, min-eq-left, div-lt-iff-lt-mul, div-one, add-div-right, pow-suc, div-div-eq-div-mul}

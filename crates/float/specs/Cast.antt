@@ -1,4 +1,4 @@
--- A whole number as an f64. (An f64 as a whole number is `toUnsigned 64` of lib.Ieee.) Assumes nothing.
+-- A whole number as an f64. (An f64 as a whole number is `toUnsigned 64` of lib.Ieee.)
 use Prim.Native.Nat.{ℕ}
 use lib.IntN.{ℤ, pos, negsuc}
 use lib.Ieee.{Float, binary64, ofInt}

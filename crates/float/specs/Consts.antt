@@ -1,4 +1,4 @@
--- The constants of 01, by their bits. Assumes nothing.
+-- The constants of 01, by their bits.
 use lib.Ieee.{Float, binary64, ofBits}
 
 -- "EPS is the f64 nearest to 10^-9"

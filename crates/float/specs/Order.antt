@@ -1,4 +1,4 @@
--- The larger of two values, a value between two ends, and IEEE 754's totalOrder. Assumes nothing.
+-- The larger of two values, a value between two ends, and IEEE 754's totalOrder.
 use mathlib.Core.Bool.{Bool, true, false, cond}
 use lib.Ieee.{Float, nan, inf, fin, lt}
 use Rattle.float.specs.Sign.{negative}

@@ -1,4 +1,4 @@
--- The sign and the magnitude of a value of lib.Ieee: `nan`, an infinity or `fin s m e`. Assumes nothing.
+-- The sign and the magnitude of a value of lib.Ieee: `nan`, an infinity or `fin s m e`.
 use mathlib.Core.Bool.{Bool, true, false}
 use lib.Ieee.{Float, nan, inf, fin, le}
 

@@ -1,4 +1,4 @@
--- Known results of the helpers, by computation. Assumes nothing.
+-- Known results of the helpers, by computation.
 use mathlib.Core.Path.{_≡_, refl}
 use mathlib.Core.Bool.{Bool, true}
 use lib.IntN.{pos, negsuc}

@@ -1,4 +1,4 @@
--- A Vector as the struct that C sees. Assumes nothing.
+-- A Vector as the struct that C sees.
 use Rattle.vector.specs.declared.Vector.{Vector}
 use Rattle.merlontrispa.specs.declared.vectors.Components.{Components}
 

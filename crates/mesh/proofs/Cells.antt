@@ -1,4 +1,4 @@
--- The triangles of a cell among all: which slots are its, and what is kept after them. Assumes nothing.
+-- The triangles of a cell among all: which slots are its, and what is kept after them.
 use Prim.Native.Nat.{ℕ, _+_, _*_, _/_, _%_, _≤_, _<_}
 use mathlib.Core.Path.{_≡_, sym, ap, _∙_}
 use mathlib.Core.Bool.{true, false, cond}

@@ -1,4 +1,4 @@
--- The corner rule by the code's steps: one rule for either seam gives 01's two, and stays within the grid. Assumes nothing.
+-- The corner rule by the code's steps: one rule for either seam gives 01's two, and stays within the grid.
 use Prim.Native.Nat.{ℕ, _+_, _≤_}
 use mathlib.Core.Path.{_≡_, refl}
 use mathlib.Core.Bool.{Bool, true, false, _&&_, cond}

@@ -1,4 +1,4 @@
--- Numbers of triangles: how a slot adds to the count, which slots the rims have, and the step of one rim on another. Assumes nothing.
+-- Numbers of triangles: how a slot adds to the count, which slots the rims have, and the step of one rim on another.
 use Prim.Native.Nat.{ℕ, _+_, _-_, _*_, _≤_}
 use mathlib.Core.Path.{_≡_, refl}
 use mathlib.Core.Bool.{Bool, true, false, cond}

@@ -1,4 +1,4 @@
--- The corner rule as the code takes it: one rule for either seam, and the corners of a cell (01, "Joining and triangles"). Assumes nothing.
+-- The corner rule as the code takes it: one rule for either seam, and the corners of a cell (01, "Joining and triangles").
 use Prim.Native.Nat.{ℕ, _+_, _≤_}
 use mathlib.Core.Bool.{cond}
 use lib.Dec.{eqb}

@@ -1,4 +1,4 @@
--- "A line is returned as the part of the points that it occupies, up to the next start or, for the last, the point count." Assumes nothing.
+-- "A line is returned as the part of the points that it occupies, up to the next start or, for the last, the point count."
 use Prim.Native.Nat.{ℕ, _+_, _-_, _*_}
 use mathlib.Core.Bool.{Bool, _&&_, cond}
 use mathlib.Core.List.{List, []}

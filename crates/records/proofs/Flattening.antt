@@ -1,4 +1,4 @@
--- Records put one after another into lists that are long enough stand flattened at their start. Assumes nothing.
+-- Records put one after another into lists that are long enough stand flattened at their start.
 use mathlib.Core.Path.{_≡_, refl, sym, _∙_, ap}
 use Prim.Native.Nat.{ℕ, zero, suc, _+_, _*_, _<_, _≤_}
 use native.Mathlib.Nat.{le-refl}

@@ -1,4 +1,4 @@
--- "a second entry takes the samples as a list of records" (01, "A trace across the cells"): the flat samples that a list of records stands for. Assumes nothing.
+-- "a second entry takes the samples as a list of records" (01, "A trace across the cells"): the flat samples that a list of records stands for.
 use Prim.Native.Nat.{ℕ}
 use mathlib.Core.List.{List, [], _∷_}
 use lib.Ieee.{Float}

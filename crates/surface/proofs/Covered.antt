@@ -1,5 +1,5 @@
 -- The joinings of a shape that the theorem is proved for: 01's, and request 8's where a corner passes the rules twice. Demand 3 is promised for the seams that are
--- found (`CoveredJoining`); Joinings shows that these make such a shape. Assumes nothing.
+-- found (`CoveredJoining`); Joinings shows that these make such a shape.
 use Prim.Native.Nat.{ℕ, _<_}
 use mathlib.Core.Path.{_≡_}
 use Rattle.surface.specs.Surface.{Seam, unjoined, forward, reverse, Rule, once, twice, Shape}

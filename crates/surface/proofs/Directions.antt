@@ -1,5 +1,5 @@
 -- Which way a triangle runs along its sides. Of the two that share a side, one runs along it from the first end of its name to the second and the
--- other back. Only across a reversed seam the ends lie the other way round on one side, and there the two run the same way. Assumes nothing.
+-- other back. Only across a reversed seam the ends lie the other way round on one side, and there the two run the same way.
 use Prim.Native.Nat.{ℕ, _+_, _<_}
 use mathlib.Core.Path.{_≡_, refl, sym, _∙_}
 use mathlib.Core.Logic.{_⊎_, inl, inr, ⊎-elim}

@@ -1,5 +1,5 @@
 -- The two triangles of a cell by its sides: which of them has a side, and whether it runs along it from its first end to its second. Here a
--- straight side is a step of v and a side across is a step of u. Assumes nothing.
+-- straight side is a step of v and a side across is a step of u.
 use Prim.Native.Nat.{ℕ, _+_, _-_, _*_, _<_}
 use mathlib.Core.Path.{_≡_, refl}
 use mathlib.Core.Logic.{inl, inr}

@@ -1,5 +1,5 @@
 -- Which triangles have a side: one where it lies on a rim, two elsewhere (`owned`), since the low side of a cell is the high side of one other and
--- the two halves of a cell share its diagonal. Assumes nothing.
+-- the two halves of a cell share its diagonal.
 use Prim.Native.Nat.{ℕ}
 use mathlib.Core.Path.{_≡_, refl, sym, _∙_}
 use mathlib.Core.Logic.{_⊎_, inl, inr, ⊎-elim}

@@ -1,6 +1,6 @@
 -- A joined grid as a strip: columns 0 to X of points 0 to Y each, column X joined to column 0 by a seam or not at all, every column closed or
 -- open. Each side has one name (`one-name`): two names with the same two ends, in either order, would need a step that ends where it starts or two
--- steps that go there and back, and where a way around is closed and has at least 3 steps, or is open, there are none. Assumes nothing.
+-- steps that go there and back, and where a way around is closed and has at least 3 steps, or is open, there are none.
 use Prim.Native.Nat.{ℕ, _+_, _≤_, _<_}
 use mathlib.Core.Path.{_≡_, refl, sym, _∙_}
 use mathlib.Core.Logic.{_⊎_, inl, inr, ⊎-elim}

@@ -1,4 +1,4 @@
--- By computation: 01's starred results on triangles and flipped pairs, a grid without a triangle, one that tells the corner rule from J, and one of 02. Assumes nothing.
+-- By computation: 01's starred results on triangles and flipped pairs, a grid without a triangle, one that tells the corner rule from J, and one of 02.
 use Prim.Native.Nat.{ℕ}
 use mathlib.Core.Path.{_≡_, refl}
 use mathlib.Core.Bool.{Bool, true}

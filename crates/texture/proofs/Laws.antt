@@ -1,5 +1,5 @@
 -- Laws of plans: a swirl and a spiral have from 1 to 65,536 rays of from 2 to 65,536 samples, a spiral as many rays as arms, Grid none. A count is the cut of a larger of two, so it is at
--- least the second, and the tests bound it from above. Assumes nothing.
+-- least the second, and the tests bound it from above.
 use mathlib.Core.Path.{_≡_, refl, sym}
 use mathlib.Core.Bool.{Bool, true, false, cond}
 use Prim.Native.Nat.{ℕ, zero, suc, _*_, _/_, _^_, _≤_, min, max}

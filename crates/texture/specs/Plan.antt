@@ -1,5 +1,5 @@
 -- "Here a texture is Grid, Swirl with spacing and twist, or Spiral with spacing and arms. A plan gives rays and samples per ray by `paths_swirl` or `paths_spiral` (arms are
--- rays); Grid gives 0 and 0." Every formula in the Rust's order of operations, one rounding each. Assumes nothing.
+-- rays); Grid gives 0 and 0." Every formula in the Rust's order of operations, one rounding each.
 use mathlib.Core.Bool.{Bool, true, _&&_, cond}
 use Prim.Native.Nat.{ℕ, max}
 use lib.Dec.{leb}

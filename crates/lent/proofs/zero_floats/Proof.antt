@@ -1,4 +1,4 @@
--- `lent::zero_floats` meets its contract: what is left to zero, from i on, gives what is asked. Assumes nothing.
+-- `lent::zero_floats` meets its contract: what is left to zero, from i on, gives what is asked.
 use Prim.Native.Nat.{_-_}
 use native.Mathlib.Omega.{arith}
 use lib.ListN.{length, length-set}

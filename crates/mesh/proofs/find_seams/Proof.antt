@@ -1,4 +1,4 @@
--- `mesh::find_seams` meets its contract: both searches are of rows with a stride, inside the grid. Assumes nothing.
+-- `mesh::find_seams` meets its contract: both searches are of rows with a stride, inside the grid.
 use mathlib.Core.Path.{sym, _∙_}
 use native.Mathlib.Omega.{arith}
 use Rattle.grid.proofs.Laws.{Shaped, accepted-known}

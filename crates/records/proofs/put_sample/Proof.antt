@@ -1,4 +1,4 @@
--- `records::put_sample` meets its contract, by its one test. Assumes nothing.
+-- `records::put_sample` meets its contract, by its one test.
 use native.Mathlib.Omega.{arith}
 use borrow.Author.Tests.{lt-ltb, le-ltb}
 use borrow.Author.Needs.{needs}

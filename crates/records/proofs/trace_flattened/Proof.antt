@@ -1,4 +1,4 @@
--- `records::trace_flattened` meets its contract: proofs/Refused.antt has the answer for too many samples, and what is flattened is what the flat trace takes. Assumes nothing.
+-- `records::trace_flattened` meets its contract: proofs/Refused.antt has the answer for too many samples, and what is flattened is what the flat trace takes.
 use mathlib.Core.Path.{sym}
 use native.Mathlib.Omega.{arith}
 use lib.Seq.{length-take-le}

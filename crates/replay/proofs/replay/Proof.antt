@@ -1,4 +1,4 @@
--- `replay::replay` is safe and ends: no more cases differ than were replayed, and the cases that are left fall. Assumes nothing.
+-- `replay::replay` is safe and ends: no more cases differ than were replayed, and the cases that are left fall.
 use Prim.Native.Nat.{_≤_, _-_}
 use borrow.Author.Needs.{needs}
 use Rattle.replay.proofs.replay.Statement.{statement}

@@ -1,4 +1,4 @@
--- `cases::lists::read_bytes` is safe and ends: the list keeps its length, and what is left of it falls. Assumes nothing.
+-- `cases::lists::read_bytes` is safe and ends: the list keeps its length, and what is left of it falls.
 use Prim.Native.Nat.{_-_}
 use mathlib.Core.Path.{_≡_}
 use lib.ListN.{length}

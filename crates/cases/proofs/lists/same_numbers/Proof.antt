@@ -1,4 +1,4 @@
--- `cases::lists::same_numbers` is safe and ends: what is left of the list falls. Assumes nothing.
+-- `cases::lists::same_numbers` is safe and ends: what is left of the list falls.
 use Prim.Native.Nat.{_≤_, _-_}
 use lib.ListN.{length}
 use borrow.Author.Needs.{needs}

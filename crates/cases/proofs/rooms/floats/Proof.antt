@@ -1,4 +1,4 @@
--- `cases::rooms::floats` meets its contract and ends: the list keeps its length, and what is left of it falls. Assumes nothing.
+-- `cases::rooms::floats` meets its contract and ends: the list keeps its length, and what is left of it falls.
 use Prim.Native.Nat.{_-_}
 use mathlib.Core.Path.{_≡_}
 use lib.ListN.{length}

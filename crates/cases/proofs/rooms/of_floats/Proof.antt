@@ -1,4 +1,4 @@
--- `cases::rooms::of_floats` meets its contract: a length that fits counts, and so does 0. Assumes nothing.
+-- `cases::rooms::of_floats` meets its contract: a length that fits counts, and so does 0.
 use borrow.Author.Needs.{needs}
 use Rattle.cases.proofs.Counting.{counts}
 use Rattle.cases.proofs.rooms.of_floats.Statement.{statement}

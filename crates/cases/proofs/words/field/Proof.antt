@@ -1,4 +1,4 @@
--- `cases::words::field` is safe and ends: each field lies within the words, and what is left of them falls. Assumes nothing.
+-- `cases::words::field` is safe and ends: each field lies within the words, and what is left of them falls.
 use Prim.Native.Nat.{_≤_, _-_}
 use lib.ListN.{length}
 use borrow.Author.Needs.{needs}

@@ -1,4 +1,4 @@
--- `cases::words::float` is safe: past the test, the pattern is no NaN's. Assumes nothing.
+-- `cases::words::float` is safe: past the test, the pattern is no NaN's.
 use lib.Ieee.{binary64}
 use lib.Ieee.Bits.{nanBits-above}
 use borrow.Author.Needs.{needs}

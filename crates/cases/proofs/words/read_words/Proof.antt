@@ -1,4 +1,4 @@
--- `cases::words::read_words` is safe and ends: the list keeps its length, and what is left of the text falls. Assumes nothing.
+-- `cases::words::read_words` is safe and ends: the list keeps its length, and what is left of the text falls.
 use mathlib.Core.Logic.{⊎-elim}
 use Prim.Native.Nat.{_-_}
 use mathlib.Core.Path.{_≡_, ap, _∙_}

@@ -1,4 +1,4 @@
--- `cyclic::mapping::reversed` meets its contract: both cases are those of `image`, and j % steps is below steps. Assumes nothing.
+-- `cyclic::mapping::reversed` meets its contract: both cases are those of `image`, and j % steps is below steps.
 use native.Mathlib.Nat.{mod-lt}
 use native.Mathlib.Omega.{arith}
 use borrow.Author.Needs.{needs}

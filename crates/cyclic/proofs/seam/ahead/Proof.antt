@@ -1,4 +1,4 @@
--- `cyclic::seam::ahead` meets its contract: the image of the next index is one more, and 0 past the last below steps. Assumes nothing.
+-- `cyclic::seam::ahead` meets its contract: the image of the next index is one more, and 0 past the last below steps.
 use native.Mathlib.Omega.{arith}
 use mathlib.Core.Logic.{⊎-elim}
 use borrow.Author.Needs.{needs}

@@ -1,4 +1,4 @@
--- `cyclic::seam::back` meets its contract: the image of the next index is one less, and after 0 the last below steps. Assumes nothing.
+-- `cyclic::seam::back` meets its contract: the image of the next index is one less, and after 0 the last below steps.
 use native.Mathlib.Omega.{arith}
 use borrow.Author.Needs.{needs}
 use Rattle.cyclic.proofs.Mappings.{three, reverse-next}

@@ -1,4 +1,4 @@
--- `cyclic::seam::check_rows` meets its contract: both lengths are tested before any coordinate. Assumes nothing.
+-- `cyclic::seam::check_rows` meets its contract: both lengths are tested before any coordinate.
 use mathlib.Core.Path.{_≡_, sym, ap₂}
 use mathlib.Core.Bool.{true, _&&_}
 use denote.Ref.{now}

@@ -1,4 +1,4 @@
--- `cyclic::seam::opposite` meets its contract. Assumes nothing.
+-- `cyclic::seam::opposite` meets its contract.
 use borrow.Author.Needs.{needs}
 use Rattle.cyclic.proofs.seam.opposite.Statement.{statement}
 use Rattle.cyclic.proofs.seam.opposite.Tie as tie

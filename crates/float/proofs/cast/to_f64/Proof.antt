@@ -1,4 +1,4 @@
--- `float::cast::to_f64` meets its contract: `natFloat` is what both casts give. Assumes nothing.
+-- `float::cast::to_f64` meets its contract: `natFloat` is what both casts give.
 use borrow.Author.Needs.{needs}
 use Rattle.float.specs.Cast.{natFloat}
 use Rattle.float.proofs.cast.to_f64.Statement.{statement}

@@ -1,4 +1,4 @@
--- `float::order::clamp` meets its contract: each branch rewrites `clamped` by the tests that led there. Assumes nothing.
+-- `float::order::clamp` meets its contract: each branch rewrites `clamped` by the tests that led there.
 use Rattle.float.specs.Order.{clamped}
 use Rattle.float.proofs.order.clamp.Statement.{statement}
 use Rattle.float.proofs.order.clamp.Tie as tie

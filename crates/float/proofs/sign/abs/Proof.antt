@@ -1,4 +1,4 @@
--- `float::sign::abs` meets its contract: by the sign it is the value or its negation (proofs/Signs.antt). Assumes nothing.
+-- `float::sign::abs` meets its contract: by the sign it is the value or its negation (proofs/Signs.antt).
 use mathlib.Core.Path.{sym, _∙_}
 use borrow.Author.Needs.{needs}
 use Rattle.float.proofs.Signs.{abs-neg, abs-same}

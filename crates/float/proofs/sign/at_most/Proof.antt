@@ -1,4 +1,4 @@
--- `float::sign::at_most` meets its contract: the law is in proofs/Between.antt. Assumes nothing.
+-- `float::sign::at_most` meets its contract: the law is in proofs/Between.antt.
 use Rattle.float.proofs.Between.{between-is}
 use Rattle.float.proofs.sign.at_most.Statement.{statement}
 use Rattle.float.proofs.sign.at_most.Tie as tie

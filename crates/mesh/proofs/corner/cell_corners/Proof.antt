@@ -1,4 +1,4 @@
--- `mesh::corner::cell_corners` meets its contract, corner by corner. Assumes nothing.
+-- `mesh::corner::cell_corners` meets its contract, corner by corner.
 use borrow.Author.Needs.{needs}
 use Rattle.mesh.proofs.corner.cell_corners.Statement.{statement}
 use Rattle.mesh.proofs.corner.cell_corners.Tie as tie

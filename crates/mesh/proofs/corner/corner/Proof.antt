@@ -1,4 +1,4 @@
--- `mesh::corner::corner` meets its contract: the u rule, then in the last row the v rule, each within the grid. Assumes nothing.
+-- `mesh::corner::corner` meets its contract: the u rule, then in the last row the v rule, each within the grid.
 use Prim.Native.Nat.{_≤_}
 use mathlib.Core.Path.{_∙_}
 use native.Mathlib.Omega.{arith}

@@ -1,4 +1,4 @@
--- `mesh::corner::join` meets its contract: the cases are those of `joinOf`, at the variant that the match found. Assumes nothing.
+-- `mesh::corner::join` meets its contract: the cases are those of `joinOf`, at the variant that the match found.
 use mathlib.Core.Path.{ap, _∙_}
 use Rattle.mesh.specs.Corners.{placed}
 use Rattle.mesh.proofs.Joins.{join-last, join-other, join-none}

@@ -1,4 +1,4 @@
--- `mesh::flipped::count_cell` meets its contract: one more for each of the two triangles that is kept. Assumes nothing.
+-- `mesh::flipped::count_cell` meets its contract: one more for each of the two triangles that is kept.
 use Prim.Native.Nat.{_+_, _*_, _≤_}
 use native.Mathlib.Omega.{arith}
 use Rattle.mesh.specs.Corners.{shapeOf}

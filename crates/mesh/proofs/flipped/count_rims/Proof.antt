@@ -1,4 +1,4 @@
--- `mesh::flipped::count_rims` meets its contract: both rows are counted. Assumes nothing.
+-- `mesh::flipped::count_rims` meets its contract: both rows are counted.
 use Prim.Native.Nat.{_-_}
 use native.Mathlib.Omega.{arith}
 use borrow.Author.Needs.{needs}

@@ -1,4 +1,4 @@
--- `mesh::flipped::count_row` meets its contract: after v cells the counts are known up to v. Assumes nothing.
+-- `mesh::flipped::count_row` meets its contract: after v cells the counts are known up to v.
 use Prim.Native.Nat.{ℕ, _+_, _-_, _*_, _≤_}
 use mathlib.Core.Path.{_≡_, refl, ap, _∙_}
 use native.Mathlib.Omega.{arith}

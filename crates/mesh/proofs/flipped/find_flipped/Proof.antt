@@ -1,4 +1,4 @@
--- `mesh::flipped::find_flipped` meets its contract: two scratch lists for the counts along the rims, then both seams. Assumes nothing.
+-- `mesh::flipped::find_flipped` meets its contract: two scratch lists for the counts along the rims, then both seams.
 use native.Mathlib.Omega.{arith}
 use borrow.Author.Needs.{needs}
 use Rattle.mesh.proofs.flipped.find_flipped.Statement.{statement}

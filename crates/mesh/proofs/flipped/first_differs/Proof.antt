@@ -1,4 +1,4 @@
--- `mesh::flipped::first_differs` meets its contract: the cell's first triangle is its first slot's. Assumes nothing.
+-- `mesh::flipped::first_differs` meets its contract: the cell's first triangle is its first slot's.
 use mathlib.Core.Path.{ap, _∙_}
 use Rattle.surface.specs.Surface.{proper}
 use Rattle.mesh.proofs.Cells.{slot-first}

@@ -1,4 +1,4 @@
--- `mesh::flipped::flip_seam` meets its contract: nothing, or all steps of a reversed seam. Assumes nothing.
+-- `mesh::flipped::flip_seam` meets its contract: nothing, or all steps of a reversed seam.
 use Rattle.mesh.proofs.Flips.{seam-told}
 use borrow.Author.Needs.{needs}
 use Rattle.mesh.proofs.flipped.flip_seam.Statement.{statement}

@@ -1,4 +1,4 @@
--- `mesh::flipped::high_differs` meets its contract: the cell at a step of the high rim. Assumes nothing.
+-- `mesh::flipped::high_differs` meets its contract: the cell at a step of the high rim.
 use native.Mathlib.Omega.{arith}
 use Rattle.mesh.proofs.Numbers.{high-u, high-v}
 use borrow.Author.Needs.{needs}

@@ -1,4 +1,4 @@
--- `mesh::flipped::low_differs` meets its contract: the cell at a step of the low rim. Assumes nothing.
+-- `mesh::flipped::low_differs` meets its contract: the cell at a step of the low rim.
 use Rattle.mesh.proofs.Numbers.{low-u, low-v}
 use borrow.Author.Needs.{needs}
 use Rattle.mesh.proofs.flipped.low_differs.Statement.{statement}

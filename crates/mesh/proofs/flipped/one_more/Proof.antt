@@ -1,4 +1,4 @@
--- `mesh::flipped::one_more` meets its contract, in either case. Assumes nothing.
+-- `mesh::flipped::one_more` meets its contract, in either case.
 use native.Mathlib.Omega.{arith}
 use Rattle.mesh.proofs.flipped.one_more.Statement.{statement}
 use Rattle.mesh.proofs.flipped.one_more.Tie as tie

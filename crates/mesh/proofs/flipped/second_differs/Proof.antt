@@ -1,4 +1,4 @@
--- `mesh::flipped::second_differs` meets its contract: the cell's second triangle is its second slot's. Assumes nothing.
+-- `mesh::flipped::second_differs` meets its contract: the cell's second triangle is its second slot's.
 use mathlib.Core.Path.{ap, _∙_}
 use Rattle.surface.specs.Surface.{proper}
 use Rattle.mesh.proofs.Cells.{slot-second}

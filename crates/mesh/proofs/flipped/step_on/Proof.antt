@@ -1,4 +1,4 @@
--- `mesh::flipped::step_on` meets its contract: the step between the inverse images of the two ends. Assumes nothing.
+-- `mesh::flipped::step_on` meets its contract: the step between the inverse images of the two ends.
 use Prim.Native.Nat.{ℕ, _+_, _≤_}
 use native.Mathlib.Omega.{arith}
 use Rattle.cyclic.specs.declared.seam.Seam.the-variants.{Joined}

@@ -1,4 +1,4 @@
--- `mesh::pairs::find_spot` meets its contract: the pairs before i all stand before (low, high), so that inserting it leaves them as they are. Assumes nothing.
+-- `mesh::pairs::find_spot` meets its contract: the pairs before i all stand before (low, high), so that inserting it leaves them as they are.
 use Prim.Native.Nat.{_≤_, _-_}
 use native.Mathlib.Omega.{arith}
 use Rattle.surface.specs.Surface.{pair}

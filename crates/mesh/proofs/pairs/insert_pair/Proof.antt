@@ -1,4 +1,4 @@
--- `mesh::pairs::insert_pair` meets its contract: the pair is put where it belongs, or is there already. Assumes nothing.
+-- `mesh::pairs::insert_pair` meets its contract: the pair is put where it belongs, or is there already.
 use mathlib.Core.Path.{sym, _∙_}
 use native.Mathlib.Omega.{arith}
 use Rattle.mesh.specs.Held.{pairAt}

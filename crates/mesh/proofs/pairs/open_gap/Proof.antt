@@ -1,4 +1,4 @@
--- `mesh::pairs::open_gap` meets its contract: what is below i stands where it did, what is from i on two places further. Assumes nothing.
+-- `mesh::pairs::open_gap` meets its contract: what is below i stands where it did, what is from i on two places further.
 use Prim.Native.Nat.{ℕ, _+_, _-_, _≤_, _<_}
 use mathlib.Core.Path.{_≡_}
 use native.Mathlib.Omega.{arith}

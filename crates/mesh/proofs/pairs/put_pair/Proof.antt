@@ -1,4 +1,4 @@
--- `mesh::pairs::put_pair` meets its contract: the pairs from index i on one place further, and the pair in the gap. Assumes nothing.
+-- `mesh::pairs::put_pair` meets its contract: the pairs from index i on one place further, and the pair in the gap.
 use native.Mathlib.Omega.{arith}
 use lib.ListN.{length-set}
 use Rattle.mesh.proofs.Holding.{pair-put}

@@ -1,4 +1,4 @@
--- `mesh::triangles::add_triangle` meets its contract: one triangle more, or none. Assumes nothing.
+-- `mesh::triangles::add_triangle` meets its contract: one triangle more, or none.
 use mathlib.Core.Path.{sym, _∙_}
 use borrow.Author.Tests.{not-true, not-false}
 use Rattle.surface.specs.Surface.{tri}

@@ -1,4 +1,4 @@
--- `mesh::triangles::build_cell` meets its contract: the cell's two slots are the next two, and each adds its triangle if it is proper. Assumes nothing.
+-- `mesh::triangles::build_cell` meets its contract: the cell's two slots are the next two, and each adds its triangle if it is proper.
 use Prim.Native.Nat.{_+_, _*_}
 use mathlib.Core.Path.{_≡_}
 use native.Mathlib.Omega.{arith}

@@ -1,4 +1,4 @@
--- `mesh::triangles::build_inner_cell` meets its contract: no rule applies to the cell, and both its triangles are kept. Assumes nothing.
+-- `mesh::triangles::build_inner_cell` meets its contract: no rule applies to the cell, and both its triangles are kept.
 use Prim.Native.Nat.{_+_, _*_, _≤_, _<_}
 use mathlib.Core.Path.{_≡_}
 use native.Mathlib.Omega.{arith}

@@ -1,4 +1,4 @@
--- `mesh::triangles::build_row` meets its contract: the inner cells and then the last one, or cell by cell. Assumes nothing.
+-- `mesh::triangles::build_row` meets its contract: the inner cells and then the last one, or cell by cell.
 use Prim.Native.Nat.{_+_, _-_}
 use mathlib.Core.Path.{_∙_}
 use native.Mathlib.Omega.{arith}

@@ -1,4 +1,4 @@
--- `mesh::triangles::build_rule_row` meets its contract: after v cells the list holds the triangles of the slots up to cell (u, v). Assumes nothing.
+-- `mesh::triangles::build_rule_row` meets its contract: after v cells the list holds the triangles of the slots up to cell (u, v).
 use Prim.Native.Nat.{_+_, _-_, _*_, _≤_}
 use mathlib.Core.Path.{_≡_, refl, _∙_}
 use native.Mathlib.Omega.{arith}

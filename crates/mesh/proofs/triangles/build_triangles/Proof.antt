@@ -1,4 +1,4 @@
--- `mesh::triangles::build_triangles` meets its contract: after u rows the list holds the triangles of their slots, and the starts are known up to u. Assumes nothing.
+-- `mesh::triangles::build_triangles` meets its contract: after u rows the list holds the triangles of their slots, and the starts are known up to u.
 use Prim.Native.Nat.{ℕ, _+_, _-_, _*_, _≤_}
 use mathlib.Core.Path.{_≡_, refl, _∙_}
 use native.Mathlib.Omega.{arith}

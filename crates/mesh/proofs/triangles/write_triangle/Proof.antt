@@ -1,4 +1,4 @@
--- `mesh::triangles::write_triangle` meets its contract: three numbers after the first triangles. Assumes nothing.
+-- `mesh::triangles::write_triangle` meets its contract: three numbers after the first triangles.
 use native.Mathlib.Omega.{arith}
 use lib.ListN.{length-set}
 use Rattle.mesh.proofs.Holding.{triangle-added}

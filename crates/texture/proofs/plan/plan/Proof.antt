@@ -1,4 +1,4 @@
--- `texture::plan::plan` meets its contract, test by test: the laws are in proofs/Plans.antt. Assumes nothing.
+-- `texture::plan::plan` meets its contract, test by test: the laws are in proofs/Plans.antt.
 use Rattle.texture.proofs.Plans.{plan-steps, plan-texture, plan-counts, plan-ok}
 use borrow.Author.Tests.{not-true, not-false}
 use borrow.Author.Needs.{needs}

@@ -1,4 +1,4 @@
--- `texture::plan::rays` meets its contract, case by case: the laws are in proofs/Plans.antt. Assumes nothing.
+-- `texture::plan::rays` meets its contract, case by case: the laws are in proofs/Plans.antt.
 use Rattle.texture.proofs.Plans.{rays-swirl, rays-spiral}
 use borrow.Author.Needs.{needs}
 use Rattle.texture.proofs.plan.rays.Statement.{statement}

@@ -1,4 +1,4 @@
--- `texture::plan::samples_per_ray` meets its contract, case by case: the laws are in proofs/Plans.antt. Assumes nothing.
+-- `texture::plan::samples_per_ray` meets its contract, case by case: the laws are in proofs/Plans.antt.
 use Rattle.texture.proofs.Plans.{samples-swirl, samples-spiral}
 use borrow.Author.Needs.{needs}
 use Rattle.texture.proofs.plan.samples_per_ray.Statement.{statement}

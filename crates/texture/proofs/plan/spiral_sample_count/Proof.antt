@@ -1,4 +1,4 @@
--- `texture::plan::spiral_sample_count` meets its contract: the operations are the definition's. Assumes nothing.
+-- `texture::plan::spiral_sample_count` meets its contract: the operations are the definition's.
 use Rattle.texture.specs.Plan.{spiralSampleCount}
 use Rattle.float.specs.Consts.{tau}
 use borrow.Author.Needs.{needs}

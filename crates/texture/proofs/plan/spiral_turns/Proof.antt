@@ -1,4 +1,4 @@
--- `texture::plan::spiral_turns` meets its contract: the operations are the definition's. Assumes nothing.
+-- `texture::plan::spiral_turns` meets its contract: the operations are the definition's.
 use Rattle.texture.specs.Plan.{spiralTurns}
 use borrow.Author.Needs.{needs}
 use Rattle.texture.proofs.plan.spiral_turns.Statement.{statement}

@@ -1,4 +1,4 @@
--- `texture::plan::steps_along` meets its contract: the operations are the definition's. Assumes nothing.
+-- `texture::plan::steps_along` meets its contract: the operations are the definition's.
 use Rattle.texture.specs.Plan.{stepsAlong}
 use borrow.Author.Needs.{needs}
 use Rattle.texture.proofs.plan.steps_along.Statement.{statement}

@@ -1,4 +1,4 @@
--- `texture::plan::swirl_rays` meets its contract: the operations are the definition's. Assumes nothing.
+-- `texture::plan::swirl_rays` meets its contract: the operations are the definition's.
 use Rattle.texture.specs.Plan.{swirlRays}
 use Rattle.float.specs.Consts.{tau}
 use borrow.Author.Needs.{needs}

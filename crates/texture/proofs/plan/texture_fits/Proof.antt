@@ -1,4 +1,4 @@
--- `texture::plan::texture_fits` meets its contract: each case's test is the definition's. Assumes nothing.
+-- `texture::plan::texture_fits` meets its contract: each case's test is the definition's.
 use borrow.Author.Needs.{needs}
 use Rattle.texture.proofs.plan.texture_fits.Statement.{statement}
 use Rattle.texture.proofs.plan.texture_fits.Tie as tie

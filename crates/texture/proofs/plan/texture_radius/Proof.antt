@@ -1,4 +1,4 @@
--- `texture::plan::texture_radius` meets its contract: the operations are the definition's. Assumes nothing.
+-- `texture::plan::texture_radius` meets its contract: the operations are the definition's.
 use Rattle.texture.specs.Plan.{textureRadius}
 use Rattle.float.specs.Consts.{sqrt2}
 use borrow.Author.Needs.{needs}

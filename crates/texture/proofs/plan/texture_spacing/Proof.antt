@@ -1,4 +1,4 @@
--- `texture::plan::texture_spacing` meets its contract: the test is the definition's. Assumes nothing.
+-- `texture::plan::texture_spacing` meets its contract: the test is the definition's.
 use Rattle.texture.specs.Plan.{textureSpacing}
 use Rattle.float.specs.Consts.{eps}
 use borrow.Author.Needs.{needs}

@@ -1,4 +1,4 @@
--- `texture::plan::up_from` meets its contract: the operations are the definition's. Assumes nothing.
+-- `texture::plan::up_from` meets its contract: the operations are the definition's.
 use borrow.Author.Needs.{needs}
 use Rattle.texture.proofs.plan.up_from.Statement.{statement}
 use Rattle.texture.proofs.plan.up_from.Tie as tie

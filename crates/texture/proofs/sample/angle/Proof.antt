@@ -1,4 +1,4 @@
--- `texture::sample::angle` meets its contract, test by test: the laws are in proofs/Samples.antt. Assumes nothing.
+-- `texture::sample::angle` meets its contract, test by test: the laws are in proofs/Samples.antt.
 use Rattle.texture.proofs.Samples.{angle-ok, angle-not-there, angle-failed}
 use borrow.Author.Needs.{needs}
 use Rattle.texture.proofs.sample.angle.Statement.{statement}

@@ -1,4 +1,4 @@
--- `texture::sample::base_angle` meets its contract: the operations are the definition's. Assumes nothing.
+-- `texture::sample::base_angle` meets its contract: the operations are the definition's.
 use Rattle.float.specs.Consts.{tau}
 use borrow.Author.Needs.{needs}
 use Rattle.texture.proofs.sample.base_angle.Statement.{statement}

@@ -1,4 +1,4 @@
--- `texture::sample::centre` meets its contract: the operations are the definition's. Assumes nothing.
+-- `texture::sample::centre` meets its contract: the operations are the definition's.
 use borrow.Author.Needs.{needs}
 use Rattle.texture.proofs.sample.centre.Statement.{statement}
 use Rattle.texture.proofs.sample.centre.Tie as tie

@@ -1,4 +1,4 @@
--- `texture::sample::direction_fits` meets its contract: the operations are the definition's. Assumes nothing.
+-- `texture::sample::direction_fits` meets its contract: the operations are the definition's.
 use borrow.Author.Needs.{needs}
 use Rattle.texture.proofs.sample.direction_fits.Statement.{statement}
 use Rattle.texture.proofs.sample.direction_fits.Tie as tie

@@ -1,4 +1,4 @@
--- `texture::sample::distance` meets its contract, case by case: the laws are in proofs/Samples.antt. Assumes nothing.
+-- `texture::sample::distance` meets its contract, case by case: the laws are in proofs/Samples.antt.
 use Rattle.texture.proofs.Samples.{distance-swirl, distance-spiral}
 use borrow.Author.Needs.{needs}
 use Rattle.texture.proofs.sample.distance.Statement.{statement}

@@ -1,4 +1,4 @@
--- `texture::sample::part` meets its contract: the operations are the definition's. Assumes nothing.
+-- `texture::sample::part` meets its contract: the operations are the definition's.
 use borrow.Author.Needs.{needs}
 use Rattle.texture.proofs.sample.part.Statement.{statement}
 use Rattle.texture.proofs.sample.part.Tie as tie

@@ -1,4 +1,4 @@
--- `texture::sample::point` meets its contract: the operations are the definition's. Assumes nothing.
+-- `texture::sample::point` meets its contract: the operations are the definition's.
 use Rattle.texture.proofs.Samples.{point-is}
 use borrow.Author.Needs.{needs}
 use Rattle.texture.proofs.sample.point.Statement.{statement}

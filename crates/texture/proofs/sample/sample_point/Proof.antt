@@ -1,4 +1,4 @@
--- `texture::sample::sample_point` meets its contract, test by test: the laws are in proofs/Samples.antt. Assumes nothing.
+-- `texture::sample::sample_point` meets its contract, test by test: the laws are in proofs/Samples.antt.
 use Rattle.texture.proofs.Samples.{point-direction, point-ok, point-not-there, point-failed}
 use borrow.Author.Tests.{not-true, not-false}
 use borrow.Author.Needs.{needs}

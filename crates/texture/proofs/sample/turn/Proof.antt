@@ -1,4 +1,4 @@
--- `texture::sample::turn` meets its contract, case by case: the laws are in proofs/Samples.antt. Assumes nothing.
+-- `texture::sample::turn` meets its contract, case by case: the laws are in proofs/Samples.antt.
 use Rattle.float.specs.Consts.{tau}
 use Rattle.texture.proofs.Samples.{turn-swirl, turn-spiral}
 use borrow.Author.Needs.{needs}

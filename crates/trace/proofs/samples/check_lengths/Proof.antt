@@ -1,4 +1,4 @@
--- `trace::samples::check_lengths` meets its contract: either test that fails makes `samplesLengthFits` false. Assumes nothing.
+-- `trace::samples::check_lengths` meets its contract: either test that fails makes `samplesLengthFits` false.
 use borrow.Author.Needs.{needs}
 use Rattle.trace.proofs.Checks.{marks-long, pairs-other, lengths-fit}
 use Rattle.trace.proofs.samples.check_lengths.Statement.{statement}

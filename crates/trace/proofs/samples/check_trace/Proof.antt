@@ -1,4 +1,4 @@
--- `trace::samples::check_trace` meets its contract: proofs/Checks.antt has `traceCheck` by these tests. Assumes nothing.
+-- `trace::samples::check_trace` meets its contract: proofs/Checks.antt has `traceCheck` by these tests.
 use Rattle.basics.proofs.Tests.{held, failed}
 use Rattle.trace.proofs.Checks.{grid-refused, pairs-twice, mark-refused, sample-refused, check-passes}
 use borrow.Author.Needs.{needs}

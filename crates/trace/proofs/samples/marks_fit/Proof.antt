@@ -1,4 +1,4 @@
--- `trace::samples::marks_fit` meets its contract: what is left to test from i on answers for the whole list. Assumes nothing.
+-- `trace::samples::marks_fit` meets its contract: what is left to test from i on answers for the whole list.
 use Prim.Native.Nat.{_≤_, _-_}
 use mathlib.Core.Path.{_≡_, sym, _∙_}
 use lib.ListN.{length, drop}

@@ -1,4 +1,4 @@
--- `trace::samples::pairs_fit` meets its contract: what is left to test from pair i on answers for all pairs. Assumes nothing.
+-- `trace::samples::pairs_fit` meets its contract: what is left to test from pair i on answers for all pairs.
 use Prim.Native.Nat.{_*_, _≤_, _-_}
 use mathlib.Core.Path.{_≡_, sym, _∙_}
 use lib.ListN.{length, drop}

@@ -1,4 +1,4 @@
--- `trace::samples::sample_fits` meets its contract, by what its calls say. Assumes nothing.
+-- `trace::samples::sample_fits` meets its contract, by what its calls say.
 use borrow.Author.Needs.{needs}
 use Rattle.trace.proofs.samples.sample_fits.Statement.{statement}
 use Rattle.trace.proofs.samples.sample_fits.Tie as tie

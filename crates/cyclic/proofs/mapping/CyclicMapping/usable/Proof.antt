@@ -1,4 +1,4 @@
--- `cyclic::mapping::CyclicMapping::usable` meets its contract: each variant hands over its offset and steps. Assumes nothing.
+-- `cyclic::mapping::CyclicMapping::usable` meets its contract: each variant hands over its offset and steps.
 use borrow.Author.Needs.{needs}
 use Rattle.cyclic.proofs.mapping.CyclicMapping.usable.Statement.{statement}
 use Rattle.cyclic.proofs.mapping.CyclicMapping.usable.Tie as tie
