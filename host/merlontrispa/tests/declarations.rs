@@ -205,11 +205,84 @@ fn the_header_has_the_numbers_and_sentences_of_the_refusals() {
     assert_eq!(entries, [none].into_iter().chain(all).collect::<Vec<_>>());
 }
 
+/// The figures of a sentence that have two digits or more, as 65,537.
+fn figures(sentence: &str) -> BTreeSet<&str> {
+    let figures = sentence.split(|c: char| !(c.is_ascii_digit() || c == ','));
+    let figures = figures.map(|figure| figure.trim_matches(','));
+    figures.filter(|figure| figure.len() > 1).collect()
+}
+
 #[test]
-fn the_readme_has_the_numbers_and_sentences_of_the_refusals() {
+fn the_readme_has_the_numbers_of_the_refusals_and_no_other_figures() {
     let readme = read("README.md");
-    for refusal in Refusal::ALL {
-        let row = format!("\n| {} |\n", refusal.to_string().replacen(": ", " | ", 1));
-        assert!(readme.contains(&row), "{row}");
+    let (_, section) = readme.split_once("\n### Refusals\n").expect("refusals");
+    let section = section.split("\n#").next().expect("a section");
+    // An item is a line that begins with its number, and the lines below it that are set in.
+    let items = section.replace("\n   ", " ");
+    let items = items.lines().filter_map(|line| line.split_once(". "));
+    let items: Vec<(u8, _)> = items
+        .filter_map(|(number, sentence)| Some((number.parse().ok()?, sentence)))
+        .collect();
+    assert_eq!(items.len(), Refusal::ALL.len());
+    for (&refusal, (number, sentence)) in Refusal::ALL.iter().zip(items) {
+        assert_eq!(number, refusal.number());
+        let told = refusal.to_string();
+        assert!(figures(sentence).is_subset(&figures(&told)), "{sentence}");
     }
+}
+
+/// The functions of declarations as `mt_max(x, y) -> f64`, without the types of parameters.
+fn functions(declarations: &Declarations) -> Vec<String> {
+    let functions = declarations.iter().filter(|text| text.starts_with("mt_"));
+    let functions = functions.map(|function| {
+        let (name, _) = function.split_once('(').expect("parameters");
+        let (parameters, answer) = between(function, '(', ')');
+        let names = items(parameters, ',');
+        let names = names.iter().map(|p| p.split(':').next().expect("a name"));
+        format!("{name}({}){answer}", names.collect::<Vec<_>>().join(", "))
+    });
+    functions.collect()
+}
+
+/// The functions that `docs/CALLS.md` has as a heading or as a row of a table, in their order. The
+/// name is followed by `(parameters) → answer`.
+fn listed(calls: &str) -> Vec<String> {
+    let places = ["\n### `mt_", "\n| `mt_"];
+    let entries = places.iter().flat_map(|place| calls.split(place).skip(1));
+    let functions = entries.map(|entry| {
+        let (name, rest) = entry.split_once('`').expect("the end of a name");
+        let (parameters, rest) = between(rest, '(', ')');
+        let answer = rest.strip_prefix(" → ").expect("an answer");
+        let answer = words(answer).next().expect("a type");
+        let parameters = items(parameters, ',').join(", ");
+        format!("mt_{name}({parameters}) -> {}", kind(answer))
+    });
+    functions.collect()
+}
+
+/// The names and numbers of a text.
+fn words(text: &str) -> impl Iterator<Item = &str> {
+    let words = text.split(|c: char| !(c.is_alphanumeric() || c == '_'));
+    words.filter(|word| !word.is_empty())
+}
+
+/// The names of a text that are the library's in C.
+fn prefixed(text: &str) -> BTreeSet<&str> {
+    words(text).filter(|word| word.starts_with("mt_")).collect()
+}
+
+#[test]
+fn the_table_of_calls_has_each_function_of_the_header_once() {
+    let (header, calls) = (read("include/merlontrispa.h"), read("docs/CALLS.md"));
+    let mut listed = listed(&calls);
+    listed.sort();
+    let mut declared = functions(&c(&header));
+    declared.sort();
+    assert_eq!(listed, declared);
+    let header = without(&header, "/*", "*/");
+    let others: Vec<_> = prefixed(&calls)
+        .difference(&prefixed(&header))
+        .copied()
+        .collect();
+    assert!(others.is_empty(), "not in the header: {others:?}");
 }
