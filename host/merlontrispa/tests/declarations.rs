@@ -175,7 +175,7 @@ fn this_crate_declares_what_the_library_exports() {
 
 /// Letters, digits and the signs that C writes as Rust does, so that only the typography may differ.
 fn plain(sentence: &str) -> String {
-    let sentence = sentence.replace('−', "-").to_lowercase();
+    let sentence = sentence.replace('±', "+-").to_lowercase();
     let kept = |c: &char| c.is_alphanumeric() || "+-^,;".contains(*c);
     sentence.chars().filter(kept).collect()
 }
@@ -206,10 +206,27 @@ fn the_header_has_the_numbers_and_sentences_of_the_refusals() {
 }
 
 #[test]
-fn the_readme_has_the_numbers_and_sentences_of_the_refusals() {
-    let readme = read("README.md");
+fn the_documentation_of_each_refusal_is_its_sentence() {
+    let source = plain(&read("host/merlontrispa/src/refusal.rs"));
     for refusal in Refusal::ALL {
-        let row = format!("\n| {} |\n", refusal.to_string().replacen(": ", " | ", 1));
-        assert!(readme.contains(&row), "{row}");
+        let told = refusal.to_string();
+        let documented = plain(&format!("{told}.\n{refusal:?} = {}", refusal.number()));
+        assert!(source.contains(&documented), "{told}");
     }
+}
+
+/// The numbers in a column of the tables of a text.
+fn numbers(text: &str, column: usize) -> BTreeSet<u8> {
+    let rows = text.lines().filter(|line| line.starts_with('|'));
+    let cells = rows.filter_map(|row| row.split('|').nth(column));
+    cells.filter_map(|cell| cell.trim().parse().ok()).collect()
+}
+
+#[test]
+fn the_documents_have_the_numbers_of_the_refusals() {
+    let all: BTreeSet<_> = Refusal::ALL.iter().map(|r| r.number()).collect();
+    let rules = read("docs/RULES.md");
+    let (_, rules) = rules.split_once("\n## 11 ").expect("Rules 11");
+    assert_eq!(numbers(rules, 2), all);
+    assert_eq!(numbers(&read("README.md"), 1), all);
 }
