@@ -226,7 +226,7 @@ fn numbers(text: &str, column: usize) -> BTreeSet<u8> {
 fn the_documents_have_the_numbers_of_the_refusals() {
     let all: BTreeSet<_> = Refusal::ALL.iter().map(|r| r.number()).collect();
     let rules = read("docs/RULES.md");
-    let (_, rules) = rules.split_once("\n## 11 ").expect("Rules 11");
-    assert_eq!(numbers(rules, 2), all);
+    let section = rules.split("\n## ").find(|text| text.starts_with("11 "));
+    assert_eq!(numbers(section.expect("Rules 11"), 2), all);
     assert_eq!(numbers(&read("README.md"), 1), all);
 }
