@@ -1,14 +1,16 @@
 /*
  * Merlontrispa: verified surfaces, seams and pen lines for pen plotters.
  *
- * The functions of target/staticlib/libmerlontrispa.a, which `rt staticlib merlontrispa` writes. Each is
- * proved to end with an answer for every input, to read and write nothing past a list, and to
- * answer what its definition in crates/merlontrispa/specs says, to the last bit; of an answer that
- * is a NaN, its sign and payload are not fixed.
+ * The functions of target/staticlib/libmerlontrispa.a, which `rt staticlib merlontrispa` writes.
+ * Each is proved to end with an answer for every input, to read and write nothing past a list, and
+ * to answer what its definition in crates/merlontrispa/specs says, to the last bit; of an answer
+ * that is a NaN, its sign and payload are not fixed. The Rules that are cited here, as Rules 8.2,
+ * are sections of docs/RULES.md of the repository, which says in words what is right.
  *
- * Grid. A surface is sampled in m steps of u and n steps of v, each 1 to 255. Point (u, v), u from
- * 0 to m and v from 0 to n, has the number u * (n + 1) + v. The grid is one list of 3 * (m + 1) *
- * (n + 1) doubles: x, y and z of each point, in the order of their numbers.
+ * Grid (Rules 1). A surface is sampled in m steps of u and n steps of v, each 1 to 255, at
+ * (m + 1) * (n + 1) points. The number of point (u, v), u up to m and v up to n, is
+ * u * (n + 1) + v. A grid is a list of 3 * (m + 1) * (n + 1) doubles: x, y and z of point number 0,
+ * then of number 1, and so on.
  *
  * Lists. A list is lent as its pointer and its length, which counts numbers, not points: a point
  * takes three. `const` lists are only read. A list must be aligned as its type asks. A list that is
@@ -17,9 +19,9 @@
  *
  * Answers. `refusal` is MT_OK, which is 0, or the number of a refusal. A refused answer has 0 in
  * all other fields. Refusals 1 to 10 leave the written lists as they were, 11 and 12 leave them all
- * zero. After success each place of a written list past what the answer's counts name is zero.
- * Where more than one refusal applies, the lowest number is answered; 11 and 12 come as the walk
- * along the curve meets them.
+ * zero. After success each place of a written list past what the answer's counts name is zero
+ * (Rules 8). Where more than one refusal applies, the lowest number is answered; 11 and 12 come as
+ * the walk along the curve meets them (Rules 11.2).
  *
  * The library allocates nothing and keeps nothing between calls: it calls no function but C's
  * memset, memcpy and memmove, and has no data that it writes. So any number of threads may call it
@@ -40,45 +42,43 @@
 extern "C" {
 #endif
 
-/* ---- Refusals -------------------------------------------------------------------------------- */
+/* ---- Refusals (Rules 11) --------------------------------------------------------------------- */
 
 /* Why a call is refused. Above each function stand the numbers that it can answer, in the order
- * in which they are tested. M and N are the parameters m and n; the Rust is the original that
- * the library is a port of. */
+ * in which they are tested. M and N are the parameters m and n; the original is the Rust that the
+ * library is a port of. */
 enum mt_refusal {
     /* No refusal. */
     MT_OK = 0,
-    /* M or N outside 1 to 255. */
+    /* M and N must each be from 1 to 255. */
     MT_STEPS = 1,
-    /* A grid not of 3 * (M+1) * (N+1) numbers; pairs not twice the marks; over 65,537 marks; a
-     * seam row not a multiple of 3 or over 65,536 points. */
+    /* A list has the wrong length: a grid has 3 * (M+1) * (N+1) numbers, samples two numbers for
+     * each mark and at most 65,537 marks, a seam row whole points and at most 65,536 of them. */
     MT_LENGTH = 2,
-    /* Triangles list under 6 * M * N, flipped list under 2 * (M+N), grid-line points under 6 *
-     * (M+1) * (N+1) or their starts under M+N+2, all counted in numbers. */
+    /* A lent list is too short: it takes 6 * M * N numbers for triangles, 2 * (M+N) for flipped
+     * pairs, 6 * (M+1) * (N+1) for the points of grid lines, M+N+2 for their starts. */
     MT_ROOM = 3,
-    /* A grid or row coordinate not finite or over 2^40 in magnitude. */
+    /* A coordinate of the grid or of a row is NaN, infinite or beyond +/-2^40. */
     MT_COORDINATE = 4,
-    /* Twist not finite or over 64 in magnitude, or arms over 64. */
+    /* The twist is NaN, infinite or beyond +/-64, or there are more than 64 arms. */
     MT_TEXTURE = 5,
-    /* Rays or samples per ray above 65,536. */
+    /* The texture would have more than 65,536 rays, or samples to a ray. */
     MT_COUNT = 6,
-    /* A cosine or sine not finite or outside -1 to 1. */
+    /* A cosine or sine is NaN or beyond +/-1. */
     MT_DIRECTION = 7,
-    /* A mapping with steps 0 or over 65,535, offset not below steps, or index over steps; a ray,
-     * sample or line that is not there. */
+    /* No such index, ray, sample or line, or a mapping whose steps or offset are out of range. */
     MT_NOT_THERE = 8,
-    /* A mark neither 0 nor 1. */
+    /* A mark is neither 0 nor 1. */
     MT_MARK = 9,
-    /* A marked coordinate not finite or over 1,048,576 in magnitude. */
+    /* A sample's coordinate is NaN, infinite or beyond +/-1,048,576. */
     MT_SAMPLE = 10,
-    /* `step_index` has no answer for an event's point; the Rust panics. */
+    /* The curve meets a side where no cell can be told (the original panics there). */
     MT_NO_STEP = 11,
-    /* A point pushed past what any of points, sides or fractions can hold, pending points
-     * counted, or a kept line past the starts. */
+    /* A lent list is full. */
     MT_FULL = 12
 };
 
-/* ---- Seams ----------------------------------------------------------------------------------- */
+/* ---- Seams (Rules 3) ------------------------------------------------------------------------- */
 
 /*
  * A mapping says how the points of a row a meet those of a row b, each of steps + 1 points. It goes
@@ -114,7 +114,7 @@ typedef struct mt_rows_answer {
  * fits b, forward before reverse. Rows whose ends are close (mt_vector_all_close) are tried at all
  * offsets, others at 0 alone. Rows of different lengths, or of fewer than two points, do not meet,
  * after 0 comparisons.
- * Refusals: 2 (a row not a multiple of 3 or over 65,536 points), 4.
+ * Refusals: 2 (a row is not of whole points, or has more than 65,536), 4.
  */
 mt_rows_answer mt_new_vector(const double *a, size_t a_len, const double *b, size_t b_len);
 
@@ -124,18 +124,18 @@ bool mt_is_reverse(bool reverse, size_t offset, size_t steps);
 /*
  * The index of b that index a_idx of a meets: forward (offset + a_idx) mod steps, for offset 0
  * a_idx itself; reverse (offset + steps - (a_idx mod steps)) mod steps, for offset 0 steps - a_idx.
- * Refusals: 8 (steps 0 or over 65,535, offset not below steps, a_idx over steps).
+ * Refusals: 8 (steps is 0 or more than 65,535, offset is not less than steps, or a_idx is more).
  */
 mt_index_answer mt_map_index(bool reverse, size_t offset, size_t steps, size_t a_idx);
 
 /*
  * The index of a that index b_idx of b meets: forward (b_idx + steps - offset) mod steps, for
  * offset 0 b_idx itself; reverse as mt_map_index.
- * Refusals: 8 (steps 0 or over 65,535, offset not below steps, b_idx over steps).
+ * Refusals: 8 (steps is 0 or more than 65,535, offset is not less than steps, or b_idx is more).
  */
 mt_index_answer mt_map_index_inv(bool reverse, size_t offset, size_t steps, size_t b_idx);
 
-/* ---- Triangles ------------------------------------------------------------------------------- */
+/* ---- Triangles (Rules 4) --------------------------------------------------------------------- */
 
 /* Both seams and the counts of triangles and of flipped pairs, or a refusal. */
 typedef struct mt_mesh_answer {
@@ -153,17 +153,18 @@ typedef struct mt_mesh_answer {
  * the pairs of triangles that meet along a reversed seam, two triangle numbers each, (smaller,
  * larger), ascending.
  * Leaves 3 * triangles numbers in `triangles`, 2 * pairs in `flipped`, and zeros after them.
- * Refusals: 1, 2, 3 (`triangles` under 6 * m * n or `flipped` under 2 * (m + n)), 4.
+ * Refusals: 1, 2, 3 (`triangles` has less than 6 * m * n places, or `flipped` less than
+ * 2 * (m + n)), 4.
  */
 mt_mesh_answer mt_triangulate_grid(const double *grid, size_t grid_len, size_t m, size_t n,
                                    size_t *triangles, size_t triangles_len,
                                    size_t *flipped, size_t flipped_len);
 
-/* ---- Lines ----------------------------------------------------------------------------------- */
+/* ---- Lines (Rules 9) ------------------------------------------------------------------------- */
 
 /*
  * Lines stand in two lists: `points`, x, y and z of each point, and `starts`, the number of the
- * first point of each line. A line goes up to the next start or, for the last line, to the count of
+ * first point of each line. A line ends where the next one starts, the last one at the count of
  * points.
  */
 
@@ -190,7 +191,8 @@ typedef struct mt_part {
 /*
  * Writes the lines of a grid: n + 1 along u, then m + 1 along v.
  * Leaves 2 * (m + 1) * (n + 1) points in `points`, m + n + 2 starts, and zeros after them.
- * Refusals: 1, 2, 3 (`points` under 6 * (m + 1) * (n + 1) or `starts` under m + n + 2), 4.
+ * Refusals: 1, 2, 3 (`points` has less than 6 * (m + 1) * (n + 1) places, or `starts` less than
+ * m + n + 2), 4.
  */
 mt_paths_answer mt_grid_paths(const double *grid, size_t grid_len, size_t m, size_t n,
                               double *points, size_t points_len,
@@ -198,36 +200,35 @@ mt_paths_answer mt_grid_paths(const double *grid, size_t grid_len, size_t m, siz
 
 /*
  * Where a line starts and ends, from the lists and the counts that mt_grid_paths, mt_trace_flat or
- * mt_trace_samples gave. The line is there if its index is below line_count, both counts fit their
- * lists, and its start is at most its end, its end at most point_count. A line that is there may be
- * empty.
- * Refusals: 8 (the line is not there).
+ * mt_trace_samples gave. There is such a line if index is less than line_count, neither count is
+ * more than its list holds, and start <= end <= point_count (Rules 9.2); it may be empty.
+ * Refusals: 8 (there is no such line).
  */
 mt_span_answer mt_line_span(const double *points, size_t points_len,
                             const size_t *starts, size_t starts_len,
                             size_t point_count, size_t line_count, size_t index);
 
 /*
- * The part of `points` that a line occupies: `length` numbers from points + offset on, three for
- * each point. A line that is not there (see mt_line_span) is the empty part, { 0, 0 }.
+ * The part of `points` that belongs to a line: `length` numbers from points + offset on, three for
+ * each point. Where there is no such line (see mt_line_span) it is the empty part, { 0, 0 }.
  * Refusals: none.
  */
 mt_part mt_get(const double *points, size_t points_len,
                const size_t *starts, size_t starts_len,
                size_t point_count, size_t line_count, size_t index);
 
-/* ---- Trace ----------------------------------------------------------------------------------- */
+/* ---- Trace (Rules 6 and 7) ------------------------------------------------------------------- */
 
 /*
  * Draws the lines of a curve where it crosses the sides of a grid's triangles. The curve is a list
  * of samples: `pairs` has u and v of each, and `marks` is 1 for a point and 0 for a break, whose
  * pair is not looked at. A line has at least two points.
  * Each drawn point is (1 - t) * p + t * q for two grid points p and q. It takes three numbers of
- * `points`, two of `sides` (the numbers of p and q) and one of `fractions` (t); a remainder too
- * small for one holds none. Each line takes one of `starts`.
+ * `points`, two of `sides` (the number of p, that of q) and one of `fractions` (t); an end of a
+ * list that is too short for one more point holds none. Each line takes one of `starts`.
  * Leaves so many numbers for each point and line of the answer in the lists, and zeros after them.
- * Refusals: 1, 2 (a grid not of 3 * (m + 1) * (n + 1) numbers, pairs not twice the marks, over
- * 65,537 marks), 4, 9, 10; 11 and 12, which leave all four lists zero.
+ * Refusals: 1, 2 (`grid` has not 3 * (m + 1) * (n + 1) numbers, `pairs` not two for each mark, or
+ * there are more than 65,537 marks), 4, 9, 10; 11 and 12, which leave all four lists zero.
  */
 mt_paths_answer mt_trace_flat(const double *grid, size_t grid_len, size_t m, size_t n,
                               const double *pairs, size_t pairs_len,
@@ -254,7 +255,7 @@ typedef struct mt_sample {
  * What mt_trace_flat does, with the samples as records. It needs 1.1 MB of stack, whatever the
  * number of samples: 1,114,129 bytes are lists of its own. A thread with a stack of less than 1,150
  * KiB calls mt_trace_flat, which needs 14 KB.
- * Refusals: those of mt_trace_flat; 2 where there are over 65,537 samples.
+ * Refusals: those of mt_trace_flat; 2 where there are more than 65,537 samples.
  */
 mt_paths_answer mt_trace_samples(const double *grid, size_t grid_len, size_t m, size_t n,
                                  const mt_sample *samples, size_t samples_len,
@@ -263,7 +264,7 @@ mt_paths_answer mt_trace_samples(const double *grid, size_t grid_len, size_t m, 
                                  size_t *sides, size_t sides_len,
                                  double *fractions, size_t fractions_len);
 
-/* ---- Textures -------------------------------------------------------------------------------- */
+/* ---- Textures (Rules 10) --------------------------------------------------------------------- */
 
 /*
  * A texture goes in as its kind, spacing, twist and arms. MT_GRID has no rays and looks at none of
@@ -279,8 +280,8 @@ enum mt_texture {
     MT_SPIRAL = 2
 };
 
-/* How many rays a texture has, and samples on each, or a refusal. Samples are numbered 0 to the
- * count, both included. */
+/* How many rays a texture has, and samples on each, or a refusal. A ray's samples have the numbers
+ * 0 to `samples`, so one more than it says. */
 typedef struct mt_ray_counts {
     uint8_t refusal;
     size_t rays;
@@ -308,20 +309,20 @@ mt_ray_counts mt_plan(uint8_t kind, double spacing, double twist, size_t arms, s
 
 /*
  * The angle of a sample of a ray, rays numbered from 0.
- * Refusals: 1, 5, 6, 8 (a ray or sample that is not there; MT_GRID has none).
+ * Refusals: 1, 5, 6, 8 (no such ray or sample; MT_GRID has none).
  */
 mt_ray_angle mt_angle(uint8_t kind, double spacing, double twist, size_t arms,
                       size_t m, size_t n, size_t ray, size_t sample);
 
 /*
  * The u and v of a sample of a ray, from the cosine and the sine of its angle.
- * Refusals: 1, 5, 6, 7, 8 (a ray or sample that is not there; MT_GRID has none).
+ * Refusals: 1, 5, 6, 7, 8 (no such ray or sample; MT_GRID has none).
  */
 mt_ray_point mt_sample_point(uint8_t kind, double spacing, double twist, size_t arms,
                              size_t m, size_t n, size_t ray, size_t sample,
                              double cosine, double sine);
 
-/* ---- Vectors --------------------------------------------------------------------------------- */
+/* ---- Vectors (Rules 2) ----------------------------------------------------------------------- */
 
 /* The functions from here on have no refusals. */
 
@@ -341,10 +342,11 @@ mt_components mt_vector_sub(double ax, double ay, double az, double bx, double b
 /* The components of a times s, rounded once each. */
 mt_components mt_vector_mul_scalar(double ax, double ay, double az, double s);
 
-/* Whether the largest of the three absolute differences of a and b is below 10^-9. */
+/* Whether a and b are close: of the magnitudes of their three differences, the largest (mt_max) is
+ * less than 10^-9. */
 bool mt_vector_all_close(double ax, double ay, double az, double bx, double by, double bz);
 
-/* ---- Numbers --------------------------------------------------------------------------------- */
+/* ---- Numbers (Rules 12) ---------------------------------------------------------------------- */
 
 /* The magnitude of x; a NaN for a NaN, whose sign may stay. */
 double mt_abs(double x);

@@ -1,6 +1,6 @@
-/* Calls the library through its C boundary with what a fuzzer's bytes say, and holds each answer to what
-   01 fixes for every call: which refusal applies, what a refusal leaves in the lent lists, zeros past the
-   counts, numbers inside the grid. A list lies against a page that cannot be touched, so that reading or
+/* Calls the library through its C boundary with what a fuzzer's bytes say, and checks what is true of every
+   call: which refusal is given (Rules 11), what it leaves in the lent lists, and zeros past the counts
+   (Rules 8); numbers inside the grid. A list lies against a page that cannot be touched, so that reading or
    writing past it ends the process. */
 #include "input.h"
 #include "merlontrispa.h"

@@ -1,12 +1,12 @@
 //! Recorded answers: the cases that `crates/replay` runs the library on, with no Rust beside it.
 //!
-//! A case is one call: its inputs, the answer of the original or of 01's table of refusals, and every lent
-//! list afterwards. Inputs are made at random from a seed, and one is kept if it reaches something that few
+//! A case is one call: its inputs, the answer of the original or a refusal of Rules 11, and every lent list
+//! afterwards. Inputs are made at random from a seed, and one is kept if it reaches something that few
 //! of those before it reach. What has to be reached is listed here, and the command fails where it is not.
 //!
 //! The text is of numbers to the base 16. A field is a count and as many numbers, on a line of its own; a
 //! case is a field, which begins with its count. Field 0 has the number of cases. In a case field 0 has the
-//! call, what it is held to (0 the original, 1 the scope's words) and the numbers it takes; lists follow, each its
+//! call, what it is held to (0 the original, 1 docs/RULES.md) and the numbers it takes; lists follow, each its
 //! length and its places without the zeros at its end.
 
 use crate::inputs::grids::Grid;
@@ -100,11 +100,11 @@ pub struct Recorded {
 }
 
 impl Recorded {
-    /// A call with these numbers, held to the original, or to the scope where it is `refused`: only the
+    /// A call with these numbers, held to the original, or to the rules where it is `refused`: only the
     /// original's own panic is its answer.
     pub fn new(call: Call, refused: Option<Refusal>, numbers: &[u64]) -> Self {
-        let scope = refused.is_some_and(|refusal| refusal != Refusal::NoStep);
-        let head = [call as u64, u64::from(scope)];
+        let rules = refused.is_some_and(|refusal| refusal != Refusal::NoStep);
+        let head = [call as u64, u64::from(rules)];
         let case = Self {
             call,
             fields: vec![[&head, numbers].concat()],
@@ -122,8 +122,8 @@ impl Recorded {
         Self::new(call, refused, &steps).floats(&grid.numbers)
     }
 
-    /// Held to the scope's words: the original has no such call.
-    pub fn held_to_scope(mut self) -> Self {
+    /// Held to the rules: the original has no such call.
+    pub fn held_to_rules(mut self) -> Self {
         self.fields[0][1] = 1;
         self
     }

@@ -56,19 +56,22 @@ fn a_fault_in_a_formula_is_pointed_at() {
 #[test]
 fn a_refusal_has_its_number_and_its_sentence() {
     let cases: [(&[&str], &str); 5] = [
-        (&["--steps", "256x3"], "1: M or N outside 1 to 255"),
-        (&["--steps", "3x0"], "1: M or N outside 1 to 255"),
+        (
+            &["--steps", "256x3"],
+            "1: M and N must each be from 1 to 255",
+        ),
+        (&["--steps", "3x0"], "1: M and N must each be from 1 to 255"),
         (
             &["--texture", "swirl", "--twist", "65"],
-            "5: twist not finite or over 64 in magnitude, or arms over 64",
+            "5: the twist is NaN, infinite or beyond ±64, or there are more than 64 arms",
         ),
         (
             &["--texture", "spiral", "--arms", "65"],
-            "5: twist not finite or over 64 in magnitude, or arms over 64",
+            "5: the twist is NaN, infinite or beyond ±64, or there are more than 64 arms",
         ),
         (
             &["--texture", "swirl", "--spacing", "0.001"],
-            "6: rays or samples per ray above 65,536",
+            "6: the texture would have more than 65,536 rays, or samples to a ray",
         ),
     ];
     for (words, refusal) in cases {
@@ -98,7 +101,7 @@ fn a_formula_that_is_refused_is_told_where() {
     for (words, first) in cases {
         let (status, said) = failure(&[&["-o", "-", "--formula"], words].concat());
         assert_eq!(status, 1, "{words:?}");
-        let refusal = "4: a grid or row coordinate not finite or over 2^40 in magnitude";
+        let refusal = "4: a coordinate of the grid or of a row is NaN, infinite or beyond ±2^40";
         let expected =
             format!("draw: the library refuses this with {refusal}; the first is {first}\n");
         assert_eq!(said, expected);

@@ -1,4 +1,4 @@
-//! Rust's methods on `f64` with their IEEE 754 meanings, as the library uses them. All are total.
+//! Rust's methods on `f64` with their IEEE 754 meanings, as the library uses them (Rules 12). All are total.
 //!
 //! ```
 //! use merlontrispa::float;

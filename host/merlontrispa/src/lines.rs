@@ -3,10 +3,10 @@ use crate::refusal::Refusal;
 use std::iter::FusedIterator;
 use std::ops::Range;
 
-/// The lists that lines are drawn into, and read from.
+/// The lists that lines are drawn into, and read from (Rules 9).
 ///
-/// A line is a run of points, three numbers each: it goes from its start up to the next start or, for
-/// the last line, to the count of points.
+/// A line is a run of points, three numbers each: it ends where the next one starts, the last one at the
+/// count of points.
 ///
 /// ```
 /// use merlontrispa::{Drawn, Lines};
@@ -44,10 +44,10 @@ pub struct Drawn {
 }
 
 impl<'a> Lines<'a> {
-    /// x, y and z of each point of a line: nothing where the line is not there.
+    /// x, y and z of each point of a line: nothing where there is no such line.
     ///
-    /// It is there if its index is below the line count, both counts fit their lists, and its start is
-    /// at most its end, its end at most the point count. A line that is there may be empty.
+    /// There is one if `index` is less than the count of lines, neither count is more than its list holds,
+    /// and start ≤ end ≤ the count of points (Rules 9.2). It may be empty.
     pub fn get(self, index: usize) -> &'a [f64] {
         let part = boundary::get(self, index);
         &self.points[part.offset..part.offset + part.length]
@@ -56,7 +56,7 @@ impl<'a> Lines<'a> {
     /// The number of the point at which a line starts, and of the one before which it ends.
     ///
     /// # Errors
-    /// 8 where the line is not there, by the rule of [`Lines::get`].
+    /// 8 where there is no such line, as for [`Lines::get`].
     pub fn line_span(self, index: usize) -> Result<Range<usize>, Refusal> {
         let answer = boundary::line_span(self, index);
         Refusal::check(answer.refusal).map(|()| answer.start..answer.end)
@@ -171,13 +171,13 @@ impl<'a> Extend<&'a [[f64; 3]]> for OwnedLines {
     }
 }
 
-/// The lines of a grid: `v_steps + 1` along u, then `u_steps + 1` along v, through
+/// The lines of a grid (Rules 9.1): `v_steps + 1` along u, then `u_steps + 1` along v, through
 /// `2 * (u_steps + 1) * (v_steps + 1)` points.
 ///
 /// All places of the two lists past what is drawn become zero.
 ///
 /// # Errors
-/// 1, 2, 3 (`points` under `6 * (u_steps + 1) * (v_steps + 1)` or `starts` under
+/// 1, 2, 3 (`points` has less than `6 * (u_steps + 1) * (v_steps + 1)` places, or `starts` less than
 /// `u_steps + v_steps + 2`) and 4. The lists are then as they were.
 ///
 /// ```

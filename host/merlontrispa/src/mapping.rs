@@ -1,18 +1,18 @@
 use crate::boundary;
 use crate::refusal::Refusal;
 
-/// How the points of a row a meet those of a row b, each of `steps + 1` points.
+/// How the points of a row a meet those of a row b, each of `steps + 1` points (Rules 3).
 #[derive(Debug, Clone, Copy, PartialEq, Eq, Hash)]
 pub enum Mapping {
-    /// Point j of a meets point `(offset + j) mod steps` of b, for offset 0 point j.
+    /// Point j of a meets point j of b at offset 0, else point `(offset + j) mod steps`.
     Forward {
         /// Where in b the first point of a lies.
         offset: usize,
         /// One less than the points of a row.
         steps: usize,
     },
-    /// Point j of a meets point `(offset + steps - (j mod steps)) mod steps` of b, for offset 0 point
-    /// `steps - j`.
+    /// Point j of a meets point `steps - j` of b at offset 0, else point
+    /// `(offset + steps - (j mod steps)) mod steps`.
     Reverse {
         /// Where in b the first point of a lies.
         offset: usize,
@@ -35,8 +35,8 @@ impl Mapping {
     /// forward before reverse. Rows whose ends are close are tried at all offsets, others at 0.
     ///
     /// # Errors
-    /// 2 where a row is no multiple of 3 or has more than 65,536 points, 4 where a coordinate is not
-    /// finite or over 2^40 in magnitude.
+    /// 2 where a row is not of whole points or has more than 65,536, 4 where a coordinate is NaN, infinite
+    /// or beyond ±2^40.
     ///
     /// ```
     /// use merlontrispa::Mapping;
@@ -72,7 +72,7 @@ impl Mapping {
     /// The index of b that index `a_idx` of a meets.
     ///
     /// # Errors
-    /// 8 where `steps` is 0 or over 65,535, the offset not below it, or the index above it.
+    /// 8 where `steps` is 0 or more than 65,535, the offset is not less than it, or the index is more.
     pub fn map_index(self, a_idx: usize) -> Result<usize, Refusal> {
         let (reverse, offset, steps) = self.parts();
         let answer = boundary::mt_map_index(reverse, offset, steps, a_idx);
@@ -82,7 +82,7 @@ impl Mapping {
     /// The index of a that index `b_idx` of b meets.
     ///
     /// # Errors
-    /// 8 where `steps` is 0 or over 65,535, the offset not below it, or the index above it.
+    /// 8 where `steps` is 0 or more than 65,535, the offset is not less than it, or the index is more.
     pub fn map_index_inv(self, b_idx: usize) -> Result<usize, Refusal> {
         let (reverse, offset, steps) = self.parts();
         let answer = boundary::mt_map_index_inv(reverse, offset, steps, b_idx);

@@ -23,14 +23,14 @@ pub struct Triangulation {
 }
 
 /// The triangles of a grid of `u_steps` by `v_steps` cells, its seams joined, and the pairs of
-/// triangles that meet along a reversed seam, each (smaller, larger), ascending.
+/// triangles that meet along a reversed seam, each (smaller, larger), ascending (Rules 4).
 ///
 /// The grid has three numbers for each point, and point (u, v) has the number `u * (v_steps + 1) + v`.
 /// All places of the two lists past what is written become zero.
 ///
 /// # Errors
-/// 1, 2, 3 (`triangles` under `6 * u_steps * v_steps` or `flipped` under `2 * (u_steps + v_steps)`)
-/// and 4. The lists are then as they were.
+/// 1, 2, 3 (`triangles` has less than `6 * u_steps * v_steps` places, or `flipped` less than
+/// `2 * (u_steps + v_steps)`) and 4. The lists are then as they were.
 ///
 /// ```
 /// let grid = [0.0, 0.0, 0.0, 0.0, 1.0, 0.0, 1.0, 0.0, 0.0, 1.0, 1.0, 5.0];

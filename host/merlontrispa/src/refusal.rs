@@ -1,37 +1,39 @@
 use std::error::Error;
 use std::fmt;
 
-/// Why a call sent its caller back. A refusal carries its number and no other value.
+/// Why a call sent its caller back: a number, and nothing beside it (Rules 11).
 ///
-/// The lowest number applies; 11 and 12 come in the order of the walk. The numbers 1 to 10 leave lists
-/// that were lent for output untouched; 11 and 12 leave them all zero. `refusal as u8` is the number that
-/// the C boundary answers.
+/// Where several apply it is the one with the lowest number; 11 and 12 come as the walk along the curve
+/// meets them. 1 to 10 leave lists that were lent for output as they were, 11 and 12 leave them all zero.
+/// `refusal as u8` is the number that the C boundary answers.
 #[derive(Debug, Clone, Copy, PartialEq, Eq, Hash)]
 #[repr(u8)]
 pub enum Refusal {
-    /// 1: M or N outside 1 to 255.
+    /// 1: M and N must each be from 1 to 255.
     Steps = 1,
-    /// 2: a list that has not the length its rule gives, or is longer than allowed.
+    /// 2: a list has the wrong length: a grid has 3·(M+1)·(N+1) numbers, samples two numbers for each mark
+    /// and at most 65,537 marks, a seam row whole points and at most 65,536 of them.
     Length = 2,
-    /// 3: a list lent for output that is too short.
+    /// 3: a lent list is too short: it takes 6·M·N numbers for triangles, 2·(M+N) for flipped pairs,
+    /// 6·(M+1)·(N+1) for the points of grid lines, M+N+2 for their starts.
     Room = 3,
-    /// 4: a coordinate of a grid or a row that is not finite or over 2^40 in magnitude.
+    /// 4: a coordinate of the grid or of a row is NaN, infinite or beyond ±2^40.
     Coordinate = 4,
-    /// 5: a twist that is not finite or over 64 in magnitude, or more than 64 arms.
+    /// 5: the twist is NaN, infinite or beyond ±64, or there are more than 64 arms.
     Texture = 5,
-    /// 6: more than 65,536 rays, or samples per ray.
+    /// 6: the texture would have more than 65,536 rays, or samples to a ray.
     Count = 6,
-    /// 7: a cosine or sine that is not finite or outside -1 to 1.
+    /// 7: a cosine or sine is NaN or beyond ±1.
     Direction = 7,
-    /// 8: a mapping, an index, a ray, a sample or a line that is not there.
+    /// 8: no such index, ray, sample or line, or a mapping whose steps or offset are out of range.
     NotThere = 8,
-    /// 9: a mark that is neither 0 nor 1.
+    /// 9: a mark is neither 0 nor 1.
     Mark = 9,
-    /// 10: a marked coordinate that is not finite or over 1,048,576 in magnitude.
+    /// 10: a sample's coordinate is NaN, infinite or beyond ±1,048,576.
     Sample = 10,
-    /// 11: an event's point for which `step_index` has no answer; the original panics.
+    /// 11: the curve meets a side where no cell can be told (the original panics there).
     NoStep = 11,
-    /// 12: a point or a kept line past what a lent list can hold.
+    /// 12: a lent list is full.
     Full = 12,
 }
 
@@ -95,30 +97,32 @@ fn unknown(number: u8) -> ! {
 impl fmt::Display for Refusal {
     fn fmt(&self, f: &mut fmt::Formatter<'_>) -> fmt::Result {
         let sentence = match self {
-            Self::Steps => "M or N outside 1 to 255",
+            Self::Steps => "M and N must each be from 1 to 255",
             Self::Length => {
-                "a grid not of 3·(M+1)·(N+1) numbers; pairs not twice the marks; over 65,537 marks; \
-                 a seam row not a multiple of 3 or over 65,536 points"
+                "a list has the wrong length: a grid has 3·(M+1)·(N+1) numbers, samples two numbers \
+                 for each mark and at most 65,537 marks, a seam row whole points and at most 65,536 of them"
             }
             Self::Room => {
-                "triangles list under 6·M·N, flipped list under 2·(M+N), grid-line points under \
-                 6·(M+1)·(N+1) or their starts under M+N+2, all counted in numbers"
+                "a lent list is too short: it takes 6·M·N numbers for triangles, 2·(M+N) for flipped \
+                 pairs, 6·(M+1)·(N+1) for the points of grid lines, M+N+2 for their starts"
             }
-            Self::Coordinate => "a grid or row coordinate not finite or over 2^40 in magnitude",
-            Self::Texture => "twist not finite or over 64 in magnitude, or arms over 64",
-            Self::Count => "rays or samples per ray above 65,536",
-            Self::Direction => "a cosine or sine not finite or outside −1 to 1",
+            Self::Coordinate => {
+                "a coordinate of the grid or of a row is NaN, infinite or beyond ±2^40"
+            }
+            Self::Texture => {
+                "the twist is NaN, infinite or beyond ±64, or there are more than 64 arms"
+            }
+            Self::Count => "the texture would have more than 65,536 rays, or samples to a ray",
+            Self::Direction => "a cosine or sine is NaN or beyond ±1",
             Self::NotThere => {
-                "a mapping with steps 0 or over 65,535, offset not below steps, or index over steps; \
-                 a ray, sample or line that is not there"
+                "no such index, ray, sample or line, or a mapping whose steps or offset are out of range"
             }
-            Self::Mark => "a mark neither 0 nor 1",
-            Self::Sample => "a marked coordinate not finite or over 1,048,576 in magnitude",
-            Self::NoStep => "`step_index` has no answer for an event's point; the Rust panics",
-            Self::Full => {
-                "a point pushed past what any of points, sides or fractions can hold, pending points \
-                 counted, or a kept line past the starts"
+            Self::Mark => "a mark is neither 0 nor 1",
+            Self::Sample => "a sample's coordinate is NaN, infinite or beyond ±1,048,576",
+            Self::NoStep => {
+                "the curve meets a side where no cell can be told (the original panics there)"
             }
+            Self::Full => "a lent list is full",
         };
         write!(f, "{}: {sentence}", self.number())
     }

@@ -7,8 +7,8 @@ use crate::trace::{OwnedTrace, Trace, TraceLists, trace_flat};
 
 /// A surface sampled into a grid of points, checked once.
 ///
-/// M is the number of steps in u and N in v. Point (u, v), u from 0 to M and v from 0 to N, has the
-/// number `u * (N + 1) + v`; the grid is x, y and z of each point, in the order of their numbers.
+/// It has M steps in u and N in v. The number of point (u, v), u up to M and v up to N, is `u * (N + 1) + v`;
+/// a grid is x, y and z of point number 0, then of number 1, and so on (Rules 1).
 ///
 /// Methods whose names end in `_into` write to lists that the caller lends, and allocate nothing.
 ///
@@ -37,8 +37,8 @@ impl<'a> Surface<'a> {
     /// The surface of a grid with M and N steps.
     ///
     /// # Errors
-    /// 1 for M or N outside 1 to 255, 2 for a grid not of `3 * (M + 1) * (N + 1)` numbers, 4 for a
-    /// coordinate that is not finite or over 2^40 in magnitude.
+    /// 1 for M or N that is not from 1 to 255, 2 for a grid that has not `3 * (M + 1) * (N + 1)` numbers,
+    /// 4 for a coordinate that is NaN, infinite or beyond ±2^40.
     ///
     /// ```
     /// use merlontrispa::{Refusal, Surface};
@@ -119,7 +119,7 @@ impl<'a> Surface<'a> {
     /// [`triangulate_grid`] of this surface.
     ///
     /// # Errors
-    /// 3 for a list under [`Surface::triangles_room`] or [`Surface::flipped_room`]; both are then as
+    /// 3 for a list shorter than [`Surface::triangles_room`] or [`Surface::flipped_room`]; both are then as
     /// they were.
     pub fn triangulate_into(
         self,
@@ -158,8 +158,8 @@ impl<'a> Surface<'a> {
     /// The lines of the grid, by [`grid_paths`]: N + 1 along u, then M + 1 along v.
     ///
     /// # Errors
-    /// 3 for a list under [`Surface::grid_points_room`] or [`Surface::grid_starts_room`]; both are then
-    /// as they were.
+    /// 3 for a list shorter than [`Surface::grid_points_room`] or [`Surface::grid_starts_room`]; both are
+    /// then as they were.
     ///
     /// ```
     /// use merlontrispa::Surface;
@@ -198,8 +198,8 @@ impl<'a> Surface<'a> {
     /// `marks` is 1 for a point and 0 for a break.
     ///
     /// # Errors
-    /// 2 for pairs that are not twice the marks or more than 65,537 marks, 9 and 10, which leave the
-    /// lists as they were; 11 and 12, which leave them all zero.
+    /// 2 for pairs that are not two numbers for each mark or more than 65,537 marks, 9 and 10, which leave
+    /// the lists as they were; 11 and 12, which leave them all zero.
     pub fn trace_into<'b>(
         self,
         pairs: &[f64],
@@ -240,7 +240,7 @@ impl<'a> Surface<'a> {
     /// others takes [`Texture::sample_point`].
     ///
     /// # Errors
-    /// 5 for a twist or arms that are not allowed, 6 for more than 65,536 rays or samples per ray, 11.
+    /// 5 for a twist or arms that are not allowed, 6 for more than 65,536 rays, or samples to a ray, 11.
     ///
     /// ```
     /// use merlontrispa::{Surface, Texture};

@@ -1,7 +1,7 @@
 use crate::boundary;
 use crate::refusal::Refusal;
 
-/// What is drawn on a surface of M by N cells.
+/// What is drawn on a surface of M by N cells (Rules 10).
 ///
 /// The cosine and the sine are the caller's, so that the answers do not rest on a mathematics library;
 /// [`Surface::texture_lines`](crate::Surface::texture_lines) takes Rust's.
@@ -41,8 +41,8 @@ pub enum Texture {
     },
 }
 
-/// How many rays a texture has, and samples on each. Samples are numbered from 0 to the count, both
-/// included.
+/// How many rays a texture has, and samples on each. A ray's samples have the numbers 0 to `samples`, so one
+/// more than it says.
 #[derive(Debug, Clone, Copy, PartialEq, Eq, Hash)]
 pub struct Plan {
     /// The rays, or arms: 0 for a grid.
@@ -55,8 +55,8 @@ impl Texture {
     /// Rays and samples per ray on M by N cells.
     ///
     /// # Errors
-    /// 1 for M or N outside 1 to 255, 5 for a twist or arms that are not allowed, 6 for more than 65,536
-    /// rays or samples per ray.
+    /// 1 for M or N that is not from 1 to 255, 5 for a twist or arms that are not allowed, 6 for more than
+    /// 65,536 rays, or samples to a ray.
     pub fn plan(self, m: usize, n: usize) -> Result<Plan, Refusal> {
         let (kind, spacing, twist, arms) = self.parts();
         let answer = boundary::mt_plan(kind, spacing, twist, arms, m, n);
@@ -68,7 +68,7 @@ impl Texture {
     /// The angle of a sample of a ray.
     ///
     /// # Errors
-    /// As for `plan`, and 8 for a ray or a sample that is not there.
+    /// As for `plan`, and 8 where there is no such ray or sample.
     pub fn angle(self, m: usize, n: usize, ray: usize, sample: usize) -> Result<f64, Refusal> {
         let (kind, spacing, twist, arms) = self.parts();
         let answer = boundary::mt_angle(kind, spacing, twist, arms, m, n, ray, sample);
@@ -78,7 +78,7 @@ impl Texture {
     /// The u and v of a sample of a ray, from the cosine and the sine of its angle.
     ///
     /// # Errors
-    /// As for `angle`, and 7 for a cosine or a sine that is not finite or outside -1 to 1.
+    /// As for `angle`, and 7 for a cosine or a sine that is NaN or beyond ±1.
     pub fn sample_point(
         self,
         m: usize,

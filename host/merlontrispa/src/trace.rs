@@ -3,7 +3,7 @@ use crate::lines::{Drawn, Lines, OwnedLines};
 use crate::refusal::Refusal;
 
 /// The lists that a trace is written to. A point takes three numbers of `points`, two of `sides` and one
-/// of `fractions`; a remainder too small for one holds none.
+/// of `fractions`; an end of a list that is too short for one more point holds none (Rules 8.1).
 #[derive(Debug, Default)]
 pub struct TraceLists<'a> {
     /// x, y and z of each point.
@@ -97,7 +97,7 @@ impl OwnedTrace {
     }
 }
 
-/// The lines that a curve draws where it crosses the sides of a grid's triangles.
+/// The lines that a curve draws where it crosses the sides of a grid's triangles (Rules 6 and 7).
 ///
 /// The curve is a list of samples: `pairs` has u and v of each, and `marks` is 1 for a point and 0 for
 /// a break, whose pair is not looked at. All places of the lists past what is drawn become zero.

@@ -175,7 +175,7 @@ fn this_crate_declares_what_the_library_exports() {
 
 /// Letters, digits and the signs that C writes as Rust does, so that only the typography may differ.
 fn plain(sentence: &str) -> String {
-    let sentence = sentence.replace('−', "-").to_lowercase();
+    let sentence = sentence.replace('±', "+-").to_lowercase();
     let kept = |c: &char| c.is_alphanumeric() || "+-^,;".contains(*c);
     sentence.chars().filter(kept).collect()
 }
@@ -285,4 +285,29 @@ fn the_table_of_calls_has_each_function_of_the_header_once() {
         .copied()
         .collect();
     assert!(others.is_empty(), "not in the header: {others:?}");
+}
+
+#[test]
+fn the_documentation_of_each_refusal_is_its_sentence() {
+    let source = plain(&read("host/merlontrispa/src/refusal.rs"));
+    for refusal in Refusal::ALL {
+        let told = refusal.to_string();
+        let documented = plain(&format!("{told}.\n{refusal:?} = {}", refusal.number()));
+        assert!(source.contains(&documented), "{told}");
+    }
+}
+
+/// The numbers in a column of the tables of a text.
+fn numbers(text: &str, column: usize) -> BTreeSet<u8> {
+    let rows = text.lines().filter(|line| line.starts_with('|'));
+    let cells = rows.filter_map(|row| row.split('|').nth(column));
+    cells.filter_map(|cell| cell.trim().parse().ok()).collect()
+}
+
+#[test]
+fn the_rules_have_the_numbers_of_the_refusals() {
+    let all: BTreeSet<_> = Refusal::ALL.iter().map(|r| r.number()).collect();
+    let rules = read("docs/RULES.md");
+    let section = rules.split("\n## ").find(|text| text.starts_with("11 "));
+    assert_eq!(numbers(section.expect("Rules 11"), 2), all);
 }

@@ -1,5 +1,5 @@
-//! 01's table of known results, on the library: each row that an open call can show.
-//! `host/original/tests/known_results.rs` has the same rows on the original.
+//! The known results of Rules 3, 4, 6 and 7, on the library: each that an open call can show.
+//! `host/original/tests/known_results.rs` has the same ones on the original.
 
 use merlontrispa::Mapping::{Forward, Reverse};
 use merlontrispa::{Drawn, Mapping, Refusal, Seam, Surface, TraceLists, trace_flat};

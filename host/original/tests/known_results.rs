@@ -1,4 +1,4 @@
-//! 01's table of known results, on the original.
+//! The known results of Rules 3, 4, 6 and 7, on the original.
 #![cfg(larnt)]
 
 use original::CyclicMapping::{Forward, Reverse};

@@ -188,7 +188,7 @@ impl Listed {
         Ok([span.start, span.end])
     }
 
-    /// Where the line lies, by 01's words.
+    /// Where the line lies, by Rules 9.2.
     fn span(&self) -> Result<[usize; 2], Refusal> {
         let Drawn { points, lines } = self.drawn;
         if self.index >= lines || points > self.points.len() / 3 || lines > self.starts.len() {
@@ -273,7 +273,7 @@ impl Listed {
         let told = self.span();
         let last = told.is_ok() && self.index + 1 == lines;
         Recorded::new(Call::Line, told.err(), &numbers)
-            .held_to_scope()
+            .held_to_rules()
             .floats(&self.points)
             .numbers(&self.starts)
             .told(told)

@@ -124,7 +124,7 @@ fn radii() -> Vec<f64> {
     std::iter::once(0.0).chain((1..=255).map(radius)).collect()
 }
 
-/// The counts of the original, and 01's refusals.
+/// The counts of the original, and the refusals of Rules 11.
 fn original_plan(radii: &[f64], input: &Input) -> Result<Plan, Refusal> {
     let fits = |steps: usize| (1..=255).contains(&steps);
     if !fits(input.m) || !fits(input.n) {
@@ -159,7 +159,7 @@ fn original_plan(radii: &[f64], input: &Input) -> Result<Plan, Refusal> {
 /// The numbers of each line, or a refusal.
 type DrawnLines = Result<Vec<Vec<f64>>, Refusal>;
 
-/// What the original draws of what 01 does not refuse; where it panics, 11 is due.
+/// What the original draws of what Rules 11 does not refuse; where it panics, 11 is due.
 fn original_lines(radii: &[f64], scene: &Scene) -> DrawnLines {
     let grid = &scene.grid;
     if let Some(refusal) = grid.refusal() {
@@ -510,7 +510,7 @@ impl Input {
         }
     }
 
-    /// A sample by the original's closures, or 01's refusal.
+    /// A sample by the original's closures, or a refusal of Rules 11.
     fn sample(
         &self,
         plan: Result<Plan, Refusal>,

@@ -166,7 +166,7 @@ pub fn called(
     output
 }
 
-/// What the original's trace leaves, in lists that are lent, and 01's refusals.
+/// What the original's trace leaves, in lists that are lent, and the refusals of Rules 11.
 pub fn original(input: &Input) -> Output {
     let mut output = Output::before(input.room);
     let walk = match &input.walk {

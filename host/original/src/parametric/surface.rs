@@ -14,7 +14,7 @@ use std::sync::Once;
 /// A sample of a curve: u and v, or a break.
 pub type Sample = Option<(f64, f64)>;
 
-/// What a drawn point was made from: the numbers of p and q, and t.
+/// The two grid points that a drawn point lies between, and where (Rules 7.2).
 #[derive(Debug, Clone, Copy, PartialEq)]
 pub struct Side {
     /// The number of p.
