@@ -135,7 +135,7 @@ module _ (close : Closeness) (a b : Row) where
       one-offset n o k f r (searchFrom close a b n k (o + 1) (r .made)) (tells (Forward o n) c) (tells (Reverse o n) (f .made))
       (outcome-from n k (o + 1) (r .made))
 
-  -- whether the rows are closed, as the rule says it
+  -- whether the rows are closed, as Rules 3.2 says it
   pub closed-both : (n : ℕ) → closed close a b n .fits ≡ close (a 0) (a n) && close (b 0) (b n)
   unfolding closed
   closed-both n = go (close (a 0) (a n))
@@ -174,7 +174,7 @@ module _ (close : Closeness) (a b : Row) where
   pub found-not-forward : (n o : ℕ) → searchRows close a b n .seam ≡ Joined (Reverse o n) → Fits close a b (Forward o n) → ⊥
   found-not-forward n o e = found n e .not-forward refl
 
-  -- None exactly when no tried offset fits either way
+  -- there is no mapping if and only if none of the offsets tried fits in either direction
 
   pub none-fits : (n : ℕ) → searchRows close a b n .seam ≡ Unjoined → (o : ℕ) → o < offsetsTried close a b n → Neither close a b n o
   none-fits n e o l = subst (Outcome close a b n 0 (offsetsTried close a b n)) e (outcome n) o (omega arith) (omega arith)

@@ -1,4 +1,4 @@
-// The search for a seam between two rows of points.
+// Rules 3.1 to 3.3: the search for a seam between two rows of points.
 use crate::mapping::CyclicMapping;
 use float::consts::EPS;
 use refusal::Check;
@@ -66,7 +66,7 @@ fn points_close(a: &[f64], i: usize, b: &[f64], k: usize) -> bool
     grid::point_at(a, i).all_close(grid::point_at(b, k))
 }
 
-// Whether two points differ by less than EPS in each coordinate, and so are close. No branch, which is what makes it fast.
+// Whether two points differ by less than EPS in each coordinate, and so are close. It has no branch, and so is fast.
 fn points_near(a: &[f64], i: usize, b: &[f64], k: usize) -> bool
     requires { ⌜ (3 * i + 3 ≤ length (now a)) × (3 * k + 3 ≤ length (now b)) ⌝ }
     ensures { λ r. ⌜ (r ≡ true → allClose (pointAt (now (a .entry)) i) (pointAt (now (b .entry)) k) eps ≡ true) ⌝ }
@@ -75,7 +75,7 @@ fn points_near(a: &[f64], i: usize, b: &[f64], k: usize) -> bool
     ((-EPS < d.x) & (d.x < EPS)) & ((-EPS < d.y) & (d.y < EPS)) & ((-EPS < d.z) & (d.z < EPS))
 }
 
-// Rows are closed if a's ends are close and then b's ends are.
+// Whether the rows are closed. The ends of b are compared only where those of a are close.
 fn rows_closed(
     a: &[f64],
     a_start: usize,
@@ -221,7 +221,7 @@ pub fn search_rows(
     }
 }
 
-// None if there are under 2 points or the lengths differ, after 0 comparisons; else the search.
+// Rows of unlike length, or of fewer than two points, have no seam, and nothing is compared; others are searched.
 fn search(a: &[f64], b: &[f64]) -> SeamSearch
     requires { ⌜ length (now a) ≤ 196608 ⌝ }
     ensures { λ r. ⌜ r ≡ search (closeAt eps) (pointAt (now (a .entry))) (pointAt (now (b .entry))) (length (now (a .entry)) / 3) (length (now (b .entry)) / 3) ⌝ }

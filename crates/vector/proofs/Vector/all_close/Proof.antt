@@ -1,4 +1,5 @@
--- `vector::Vector::all_close` meets its contract: the laws are in proofs/Close.antt.
+-- `vector::Vector::all_close` meets its contract: the largest of the three is below EPS where none is EPS or more, and
+-- a NaN is passed over unless all three are (proofs/Close.antt).
 use borrow.Author.Needs.{needs}
 use Rattle.float.specs.Consts.{eps}
 use Rattle.vector.proofs.Close.{eps-not-nan, apart-fails, near-passes, apart-first, apart-second, apart-third, none-apart}
