@@ -1,4 +1,5 @@
--- What the tests of code say: a comparison under `!`, two joined by `&`, one whose other answer cannot be, and what is picked by one.
+-- What the tests of code say: a comparison under `!`, two joined by `&`, one whose other answer cannot be,
+-- and what is picked by one.
 use mathlib.Core.Path.{_≡_, refl, sym, _∙_}
 use mathlib.Core.Bool.{Bool, true, false, not, _&&_, cond, and-eq-true-iff}
 use borrow.Author.Tests.{not-true, not-false}

@@ -1,6 +1,6 @@
--- What a search's answer says, for any closeness and any two rows: a found mapping fits at every point, its offset was tried and no earlier one fits, forward
--- was tried before reverse; without one no tried offset fits; and how many comparisons there can be. Each follows by induction on the offsets that are tried.
---
+-- What a search's answer says, for any closeness and any two rows: a found mapping fits at every point, its offset was
+-- tried and no earlier one fits, forward was tried before reverse; without one no tried offset fits; and how many
+-- comparisons there can be. Each follows by induction on the offsets that are tried.
 use Prim.Native.Nat.{ℕ, zero, suc, _+_, _*_, _≤_, _<_}
 use native.Mathlib.Nat.{eq-or-lt-of-le, suc-mul, mul-assoc, mul-left-comm, mul-le-mul-right}
 use native.Mathlib.Omega.{arith}

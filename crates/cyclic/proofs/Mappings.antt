@@ -1,5 +1,6 @@
--- Where a mapping takes an index, said without `%`; that `image` and `inverse` undo each other; and the image of the next index.
--- An index is at most steps and an offset below them, so each sum passes steps at most once; the rest is arithmetic modulo steps.
+-- Where a mapping takes an index, said without `%`; that `image` and `inverse` undo each other; and the image of
+-- the next index. An index is at most steps and an offset below them, so each sum passes steps at most once; the
+-- rest is arithmetic modulo steps.
 use Prim.Native.Nat.{ℕ, _+_, _-_, _%_, _≤_, _<_}
 use native.Mathlib.Nat.{eq-zero-or-pos, eq-or-lt-of-le, mod-lt, mod-self, mod-eq-of-lt, mod-eq-sub-mod, mod-add-mod, add-mod-mod, add-mod-right}
 use native.Mathlib.Omega.{arith}
@@ -165,7 +166,8 @@ back-and-there (Forward o n) j u f =
     rw (forward-other o n _ f, inverse-minus o n j (u .1) f, add-mod-mod, x, add-mod-right)
 back-and-there (Reverse o n) j u f = rw reverse-same (rw reverse-same at (there-and-back (Reverse o n) j u f))
 
--- `map_index_inv` undoes `map_index`: at offset 0 at every index from 0 to steps, at another offset at every index below steps
+-- `map_index_inv` undoes `map_index`: at offset 0 at every index from 0 to steps, at another offset
+-- at every index below steps
 pub inverse-image : (m : CyclicMapping) (j : ℕ) → HasIndex m j → (0 < offsetOf m → j < stepsOf m) → inverse m (image m j) ≡ j
 inverse-image m j u f =
     ⊎-elim (λ z. zero-same m (image m j) z ∙ zero-twice m j (u .2) z) (λ p. there-and-back m j u (omega arith) ∙ mod-eq-of-lt (f p))

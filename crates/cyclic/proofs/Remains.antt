@@ -1,5 +1,5 @@
--- What is left of a search after a comparison, an offset or the last offset: the loops' invariants say that the whole answer is the answer of what is left.
---
+-- What is left of a search after a comparison, an offset or the last offset: the loops' invariants say that the whole
+-- answer is the answer of what is left.
 use Prim.Native.Nat.{ℕ, zero, suc, _+_, _-_, _*_, _≤_, _<_}
 use native.Mathlib.Nat.{eq-or-lt-of-le}
 use native.Mathlib.Numerals.{add-one}

@@ -1,4 +1,5 @@
--- Rows in their lists: each point of a row stands in its list, a list of points is a row of its own, and what the tests of two rows show.
+-- Rows in their lists: each point of a row stands in its list, a list of points is a row of its own, and what
+-- the tests of two rows show.
 use Prim.Native.Nat.{ℕ, _+_, _-_, _*_, _/_, _%_, _≤_, _<_}
 use native.Mathlib.Nat.{mul-le-mul-right}
 use native.Mathlib.Omega.{arith}

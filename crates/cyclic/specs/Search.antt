@@ -26,8 +26,8 @@ use Rattle.cyclic.specs.Mapping.{image}
 abbrev pub Row : Type 0
 Row = ℕ → Vector
 
--- the row whose point j is point start + j·stride of a list of coordinates: a line of a grid, or with stride 1 a list of
--- its own
+-- the row whose point j is point start + j·stride of a list of coordinates: a line of a grid, or with
+-- stride 1 a list of its own
 abbrev pub rowOf : List Float → ℕ → ℕ → Row
 rowOf l start stride j = pointAt l (start + j * stride)
 
@@ -54,8 +54,8 @@ abbrev pub tried : Bool → ℕ → Tried
 tried f k = record { fits = f; made = k }
 
 module _ (close : Closeness) (a b : Row) where
-  -- a direction at an offset: k points of a from j on with their partners in b, after c comparisons, up to the first that
-  -- is not close
+  -- a direction at an offset: k points of a from j on with their partners in b, after c comparisons, up to
+  -- the first that is not close
   unfoldable pub tryFrom : CyclicMapping → ℕ → ℕ → ℕ → Tried
   tryFrom m zero j c = tried true c
   tryFrom m (suc k) j c = cond (close (a j) (b (image m j))) (tryFrom m k (j + 1) (c + 1)) (tried false (c + 1))
@@ -92,7 +92,9 @@ rowsCheck a b = unless (rowFits a && rowFits b) Length (unless (coordinatesFit a
 
 -- the open call `CyclicMapping::new_vector`, at a tolerance, for which the rules take EPS
 unfoldable pub newVector : List Float → List Float → Float → Answer SeamSearch
-newVector a b tolerance = passing (rowsCheck a b) (ok (search (closeAt tolerance) (pointAt a) (pointAt b) (length a / 3) (length b / 3)))
+newVector a b tolerance =
+    passing (rowsCheck a b)
+    (ok (search (closeAt tolerance) (pointAt a) (pointAt b) (length a / 3) (length b / 3)))
 
 -- the values or the number that each answer of the code stands for
 abbrev pub statedSeam : SeamAnswer → Answer SeamSearch

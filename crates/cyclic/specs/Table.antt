@@ -16,7 +16,8 @@ use Rattle.cyclic.specs.Search.{searched, tryFrom, closed, searchFrom, s
 
 -- `unfolding computed` opens every definition that a closed result of this file needs
 unfoldable pub computed : Bool
-unfolding mapIndex mapIndexInv image inverse newVector rowsCheck search searchRows searchFrom closed tryFrom pointAt coordinatesFit allClose larger absolute eps ofBits lt le sub round
+unfolding mapIndex mapIndexInv image inverse newVector rowsCheck search searchRows searchFrom closed tryFrom
+    pointAt coordinatesFit allClose larger absolute eps ofBits lt le sub round
 computed = true
 
 -- forward, round the end of the row and back
@@ -53,16 +54,19 @@ along [] = []
 along (x ∷ xs) = x ∷ zero64 ∷ zero64 ∷ along xs
 
 -- b is a from its end to its start
-pub turned : newVector (along (zero64 ∷ one64 ∷ two64 ∷ three64 ∷ [])) (along (three64 ∷ two64 ∷ one64 ∷ zero64 ∷ [])) eps ≡ ok (searched (Joined (Reverse 0 3)) 6)
+pub turned : newVector (along (zero64 ∷ one64 ∷ two64 ∷ three64 ∷ [])) (along (three64 ∷ two64 ∷ one64 ∷ zero64 ∷ [])) eps
+    ≡ ok (searched (Joined (Reverse 0 3)) 6)
 unfolding computed
 turned = refl
 
 -- closed rows, b a step further round than a
-pub shifted : newVector (along (zero64 ∷ one64 ∷ two64 ∷ zero64 ∷ [])) (along (one64 ∷ two64 ∷ zero64 ∷ one64 ∷ [])) eps ≡ ok (searched (Joined (Forward 2 3)) 10)
+pub shifted : newVector (along (zero64 ∷ one64 ∷ two64 ∷ zero64 ∷ [])) (along (one64 ∷ two64 ∷ zero64 ∷ one64 ∷ [])) eps
+    ≡ ok (searched (Joined (Forward 2 3)) 10)
 unfolding computed
 shifted = refl
 
 -- open rows that fit neither way
-pub apart : newVector (along (zero64 ∷ one64 ∷ two64 ∷ [])) (along (one64 ∷ two64 ∷ three64 ∷ [])) eps ≡ ok (searched Unjoined 3)
+pub apart : newVector (along (zero64 ∷ one64 ∷ two64 ∷ [])) (along (one64 ∷ two64 ∷ three64 ∷ [])) eps
+    ≡ ok (searched Unjoined 3)
 unfolding computed
 apart = refl

@@ -1,7 +1,8 @@
 // Rules 3.4: CyclicMapping, from an index of row a to one of row b, and back.
 use refusal::Refusal;
 ghost use mathlib.Core.Path.{_≡_};
-ghost use Rattle.cyclic.specs.Mapping.{isReverse, image, inverse, usable, inRows, HasIndex, mapIndex, mapIndexInv, statedIndex};
+ghost use Rattle.cyclic.specs.Mapping.{isReverse, image, inverse, usable, inRows, HasIndex};
+ghost use Rattle.cyclic.specs.Mapping.{mapIndex, mapIndexInv, statedIndex};
 
 // The largest number of steps of a row.
 pub const MAX_STEPS: usize = 65535;

@@ -11,7 +11,8 @@ ghost use Rattle.grid.specs.Grid.{pointAt};
 ghost use Rattle.float.specs.Consts.{eps};
 ghost use Rattle.vector.specs.Vectors.{allClose};
 ghost use Rattle.cyclic.specs.Mapping.{image, HasIndex};
-ghost use Rattle.cyclic.specs.Search.{rowOf, Rows, closeAt, searched, closed, searchRows, search, rowFits, rowsCheck, newVector, statedSeam};
+ghost use Rattle.cyclic.specs.Search.{rowOf, Rows, closeAt, searched, closed, searchRows, search};
+ghost use Rattle.cyclic.specs.Search.{rowFits, rowsCheck, newVector, statedSeam};
 
 // A row has at most 65,536 points.
 const MAX_ROW: usize = 196608;

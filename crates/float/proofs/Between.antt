@@ -1,5 +1,6 @@
--- The magnitude of x is below y, or at most y, exactly if x lies between -y and y, so that it is told by two comparisons of x. By the signs, down to the
--- sizes a of x and b of y on one scale: what a sign adds is the test 0 < a + b, and it holds where a < b does.
+-- The magnitude of x is below y, or at most y, exactly if x lies between -y and y, so that it is told by two
+-- comparisons of x. By the signs, down to the sizes a of x and b of y on one scale: what a sign adds is the test
+-- 0 < a + b, and it holds where a < b does.
 use Prim.Native.Nat.{ℕ, _+_, _*_}
 use native.Mathlib.Nat.{add-comm}
 use native.Mathlib.Omega.{arith}

@@ -1,5 +1,5 @@
--- A count as a float is exact and stands to others as the counts do; `clamped` lies between its ends; and a value between counts has its floor and its ceiling between them.
---
+-- A count as a float is exact and stands to others as the counts do; `clamped` lies between its ends; and a value
+-- between counts has its floor and its ceiling between them.
 use mathlib.Core.Path.{_≡_, refl, sym, ap, _∙_}
 use mathlib.Core.Logic.{_⊎_, inl, inr}
 use Prim.Native.Nat.{ℕ, zero, suc, _+_, _-_, _*_, _/_, _^_, _≤_, _<_, zero-le}

@@ -1,5 +1,6 @@
--- `floorZ` and `ceilZ` from the cut toward zero: of a negative value the floor is one below the cut where something was cut off, of a positive one the
--- ceiling is one above it; and whether something was cut off is one comparison with the cut as a float, which is exact.
+-- `floorZ` and `ceilZ` from the cut toward zero: of a negative value the floor is one below the cut where something was
+-- cut off, of a positive one the ceiling is one above it; and whether something was cut off is one comparison with the
+-- cut as a float, which is exact.
 use mathlib.Core.Path.{_≡_, refl, sym, ap, _∙_}
 use Prim.Native.Nat.{ℕ, zero, suc, _-_, _*_, _/_, _%_, _^_, _≤_, _<_}
 use native.Mathlib.Nat.{le-trans, lt-of-lt-of-le, le-of-lt, le-of-eq, lt-irrefl, mul-one, mul-comm, div-one, add-zero, le-add-right, div-mul-le-self, div-add-mod', div-le-of-le-mul, div-lt-iff-lt-mul, le-div-iff-mul-le, lt-of-mul-lt-mul-right, min-eq-left, min-eq-right}
@@ -76,7 +77,8 @@ step-up q h =
     before : (a b : ℕ) → suc a < b → a < b
     before a b h = omega arith
 
--- ---- in the range: c is the cut, and b is c as a float. Where x is below b the floor is one less than c, where x is above b the ceiling is one more, and otherwise they are c
+-- ---- in the range: c is the cut, and b is c as a float. Where x is below b the floor is one less than c, where x is
+-- above b the ceiling is one more, and otherwise they are c
 pub record Cut (x : Float) (c : ℤ) (b : Float) : Type 0 where
   pub below : lt x b ≡ true → SFits w64 (c -ℤ pos 1) × (c -ℤ pos 1 ≡ floorZ x)
   pub floor-is : lt x b ≡ false → c ≡ floorZ x

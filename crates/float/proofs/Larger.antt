@@ -1,4 +1,5 @@
--- `larger` by the tests of `max`, and its laws: it is below e where both are, a NaN left out, and a NaN only where both are.
+-- `larger` by the tests of `max`, and its laws: it is below e where both are, a NaN left out, and
+-- a NaN only where both are.
 use mathlib.Core.Path.{_≡_, refl, sym, _∙_}
 use mathlib.Core.Bool.{Bool, true, false, _&&_, _||_, and-true, or-false, cond, true≢false}
 use lib.Ieee.{Float, nan, inf, fin, lt, ne, isNan}

@@ -1,5 +1,6 @@
--- Laws of `lt`, `le` and `eq`: less is irreflexive and asymmetric, "not less" is transitive, at most is that the other is not less, and only a NaN differs from
--- itself. They are those of the numbers: a finite value is a fraction with a sign.
+-- Laws of `lt`, `le` and `eq`: less is irreflexive and asymmetric, "not less" is transitive, at most is
+-- that the other is not less, and only a NaN differs from itself. They are those of the numbers: a finite
+-- value is a fraction with a sign.
 use mathlib.Core.Path.{_≡_, refl, sym, ap, _∙_}
 use mathlib.Core.Logic.{_⊎_, inl, inr}
 use Prim.Native.Nat.{ℕ, zero, suc, _+_, _*_, _≤_, _<_}

@@ -1,5 +1,5 @@
--- `totalOrder` is a total order of the values that are no NaN: turned round the answer is the other one, less is transitive, and what is Equal is equal as
--- data, since the bits of a value depend on its sign and size alone.
+-- `totalOrder` is a total order of the values that are no NaN: turned round the answer is the other one, less is
+-- transitive, and what is Equal is equal as data, since the bits of a value depend on its sign and size alone.
 use mathlib.Core.Path.{_≡_, refl, sym, ap, _∙_}
 use mathlib.Core.Logic.{_⊎_, inl, inr}
 use Prim.Native.Nat.{ℕ, _+_, _-_, _*_, _/_, _^_}
@@ -120,7 +120,8 @@ less-transitive x y z l m n h k = go (less-says x y h) (less-says y z k)
     go (inr p) (inl q) = order-less x z (lt-level x y z l m (p .0) .0 ∙ q)
     go (inr p) (inr q) = absurd (true≢false (sym (q .1) ∙ p .2))
 
--- a stable sort by "less" needs it so: what does not come before y, which does not come before x, does not come before x
+-- a stable sort by "less" needs it so: what does not come before y, which does not come before
+-- x, does not come before x
 pub not-less-transitive : (x y z : Float) → isNan x ≡ false → isNan y ≡ false → isNan z ≡ false → (totalOrder y x ≡ Less → ⊥) → (totalOrder z y ≡ Less → ⊥) → totalOrder z x ≡ Less → ⊥
 not-less-transitive x y z l m n h k p = go (totalOrder x y) refl
   where

@@ -1,5 +1,5 @@
--- `rounded` and `ceiled` from the whole part of the magnitude: twice a magnitude below 2^52 is exact, its whole part is a float exactly, and from 2^52 on a value is whole.
---
+-- `rounded` and `ceiled` from the whole part of the magnitude: twice a magnitude below 2^52 is exact, its whole part is
+-- a float exactly, and from 2^52 on a value is whole.
 use mathlib.Core.Path.{_≡_, refl, sym, ap, _∙_}
 use Prim.Native.Nat.{ℕ, zero, suc, _+_, _-_, _*_, _/_, _^_, _≤_, _<_}
 use native.Mathlib.Nat.{lt-of-lt-of-le, lt-of-not-le, le-of-suc-le-suc, le-of-eq, lt-irrefl, mul-one, one-mul, zero-lt-suc, mul-pos, mul-le-mul-right, mul-lt-mul-of-pos-right, lt-of-mul-lt-mul-right, min-eq-left, div-lt-iff-lt-mul, div-one, add-div-right, pow-suc, div-div-eq-div-mul}
@@ -63,7 +63,8 @@ module _ (m : ℕ) (e : ℤ) (f : T (fits binary64 (fin false m e))) (small : m 
       let D : 0 < down e * 1 = mul-pos (down-pos e) (zero-lt-suc 0) in
       rw (twice-is m e) (round-exact binary64 false (m * up e * 2) (down e * 1) m (s .0 + 1) D (fits-says false m e f .0) (few-units (s .0) (s .1)) (in-units (s .0) (s .1)))
 
--- ---- the whole part of a value that is a / c and below 2 ^ 64: what `std::num::truncating_f64_to_u64` asks of y, and what it gives
+-- ---- the whole part of a value that is a / c and below 2 ^ 64: what `std::num::truncating_f64_to_u64`
+-- asks of y, and what it gives
 abbrev Part : Float → ℕ → Type 0
 Part y q = Asked y × (toUnsigned 64 y ≡ q)
 

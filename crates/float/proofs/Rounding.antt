@@ -1,4 +1,5 @@
--- What `round` of lib.Ieee gives has the sign it was handed and, with another sign, the same size: the sign is only passed on.
+-- What `round` of lib.Ieee gives has the sign it was handed and, with another sign, the same size:
+-- the sign is only passed on.
 use mathlib.Core.Path.{_≡_, refl}
 use Prim.Native.Nat.{ℕ, zero, suc, _+_, _*_, _^_}
 use mathlib.Core.Bool.{Bool, true, false, cond}

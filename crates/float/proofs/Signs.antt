@@ -1,5 +1,5 @@
--- What the tests of `is_negative`, `abs` and `is_finite` say: below 0 the sign is negative, above it is not, and 1 divided by a zero is the infinity of its sign.
---
+-- What the tests of `is_negative`, `abs` and `is_finite` say: below 0 the sign is negative, above it is not, and 1
+-- divided by a zero is the infinity of its sign.
 use mathlib.Core.Path.{_≡_, refl, sym, _∙_}
 use Prim.Native.Nat.{ℕ, zero, suc, _*_}
 use native.Mathlib.Nat.{mul-pos, zero-mul, zero-lt-suc}

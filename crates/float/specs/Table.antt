@@ -12,7 +12,8 @@ use Rattle.float.specs.declared.order.Ordering.the-variants.{Less, Great
 
 -- `unfolding computed` opens every definition of this crate and of lib.Ieee that a closed result needs
 unfoldable pub computed : Bool
-unfolding rounded ceiled floorZ ceilZ clamped absolute totalOrder negative larger eps tau sqrt2 natFloat ofBits ofInt toUnsigned neg lt le eq add sub round
+unfolding rounded ceiled floorZ ceilZ clamped absolute totalOrder negative larger eps tau sqrt2 natFloat
+    ofBits ofInt toUnsigned neg lt le eq add sub round
 computed = true
 
 -- the floor of −0.25 is −1 (Rules 6.3), and its ceiling is 0
@@ -34,7 +35,8 @@ unfolding computed
 zeros-back = refl
 
 -- 12.3: between 0 and 1, −0 stays as it is
-keeps : clamped (ofBits binary64 0x8000000000000000) (ofBits binary64 0) (ofBits binary64 0x3FF0000000000000) ≡ ofBits binary64 0x8000000000000000
+keeps : clamped (ofBits binary64 0x8000000000000000) (ofBits binary64 0) (ofBits binary64 0x3FF0000000000000)
+    ≡ ofBits binary64 0x8000000000000000
 unfolding computed
 keeps = refl
 

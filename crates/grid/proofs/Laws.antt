@@ -1,4 +1,5 @@
--- What a grid that passes its tests is known by, and where its points stand: callers use these and open no definition of specs/Grid.antt.
+-- What a grid that passes its tests is known by, and where its points stand: callers use these and open no
+-- definition of specs/Grid.antt.
 use Prim.Native.Nat.{ℕ, zero, suc, _+_, _*_, _/_, _%_, _≤_, _<_}
 use native.Mathlib.Nat.{mul-le-mul}
 use native.Mathlib.Omega.{arith}

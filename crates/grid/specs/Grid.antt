@@ -1,5 +1,5 @@
--- Rules 1.1 and 1.2, and of 11.1 what refuses a grid: point numbers, points, and the tests of steps, length and coordinates.
--- m and n are the steps in u and in v.
+-- Rules 1.1 and 1.2, and of 11.1 what refuses a grid: point numbers, points, and the tests of steps, length and
+-- coordinates. m and n are the steps in u and in v.
 use Prim.Native.Nat.{ℕ, _+_, _*_}
 use mathlib.Core.Path.{_≡_}
 use mathlib.Core.Bool.{Bool, true, _&&_}
@@ -40,7 +40,8 @@ unfoldable pub coordinatesFit : List Float → Bool
 coordinatesFit [] = true
 coordinatesFit (x ∷ xs) = atMost x maxCoordinate && coordinatesFit xs
 
--- refusals 1, 2 and 4 of a grid, in the order of Rules 11.2; `between` is what the call itself refuses after 2 and before 4
+-- refusals 1, 2 and 4 of a grid, in the order of Rules 11.2; `between` is what the call itself
+-- refuses after 2 and before 4
 unfoldable pub gridCheck : List Float → ℕ → ℕ → Check → Check
 gridCheck g m n between =
     unless (stepsFit m n) Steps

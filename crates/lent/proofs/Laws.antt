@@ -1,4 +1,5 @@
--- `zeroedFrom` as a loop makes it, place by place, and what it says of a list whose front is known. Over any element. And an answer in another form, beside the lists of its call.
+-- `zeroedFrom` as a loop makes it, place by place, and what it says of a list whose front is known. Over any element.
+-- And an answer in another form, beside the lists of its call.
 use mathlib.Core.Path.{_≡_, sym, _∙_}
 use mathlib.Core.List.{List, append-nil, append-assoc}
 use Prim.Native.Nat.{ℕ, suc, _+_, _-_, _≤_, _<_}
@@ -26,7 +27,8 @@ module _ {A : Type 0} (z : A) where
       let none : length l - i ≡ 0 = omega arith in
       rw (k .same, none, take-all i l) (sym (append-nil l))
 
-  -- a list that is as long as the lent one and whose first places are the contents is, zeroed after them, the lent list filled with them
+  -- a list that is as long as the lent one and whose first places are the contents is, zeroed after them, the
+  -- lent list filled with them
   pub zeroed-filled : (contents l lent : List A) → length l ≡ length lent → take (length contents) l ≡ contents → zeroedFrom z (length contents) l ≡ filled z contents lent
   zeroed-filled contents l lent h p = rw (p, h)
 

@@ -1,5 +1,5 @@
--- The lines of a grid are runs, since grid points that follow each other along u have numbers N+1 apart and along v one apart; so what
--- the loops store is what `gridPaths` says.
+-- The lines of a grid are runs, since grid points that follow each other along u have numbers N+1 apart and along v one
+-- apart; so what the loops store is what `gridPaths` says.
 use Prim.Native.Nat.{ℕ, zero, suc, _+_, _*_, _≤_}
 use native.Mathlib.Nat.{suc-mul}
 use native.Mathlib.Omega.{arith}

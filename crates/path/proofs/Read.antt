@@ -1,5 +1,6 @@
--- Lines that stand one after the other in a list of points, read back by `lineAt`: the start of line k is the count of points before it, its
--- end the count with it, so the part between them is the line. First for any lines, then for those of a grid.
+-- Lines that stand one after the other in a list of points, read back by `lineAt`: the start of line k is the
+-- count of points before it, its end the count with it, so the part between them is the line. First for any
+-- lines, then for those of a grid.
 use Prim.Native.Nat.{ℕ, zero, suc, _+_, _-_, _*_, _≤_, _<_}
 use native.Mathlib.Omega.{arith}
 use mathlib.Core.Path.{_≡_, refl, ap, _∙_}
@@ -148,7 +149,8 @@ line-v g m n u h =
 abbrev pub lineOf : List Float → ℕ → ℕ → PathLists → ℕ → List Float
 lineOf g m n lent k = let l = gridPaths g m n lent .lists in lineAt (l .points) (l .starts) (pointCount m n) (lineCount m n) k
 
--- what the two calls are to each other: each line of `grid_paths`, read back by `get`, is the row or column that it stands for
+-- what the two calls are to each other: each line of `grid_paths`, read back by `get`, is the row or
+-- column that it stands for
 pub record ReadBack (g : List Float) (m n : ℕ) (lent : PathLists) : Type 0 where
   pub along-u : (v : ℕ) → v ≤ n → lineOf g m n lent v ≡ coordinates (alongU g m n v)
   pub along-v : (u : ℕ) → u ≤ m → lineOf g m n lent (n + 1 + u) ≡ coordinates (alongV g m n u)

@@ -1,4 +1,5 @@
--- What one turn of each loop stores, as the first of the stores that are left: a loop that starts with all of them ends with none.
+-- What one turn of each loop stores, as the first of the stores that are left: a loop that starts with
+-- all of them ends with none.
 use Prim.Native.Nat.{ℕ, zero, suc, _+_, _-_, _*_, _≤_, _<_}
 use native.Mathlib.Nat.{add-zero, suc-mul, add-mul}
 use native.Mathlib.Omega.{arith}

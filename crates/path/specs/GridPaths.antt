@@ -72,7 +72,8 @@ pathLists points starts = record { points = points; starts = starts }
 -- the lines, drawn into these lists
 abbrev pub drawnInto : PathLists → List Float → ℕ → ℕ → PathLists
 drawnInto lent g m n =
-    pathLists (filled zero64 (coordinates (flatten (gridLines g m n))) (lent .points)) (filled 0 (startsFrom 0 (gridLines g m n)) (lent .starts))
+    pathLists (filled zero64 (coordinates (flatten (gridLines g m n))) (lent .points))
+    (filled 0 (startsFrom 0 (gridLines g m n)) (lent .starts))
 
 -- the open call `grid_paths`: the counts, and the lines in the lists; or a refusal, and the lists as they were
 unfoldable pub gridPaths : List Float → ℕ → ℕ → PathLists → Afterwards (Answer Counts) PathLists

@@ -23,7 +23,8 @@ unfoldable pub isThere : List Float → List ℕ → ℕ → ℕ → ℕ → Boo
 isThere points starts pointCount lineCount index =
     ltb index lineCount
     && ((leb (3 * pointCount) (length points) && leb lineCount (length starts))
-    && (leb (lineStart starts index) (lineEnd starts pointCount lineCount index) && leb (lineEnd starts pointCount lineCount index) pointCount))
+    && (leb (lineStart starts index) (lineEnd starts pointCount lineCount index)
+    && leb (lineEnd starts pointCount lineCount index) pointCount))
 
 -- the point numbers at which a line starts and ends
 pub record Ends : Type 0 where

@@ -1,5 +1,5 @@
-// Rules 9.1: what `grid_paths` writes. A grid line is a run: points whose numbers are `step` apart. The lines of one kind
-// are runs of `count` points each whose first numbers are `apart` apart, so that u and v share the loops.
+// Rules 9.1: what `grid_paths` writes. A grid line is a run: points whose numbers are `step` apart. The lines of one
+// kind are runs of `count` points each whose first numbers are `apart` apart, so that u and v share the loops.
 use vector::Vector;
 ghost use mathlib.Core.Path.{_≡_};
 ghost use mathlib.Core.List.{[], _∷_, _++_, flatten};

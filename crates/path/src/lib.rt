@@ -1,4 +1,5 @@
-// Rules 9: the lines of a grid, drawn into lists that the caller lends, and one line of such lists as a part of the points.
+// Rules 9: the lines of a grid, drawn into lists that the caller lends, and one line of such
+// lists as a part of the points.
 mod draw;
 
 use refusal::Check;

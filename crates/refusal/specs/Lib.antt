@@ -1,2 +1,3 @@
--- Every open call that can refuse cites Refusals. `unless`, `andThen` and `passing` are how definitions put tests in order.
+-- Every open call that can refuse cites Refusals. `unless`, `andThen` and `passing` are how
+-- definitions put tests in order.
 pub mod Refusals

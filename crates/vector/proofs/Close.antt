@@ -1,5 +1,5 @@
--- `allClose` as `all_close` tests it, and its laws, at any tolerance. The largest of three is below it where each is, but `larger` leaves a NaN out: so a NaN
--- difference is passed over, and only three of them are never close.
+-- `allClose` as `all_close` tests it, and its laws, at any tolerance. The largest of three is below it where each is,
+-- but `larger` leaves a NaN out: so a NaN difference is passed over, and only three of them are never close.
 use mathlib.Core.Path.{_≡_, refl, sym, _∙_}
 use mathlib.Core.Bool.{Bool, true, false, not, _&&_, _||_, or-true, or-false, and-true, and-false, true≢false}
 use lib.Ieee.{Float, nan, inf, fin, binary64, lt, le, eq, neg, sub, ofBits, isNan}

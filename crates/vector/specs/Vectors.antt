@@ -1,4 +1,5 @@
--- Rules 2.2 and 2.1: sum, difference and multiple of a Vector, each component rounded once, and when two points are close.
+-- Rules 2.2 and 2.1: sum, difference and multiple of a Vector, each component rounded once, and
+-- when two points are close.
 use mathlib.Core.Bool.{Bool}
 use lib.Ieee.{Float, binary64, lt, add, sub, mul}
 use Rattle.float.specs.Sign.{absolute}

@@ -1,4 +1,5 @@
--- `grid::check_grid` meets its contract: the tests are those of `gridCheck` in its order, and with M and N at most 255 the length fits.
+-- `grid::check_grid` meets its contract: the tests are those of `gridCheck` in its order, and with M and N at
+-- most 255 the length fits.
 use native.Mathlib.Omega.{arith}
 use mathlib.Core.Path.{_≡_}
 use mathlib.Core.Bool.{true}

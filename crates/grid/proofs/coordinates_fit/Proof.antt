@@ -1,4 +1,5 @@
--- `grid::coordinates_fit` meets its contract: what was found so far, and what is left to test from i on, answer for the whole list.
+-- `grid::coordinates_fit` meets its contract: what was found so far, and what is left to test from i on,
+-- answer for the whole list.
 use Prim.Native.Nat.{_≤_, _-_}
 use mathlib.Core.Path.{_≡_, sym}
 use mathlib.Core.Bool.{_&&_, and-assoc, and-true}

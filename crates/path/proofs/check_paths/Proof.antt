@@ -1,4 +1,5 @@
--- `path::check_paths` meets its contract: 1 is refused at once, and past it M and N are at most 255, so that the room is a number that fits.
+-- `path::check_paths` meets its contract: 1 is refused at once, and past it M and N are at most 255, so that the
+-- room is a number that fits.
 use native.Mathlib.Omega.{arith}
 use borrow.Author.Needs.{needs}
 use Rattle.basics.proofs.Tests.{held, failed}

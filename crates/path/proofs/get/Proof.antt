@@ -1,4 +1,5 @@
--- `path::get` meets its contract: the part is cut where `lineSpan` says, and a line that is there lies within the points.
+-- `path::get` meets its contract: the part is cut where `lineSpan` says, and a line that is
+-- there lies within the points.
 use Prim.Native.Nat.{_*_, _≤_}
 use native.Mathlib.Omega.{arith}
 use lib.ListN.{length}

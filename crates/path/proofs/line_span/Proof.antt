@@ -1,4 +1,5 @@
--- `path::line_span` meets its contract: each refusal breaks one of the five facts of a line that is there, and past all tests they hold.
+-- `path::line_span` meets its contract: each refusal breaks one of the five facts of a line that is there, and
+-- past all tests they hold.
 use mathlib.Core.Path.{sym}
 use native.Mathlib.Omega.{arith}
 use Rattle.path.proofs.There.{span-there, span-not}

@@ -1,6 +1,7 @@
--- `cyclic::seam::search_rows` meets its contract. The outer loop's invariant: the whole search is the search of the offsets that are left, after the
--- comparisons so far. The inner loops': all points tried at an offset are the points that are left, after one comparison for each before, and k is the image of j.
--- At most 131,072 comparisons are made at an offset, so that their sum fits.
+-- `cyclic::seam::search_rows` meets its contract. The outer loop's invariant: the whole search is the search of the
+-- offsets that are left, after the comparisons so far. The inner loops': all points tried at an offset are the points
+-- that are left, after one comparison for each before, and k is the image of j. At most 131,072 comparisons are made at
+-- an offset, so that their sum fits.
 use Prim.Native.Nat.{_+_, _-_, _*_, _<_}
 use native.Mathlib.Omega.{arith}
 use mathlib.Core.Path.{sym, _∙_}

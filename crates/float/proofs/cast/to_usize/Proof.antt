@@ -1,4 +1,5 @@
--- `float::cast::to_usize` meets its contract: below 1 it is 0, from 2^64 on the largest usize, and between std truncates (proofs/Casts.antt).
+-- `float::cast::to_usize` meets its contract: below 1 it is 0, from 2^64 on the largest usize, and between std
+-- truncates (proofs/Casts.antt).
 use lib.Ieee.{ofBits}
 use Rattle.std.proofs.num.Truncating.{below-one, under-one}
 use Rattle.float.proofs.Casts.{asked, above-minus, from-p64}

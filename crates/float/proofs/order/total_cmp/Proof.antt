@@ -1,5 +1,5 @@
--- `float::order::total_cmp` meets its contract: each branch rewrites `totalOrder` by the tests that led there, the last two of which decide by the signs
--- (proofs/Orders.antt).
+-- `float::order::total_cmp` meets its contract: each branch rewrites `totalOrder` by the tests that led there, the last
+-- two of which decide by the signs (proofs/Orders.antt).
 use borrow.Author.Needs.{needs}
 use Rattle.float.specs.Order.{totalOrder}
 use Rattle.float.proofs.Orders.{sign-is}

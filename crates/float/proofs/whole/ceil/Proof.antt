@@ -1,5 +1,5 @@
--- `float::whole::ceil` meets its contract: below 2^52 it is the whole part, one more where a positive value is above it; from 2^52 on the value is whole
--- (proofs/Round.antt).
+-- `float::whole::ceil` meets its contract: below 2^52 it is the whole part, one more where a positive value is above
+-- it; from 2^52 on the value is whole (proofs/Round.antt).
 use mathlib.Core.Path.{_≡_, sym, _∙_}
 use mathlib.Core.Bool.{false}
 use native.Mathlib.Omega.{arith}

@@ -1,5 +1,5 @@
--- `float::whole::ceil_i64` meets its contract: in the range it is the cut toward zero or one above it, and out of it the end of the range (proofs/Cut.antt).
---
+-- `float::whole::ceil_i64` meets its contract: in the range it is the cut toward zero or one above it, and out of it
+-- the end of the range (proofs/Cut.antt).
 use lib.Ieee.{ofBits, neg}
 use borrow.Author.Needs.{needs}
 use Rattle.float.proofs.Cut.{Cut, kept, kept-is, cut-of, high-end, low-end, nan-end}

@@ -1,5 +1,5 @@
--- `float::whole::round` meets its contract: below 2^52 twice the magnitude is exact, and half of its whole part plus one is the nearest whole number, a tie up;
--- from 2^52 on the value is whole (proofs/Round.antt).
+-- `float::whole::round` meets its contract: below 2^52 twice the magnitude is exact, and half of its whole part plus
+-- one is the nearest whole number, a tie up; from 2^52 on the value is whole (proofs/Round.antt).
 use mathlib.Core.Path.{sym, _∙_}
 use native.Mathlib.Omega.{arith}
 use borrow.Author.Needs.{needs}

@@ -1,4 +1,5 @@
--- `path::draw::draw_four` meets its contract: the stores that are left in each of the four runs make what all of them make.
+-- `path::draw::draw_four` meets its contract: the stores that are left in each of the four runs
+-- make what all of them make.
 use Prim.Native.Nat.{_+_, _*_, _≤_}
 use mathlib.Core.Path.{_≡_, refl, sym, _∙_}
 use native.Mathlib.Omega.{arith}

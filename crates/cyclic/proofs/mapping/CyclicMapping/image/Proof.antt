@@ -1,4 +1,5 @@
--- `cyclic::mapping::CyclicMapping::image` meets its contract: the cases are those of `image`, at the variant that the match found.
+-- `cyclic::mapping::CyclicMapping::image` meets its contract: the cases are those of `image`, at the
+-- variant that the match found.
 use native.Mathlib.Omega.{arith}
 use mathlib.Core.Path.{sym}
 use borrow.Author.Needs.{needs}

@@ -1,4 +1,5 @@
--- `cyclic::mapping::CyclicMapping::inverse` meets its contract: the cases are those of `inverse`, at the variant that the match found.
+-- `cyclic::mapping::CyclicMapping::inverse` meets its contract: the cases are those of `inverse`, at the
+-- variant that the match found.
 use native.Mathlib.Omega.{arith}
 use native.Mathlib.Nat.{mod-lt}
 use mathlib.Core.Path.{sym}

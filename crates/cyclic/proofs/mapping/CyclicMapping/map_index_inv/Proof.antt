@@ -1,4 +1,5 @@
--- `cyclic::mapping::CyclicMapping::map_index_inv` meets its contract: `mapIndexInv` is `inverse` where the test holds, and refusal 8 where it does not.
+-- `cyclic::mapping::CyclicMapping::map_index_inv` meets its contract: `mapIndexInv` is `inverse` where the test holds,
+-- and refusal 8 where it does not.
 use mathlib.Core.Path.{sym, ap, _∙_}
 use borrow.Author.Needs.{needs}
 use Rattle.refusal.specs.Refusals.{ok}
