@@ -54,7 +54,8 @@ along [] = []
 along (x ∷ xs) = x ∷ zero64 ∷ zero64 ∷ along xs
 
 -- b is a from its end to its start
-pub turned : newVector (along (zero64 ∷ one64 ∷ two64 ∷ three64 ∷ [])) (along (three64 ∷ two64 ∷ one64 ∷ zero64 ∷ [])) eps
+pub turned : newVector (along (zero64 ∷ one64 ∷ two64 ∷ three64 ∷ []))
+    (along (three64 ∷ two64 ∷ one64 ∷ zero64 ∷ [])) eps
     ≡ ok (searched (Joined (Reverse 0 3)) 6)
 unfolding computed
 turned = refl

@@ -86,7 +86,8 @@ fn rows_closed(
     steps: usize,
 ) -> Tried
     requires { ⌜ Rows (now a) «a_start» (now b) «b_start» stride steps ⌝ }
-    ensures { λ r. ⌜ r ≡ closed (closeAt eps) (rowOf (now (a .entry)) «a_start» stride) (rowOf (now (b .entry)) «b_start» stride) steps ⌝ }
+    ensures { λ r. ⌜ r ≡ closed (closeAt eps) (rowOf (now (a .entry)) «a_start» stride)
+        (rowOf (now (b .entry)) «b_start» stride) steps ⌝ }
 {
     if points_close(a, a_start, a, a_start + steps * stride) {
         return Tried {
@@ -103,7 +104,8 @@ fn rows_closed(
 // The index of b that follows k, going forward.
 fn ahead(k: usize, offset: usize, steps: usize) -> usize
     requires { ⌜ HasIndex (CyclicMapping.Forward offset steps) k ⌝ }
-    ensures { λ r. ⌜ ((j : ℕ) → j < steps → k ≡ image (CyclicMapping.Forward offset steps) j → r ≡ image (CyclicMapping.Forward offset steps) (j + 1)) ⌝ }
+    ensures { λ r. ⌜ ((j : ℕ) → j < steps → k ≡ image (CyclicMapping.Forward offset steps) j →
+        r ≡ image (CyclicMapping.Forward offset steps) (j + 1)) ⌝ }
 {
     if offset != 0 && k + 1 == steps {
         return 0;
@@ -114,7 +116,8 @@ fn ahead(k: usize, offset: usize, steps: usize) -> usize
 // The index of b that follows k, going in reverse.
 fn back(k: usize, offset: usize, steps: usize) -> usize
     requires { ⌜ HasIndex (CyclicMapping.Reverse offset steps) k ⌝ }
-    ensures { λ r. ⌜ ((j : ℕ) → j < steps → k ≡ image (CyclicMapping.Reverse offset steps) j → r ≡ image (CyclicMapping.Reverse offset steps) (j + 1)) ⌝ }
+    ensures { λ r. ⌜ ((j : ℕ) → j < steps → k ≡ image (CyclicMapping.Reverse offset steps) j →
+        r ≡ image (CyclicMapping.Reverse offset steps) (j + 1)) ⌝ }
 {
     if k == 0 {
         return steps - 1;
@@ -142,7 +145,10 @@ fn close_run(
     reverse: bool,
 ) -> usize
     requires { ⌜ Rows (now a) «a_start» (now b) «b_start» stride steps ⌝ }
-    ensures { λ r. ⌜ (r ≤ steps) × ((j : ℕ) → j < r → allClose (rowOf (now (a .entry)) «a_start» stride j) (rowOf (now (b .entry)) «b_start» stride (cond reverse («steps» - j) j)) eps ≡ true) ⌝ }
+    ensures { λ r. ⌜ (r ≤ steps) ×
+        ((j : ℕ) → j < r →
+        allClose (rowOf (now (a .entry)) «a_start» stride j)
+        (rowOf (now (b .entry)) «b_start» stride (cond reverse («steps» - j) j)) eps ≡ true) ⌝ }
 {
     let mut run: usize = 0;
     if stride != 1 {
@@ -171,7 +177,8 @@ pub fn search_rows(
     steps: usize,
 ) -> SeamSearch
     requires { ⌜ Rows (now a) «a_start» (now b) «b_start» stride steps ⌝ }
-    ensures { λ r. ⌜ r ≡ searchRows (closeAt eps) (rowOf (now (a .entry)) «a_start» stride) (rowOf (now (b .entry)) «b_start» stride) steps ⌝ }
+    ensures { λ r. ⌜ r ≡ searchRows (closeAt eps) (rowOf (now (a .entry)) «a_start» stride)
+        (rowOf (now (b .entry)) «b_start» stride) steps ⌝ }
 {
     let ends = rows_closed(a, a_start, b, b_start, stride, steps);
     let end = if ends.fits { steps } else { 1 };
@@ -225,7 +232,8 @@ pub fn search_rows(
 // Rows of unlike length, or of fewer than two points, have no seam, and nothing is compared; others are searched.
 fn search(a: &[f64], b: &[f64]) -> SeamSearch
     requires { ⌜ length (now a) ≤ 196608 ⌝ }
-    ensures { λ r. ⌜ r ≡ search (closeAt eps) (pointAt (now (a .entry))) (pointAt (now (b .entry))) (length (now (a .entry)) / 3) (length (now (b .entry)) / 3) ⌝ }
+    ensures { λ r. ⌜ r ≡ search (closeAt eps) (pointAt (now (a .entry))) (pointAt (now (b .entry)))
+        (length (now (a .entry)) / 3) (length (now (b .entry)) / 3) ⌝ }
 {
     let n = a.len() / 3;
     if n < 2 || n != b.len() / 3 {

@@ -60,8 +60,12 @@ above-either true false a b = sym (or-false (ltb b a))
 above-either false true a b = ap (ltb 0) (add-comm b a) ∙ less-or a b ∙ simp (add-comm a b)
 above-either false false a b = refl
 
-both-one : (s t : Bool) (a b : ℕ) → (below (not t) b s a || level (not t) b s a) && (below s a t b || level s a t b) ≡ below false a t b || level false a t b
-both-one s t a b = rw (le-signed (not t) b s a, le-signed s a t b, le-signed false a t b) (neither (below s a (not t) b) (below t b s a) ∙ ap not (sym (above-either s t a b)))
+both-one : (s t : Bool) (a b : ℕ) →
+    (below (not t) b s a || level (not t) b s a) && (below s a t b || level s a t b) ≡ below false a t b
+    || level false a t b
+both-one s t a b =
+    rw (le-signed (not t) b s a, le-signed s a t b, le-signed false a t b)
+    (neither (below s a (not t) b) (below t b s a) ∙ ap not (sym (above-either s t a b)))
   where
     neither : (p q : Bool) → not p && not q ≡ not (p || q)
     neither true q = refl

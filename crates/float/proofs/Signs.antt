@@ -40,7 +40,8 @@ zero-sign nan h = refl
 zero-sign (inf s) h = absurd (true≢false (sym h))
 zero-sign (fin true zero e) h = refl
 zero-sign (fin false zero e) h = refl
-zero-sign (fin s (suc m) e) h = absurd (not-zero m e (level-zero (suc m * up e * 1) (0 * down e) _ (zero-mul (down e)) h))
+zero-sign (fin s (suc m) e) h =
+    absurd (not-zero m e (level-zero (suc m * up e * 1) (0 * down e) _ (zero-mul (down e)) h))
 
 pub not-below : (x : Float) → lt x zero64 ≡ false → eq x zero64 ≡ false → negative x ≡ false
 unfolding lt eq le negative ofBits isNan

@@ -23,8 +23,10 @@ fn put(points: &mut [f64], at: usize, p: Vector)
 
 // One run, into `points` from place `at` on.
 fn draw_run(grid: &[f64], first: usize, step: usize, count: usize, points: &mut [f64], at: usize)
-    requires { ⌜ (3 * (first + count * step) + 3 ≤ length (now grid) + 3 * step) × (step ≤ 256) × (at + 3 * count ≤ length (now points)) ⌝ }
-    ensures { λ _. ⌜ now (points .exit) ≡ sets (now (points .entry)) at (coordinates (run (now (grid .entry)) first step count)) ⌝ }
+    requires { ⌜ (3 * (first + count * step) + 3 ≤ length (now grid) + 3 * step) × (step ≤ 256)
+        × (at + 3 * count ≤ length (now points)) ⌝ }
+    ensures { λ _. ⌜ now (points .exit) ≡ sets (now (points .entry)) at
+        (coordinates (run (now (grid .entry)) first step count)) ⌝ }
 {
     let mut number = first;
     let mut place = at;
@@ -47,9 +49,11 @@ fn draw_four(
     points: &mut [f64],
     at: usize,
 )
-    requires { ⌜ (3 * (first + 3 * apart + count * step) + 3 ≤ length (now grid) + 3 * step) × (step ≤ 256) × (apart ≤ 256)
+    requires { ⌜ (3 * (first + 3 * apart + count * step) + 3 ≤ length (now grid) + 3 * step)
+        × (step ≤ 256) × (apart ≤ 256)
         × (at + 4 * (3 * count) ≤ length (now points)) ⌝ }
-    ensures { λ _. ⌜ now (points .exit) ≡ sets (now (points .entry)) at (coordinates (flatten (runs (now (grid .entry)) first apart step count 4))) ⌝ }
+    ensures { λ _. ⌜ now (points .exit) ≡ sets (now (points .entry)) at
+        (coordinates (flatten (runs (now (grid .entry)) first apart step count 4))) ⌝ }
 {
     let width = 3 * count;
     let mut number = first;
@@ -82,9 +86,11 @@ fn draw_runs(
     points: &mut [f64],
     at: usize,
 )
-    requires { ⌜ (3 * (lines * apart + count * step) + 3 ≤ length (now grid) + 3 * step + 3 * apart) × (step ≤ 256) × (apart ≤ 256)
+    requires { ⌜ (3 * (lines * apart + count * step) + 3 ≤ length (now grid) + 3 * step + 3 * apart)
+        × (step ≤ 256) × (apart ≤ 256)
         × (count ≤ 256) × (at + lines * (3 * count) ≤ length (now points)) ⌝ }
-    ensures { λ _. ⌜ now (points .exit) ≡ sets (now (points .entry)) at (coordinates (flatten (runs (now (grid .entry)) 0 apart step count lines))) ⌝ }
+    ensures { λ _. ⌜ now (points .exit) ≡ sets (now (points .entry)) at
+        (coordinates (flatten (runs (now (grid .entry)) 0 apart step count lines))) ⌝ }
 {
     let width = 3 * count;
     let mut first: usize = 0;
@@ -122,8 +128,10 @@ fn put_spaced(starts: &mut [usize], at: usize, first: usize, step: usize, lines:
 
 // The points of all lines, and zero past them.
 pub fn points(grid: &[f64], m: usize, n: usize, points: &mut [f64])
-    requires { ⌜ (m ≤ 255) × (n ≤ 255) × (length (now grid) ≡ 3 * ((m + 1) * (n + 1))) × (6 * ((m + 1) * (n + 1)) ≤ length (now points)) ⌝ }
-    ensures { λ _. ⌜ now (points .exit) ≡ filled zero64 (coordinates (flatten (gridLines (now (grid .entry)) m n))) (now (points .entry)) ⌝ }
+    requires { ⌜ (m ≤ 255) × (n ≤ 255) × (length (now grid) ≡ 3 * ((m + 1) * (n + 1))) ×
+        (6 * ((m + 1) * (n + 1)) ≤ length (now points)) ⌝ }
+    ensures { λ _. ⌜ now (points .exit) ≡ filled zero64 (coordinates (flatten (gridLines (now (grid .entry)) m n)))
+        (now (points .entry)) ⌝ }
 {
     let us = m + 1;
     let vs = n + 1;
@@ -136,7 +144,8 @@ pub fn points(grid: &[f64], m: usize, n: usize, points: &mut [f64])
 // The starts of all lines, and zero past them.
 pub fn starts(m: usize, n: usize, starts: &mut [usize])
     requires { ⌜ (m ≤ 255) × (n ≤ 255) × (m + n + 2 ≤ length (now starts)) ⌝ }
-    ensures { λ _. ⌜ now (starts .exit) ≡ filled 0 (spaced 0 (m + 1) (n + 1) ++ spaced ((m + 1) * (n + 1)) (n + 1) (m + 1)) (now (starts .entry)) ⌝ }
+    ensures { λ _. ⌜ now (starts .exit) ≡ filled 0
+        (spaced 0 (m + 1) (n + 1) ++ spaced ((m + 1) * (n + 1)) (n + 1) (m + 1)) (now (starts .entry)) ⌝ }
 {
     let us = m + 1;
     let vs = n + 1;

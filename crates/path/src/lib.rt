@@ -71,7 +71,8 @@ pub fn line_span(
     line_count: usize,
     index: usize,
 ) -> LineAnswer
-    ensures { λ r. ⌜ statedLine r ≡ lineSpan (now (points .entry)) (now (starts .entry)) «point_count» «line_count» index ⌝ }
+    ensures { λ r. ⌜ statedLine r ≡ lineSpan (now (points .entry)) (now (starts .entry))
+        «point_count» «line_count» index ⌝ }
 {
     if line_count <= index {
         return LineAnswer::Refused(Refusal::NotThere);

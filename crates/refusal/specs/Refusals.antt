@@ -3,7 +3,8 @@
 use Prim.Native.Nat.{ℕ}
 use mathlib.Core.Bool.{Bool, true, false}
 use Rattle.refusal.specs.declared.Refusal.{Refusal}
-use Rattle.refusal.specs.declared.Refusal.the-variants.{Steps, Length, Room, Coordinate, Texture, Count, Direction}
+use Rattle.refusal.specs.declared.Refusal.the-variants.{Steps, Length, Room, Coordinate, Texture, Count}
+use Rattle.refusal.specs.declared.Refusal.the-variants.{Direction}
 use Rattle.refusal.specs.declared.Refusal.the-variants.{NotThere, Mark, Sample, NoStep, Full}
 use Rattle.refusal.specs.declared.Check.{Check}
 use Rattle.refusal.specs.declared.Check.the-variants.{Passed, Failed}

@@ -12,7 +12,8 @@ use Rattle.grid.proofs.check_grid.Statement.{statement}
 use Rattle.grid.proofs.check_grid.Tie as tie
 
 -- 1 does not apply
-steps-stand : (e : tie.Else1) → stepsFit (e .before .before .before .args .m) (e .before .before .before .args .n) ≡ true
+steps-stand : (e : tie.Else1) →
+    stepsFit (e .before .before .before .args .m) (e .before .before .before .args .n) ≡ true
 steps-stand e = held (e .before .steps-fit .ensures) (e .if1 .left)
 
 stepped : (e : tie.Else1) → Stepped (e .before .before .before .args .m) (e .before .before .before .args .n)
@@ -37,14 +38,24 @@ unfolding gridCheck
 returns-4 c =
     let t = c .before .before in
     let e = t .before .before in
-    rw (steps-stand (e .before), eq-eqb _ _ (e .if2 .left), t .enum-told .given .1, failed (c .before .coordinates-fit .ensures) (c .if3 .taken))
+    rw (
+      steps-stand (e .before),
+      eq-eqb _ _ (e .if2 .left),
+      t .enum-told .given .1,
+      failed (c .before .coordinates-fit .ensures) (c .if3 .taken),
+    )
 
 returns-5 : tie.Need-returns-5
 unfolding gridCheck
 returns-5 c =
     let t = c .before .before in
     let e = t .before .before in
-    rw (steps-stand (e .before), eq-eqb _ _ (e .if2 .left), t .enum-told .given .1, held (c .before .coordinates-fit .ensures) (c .if3 .left))
+    rw (
+      steps-stand (e .before),
+      eq-eqb _ _ (e .if2 .left),
+      t .enum-told .given .1,
+      held (c .before .coordinates-fit .ensures) (c .if3 .left),
+    )
 
 pub check-grid-spec : {M : Type 1} → statement M
 check-grid-spec =

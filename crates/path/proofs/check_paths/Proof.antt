@@ -15,13 +15,15 @@ stepped e = steps-known _ _ (held (e .before .steps-fit .ensures) (e .if1 .left)
 returns : tie.Need-returns
 returns c =
     let a = c .before .before .before .before .before .args in
-    no-steps (a .grid .now) (a .m) (a .n) (a .points .now) (a .starts .now) (failed (c .before .steps-fit .ensures) (c .if1 .taken))
+    no-steps (a .grid .now) (a .m) (a .n) (a .points .now) (a .starts .now)
+    (failed (c .before .steps-fit .ensures) (c .if1 .taken))
 
 returns-2 : tie.Need-returns-2
 returns-2 c =
     let r = c .before in
     let a = r .before .before .before .before .before .before .args in
-    checked (a .grid .now) (a .m) (a .n) (a .points .now) (a .starts .now) (r .check-room .ensures) (c .check-grid .ensures)
+    checked (a .grid .now) (a .m) (a .n) (a .points .now) (a .starts .now) (r .check-room .ensures)
+    (c .check-grid .ensures)
 
 pub check-paths-spec : {M : Type 1} → statement M
 check-paths-spec =

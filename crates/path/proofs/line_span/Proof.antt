@@ -12,7 +12,13 @@ returns-6 c =
     let p = c .before .before in
     let e = p .line-end .ensures in
     rw e (sym (span-there _ _ _ _ _
-    (record { below = omega arith; points-fit = omega arith; starts-fit = omega arith; ordered = omega arith; within = omega arith })))
+    (record {
+      below = omega arith;
+      points-fit = omega arith;
+      starts-fit = omega arith;
+      ordered = omega arith;
+      within = omega arith;
+    })))
 
 pub line-span-spec : {M : Type 1} → statement M
 line-span-spec =

@@ -8,7 +8,8 @@ use Rattle.float.proofs.cast.to_usize.Tie as tie
 
 truncating-f64-to-u64-requires : tie.Need-truncating-f64-to-u64-requires
 unfolding ofBits
-truncating-f64-to-u64-requires c κs = let x = c .before .before .args .x in asked x (above-minus x (c .before .if1 .taken)) (c .if2 .taken)
+truncating-f64-to-u64-requires c κs =
+    let x = c .before .before .args .x in asked x (above-minus x (c .before .if1 .taken)) (c .if2 .taken)
 
 returns : tie.Need-returns
 returns c = c .truncating-f64-to-u64 .ensures

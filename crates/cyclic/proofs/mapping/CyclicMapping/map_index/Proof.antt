@@ -9,7 +9,9 @@ use Rattle.cyclic.proofs.mapping.CyclicMapping.map_index.Statement.{sta
 use Rattle.cyclic.proofs.mapping.CyclicMapping.map_index.Tie as tie
 
 image-requires : tie.Need-image-requires
-image-requires c κs = usable-known (c .before .before .args .self) (c .before .before .args .a-idx) (sym (c .before .usable .ensures) ∙ c .if1 .taken)
+image-requires c κs =
+    usable-known (c .before .before .args .self) (c .before .before .args .a-idx)
+    (sym (c .before .usable .ensures) ∙ c .if1 .taken)
 
 returns : tie.Need-returns
 unfolding mapIndex
