@@ -10,6 +10,7 @@ use Rattle.cyclic.specs.declared.mapping.CyclicMapping.the-variants.{For
 use Rattle.cyclic.specs.declared.mapping.MappedIndex.{MappedIndex}
 use Rattle.cyclic.specs.declared.mapping.MappedIndex.the-variants.{Index, Refused}
 
+-- a mapping's offset, and its steps
 abbrev pub offsetOf : CyclicMapping → ℕ
 offsetOf (Forward o n) = o
 offsetOf (Reverse o n) = o

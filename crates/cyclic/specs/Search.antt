@@ -23,6 +23,7 @@ use Rattle.cyclic.specs.declared.seam.SeamAnswer.{SeamAnswer}
 use Rattle.cyclic.specs.declared.seam.SeamAnswer.the-variants.{Found, NotFound, Refused}
 use Rattle.cyclic.specs.Mapping.{image}
 
+-- a row, by index
 abbrev pub Row : Type 0
 Row = ℕ → Vector
 
@@ -38,6 +39,7 @@ pub record Rows (a : List Float) (aStart : ℕ) (b : List Float) (bStart stride 
   pub a-inside : 3 * (aStart + steps * stride) + 3 ≤ length a
   pub b-inside : 3 * (bStart + steps * stride) + 3 ≤ length b
 
+-- a test of two points: the search is defined for any
 abbrev pub Closeness : Type 0
 Closeness = Vector → Vector → Bool
 
@@ -78,7 +80,7 @@ module _ (close : Closeness) (a b : Row) where
   unfoldable pub searchRows : ℕ → SeamSearch
   searchRows steps = searchFrom steps (cond (closed steps .fits) steps 1) 0 (closed steps .made)
 
--- Rules 3.1: rows of na and nb points, of which some are not searched
+-- Rules 3.1: rows of na and nb points; where these differ or are under two, there is no seam after no comparison
 unfoldable pub search : Closeness → Row → Row → ℕ → ℕ → SeamSearch
 search close a b na nb = cond (ltb na 2 || not (eqb na nb)) (searched Unjoined 0) (searchRows close a b (na - 1))
 

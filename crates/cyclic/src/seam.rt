@@ -145,8 +145,7 @@ fn close_run(
     reverse: bool,
 ) -> usize
     requires { ⌜ Rows (now a) «a_start» (now b) «b_start» stride steps ⌝ }
-    ensures { λ r. ⌜ (r ≤ steps) ×
-        ((j : ℕ) → j < r →
+    ensures { λ r. ⌜ (r ≤ steps) × ((j : ℕ) → j < r →
         allClose (rowOf (now (a .entry)) «a_start» stride j)
         (rowOf (now (b .entry)) «b_start» stride (cond reverse («steps» - j) j)) eps ≡ true) ⌝ }
 {

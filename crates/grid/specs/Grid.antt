@@ -31,7 +31,7 @@ stepsFit m n = (leb 1 m && leb m 255) && (leb 1 n && leb n 255)
 abbrev pub lengthFits : List Float → ℕ → ℕ → Bool
 lengthFits g m n = eqb (length g) (3 * ((m + 1) * (n + 1)))
 
--- the largest coordinate, 2^40
+-- 2^40, the largest magnitude of a coordinate
 abbrev pub maxCoordinate : Float
 maxCoordinate = ofBits binary64 0x4270000000000000
 

@@ -16,7 +16,7 @@ use Rattle.grid.specs.Grid.{pointNumber, pointAt, gridCheck}
 use Rattle.path.specs.declared.GridPathsAnswer.{GridPathsAnswer}
 use Rattle.path.specs.declared.GridPathsAnswer.the-variants.{Drawn, Refused}
 
--- count numbers from k on, and 0 to n
+-- numbers one after the other: a count of them from k on, and those from 0 to n
 unfoldable pub counting : ℕ → ℕ → List ℕ
 counting k zero = []
 counting k (suc c) = k ∷ counting (suc k) c

@@ -50,8 +50,7 @@ fn draw_four(
     at: usize,
 )
     requires { ⌜ (3 * (first + 3 * apart + count * step) + 3 ≤ length (now grid) + 3 * step)
-        × (step ≤ 256) × (apart ≤ 256)
-        × (at + 4 * (3 * count) ≤ length (now points)) ⌝ }
+        × (step ≤ 256) × (apart ≤ 256) × (at + 4 * (3 * count) ≤ length (now points)) ⌝ }
     ensures { λ _. ⌜ now (points .exit) ≡ sets (now (points .entry)) at
         (coordinates (flatten (runs (now (grid .entry)) first apart step count 4))) ⌝ }
 {
@@ -87,8 +86,7 @@ fn draw_runs(
     at: usize,
 )
     requires { ⌜ (3 * (lines * apart + count * step) + 3 ≤ length (now grid) + 3 * step + 3 * apart)
-        × (step ≤ 256) × (apart ≤ 256)
-        × (count ≤ 256) × (at + lines * (3 * count) ≤ length (now points)) ⌝ }
+        × (step ≤ 256) × (apart ≤ 256) × (count ≤ 256) × (at + lines * (3 * count) ≤ length (now points)) ⌝ }
     ensures { λ _. ⌜ now (points .exit) ≡ sets (now (points .entry)) at
         (coordinates (flatten (runs (now (grid .entry)) 0 apart step count lines))) ⌝ }
 {
@@ -128,8 +126,8 @@ fn put_spaced(starts: &mut [usize], at: usize, first: usize, step: usize, lines:
 
 // The points of all lines, and zero past them.
 pub fn points(grid: &[f64], m: usize, n: usize, points: &mut [f64])
-    requires { ⌜ (m ≤ 255) × (n ≤ 255) × (length (now grid) ≡ 3 * ((m + 1) * (n + 1))) ×
-        (6 * ((m + 1) * (n + 1)) ≤ length (now points)) ⌝ }
+    requires { ⌜ (m ≤ 255) × (n ≤ 255) × (length (now grid) ≡ 3 * ((m + 1) * (n + 1)))
+        × (6 * ((m + 1) * (n + 1)) ≤ length (now points)) ⌝ }
     ensures { λ _. ⌜ now (points .exit) ≡ filled zero64 (coordinates (flatten (gridLines (now (grid .entry)) m n)))
         (now (points .entry)) ⌝ }
 {

@@ -6,6 +6,7 @@ use Rattle.float.specs.Sign.{absolute}
 use Rattle.float.specs.Order.{larger}
 use Rattle.vector.specs.declared.Vector.{Vector}
 
+-- the Vector with these components
 abbrev pub vector : Float → Float → Float → Vector
 vector x y z = record { x = x; y = y; z = z }
 
