@@ -1,4 +1,5 @@
--- What the tests of code say: a comparison under `!`, two joined by `&`, one whose other answer cannot be, and what is picked by one.
+-- What the tests of code say: a comparison under `!`, two joined by `&`, one whose other answer cannot be,
+-- and what is picked by one.
 use mathlib.Core.Path.{_≡_, refl, sym, _∙_}
 use mathlib.Core.Bool.{Bool, true, false, not, _&&_, cond, and-eq-true-iff}
 use borrow.Author.Tests.{not-true, not-false}
@@ -26,6 +27,7 @@ cond-keeps P true a b p q = p
 cond-keeps P false a b p q = q
 
 -- the same, each value in the case that picks it
-pub cond-case : {A : Type 0} (P : A → Type 0) (t : Bool) (a b : A) → (t ≡ true → P a) → (t ≡ false → P b) → P (cond t a b)
+pub cond-case : {A : Type 0} (P : A → Type 0) (t : Bool) (a b : A) → (t ≡ true → P a) →
+    (t ≡ false → P b) → P (cond t a b)
 cond-case P true a b p q = p refl
 cond-case P false a b p q = q refl

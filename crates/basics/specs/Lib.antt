@@ -1,2 +1,2 @@
--- Definitions on lists that contracts of several crates cite.
+-- Lists serves inner contracts only, of mesh and edges. No open call cites it.
 pub mod Lists

@@ -1,4 +1,4 @@
--- Lists of any element.
+-- No section of the rules: operations on lists of any element, for inner contracts.
 use mathlib.Core.List.{List, [], _∷_, _++_}
 use Prim.Native.Nat.{ℕ}
 use lib.ListN.{take, drop}
@@ -7,7 +7,7 @@ use lib.ListN.{take, drop}
 abbrev pub putAt : {A : Type 0} → ℕ → A → List A → List A
 putAt p x xs = take p xs ++ (x ∷ drop p xs)
 
--- P, of every element
+-- P holds of every element
 abbrev pub Each : {A : Type 0} → (A → Type 0) → List A → Type 0
 Each P [] = Unit {0}
 Each P (x ∷ xs) = P x × Each P xs

@@ -1,7 +1,9 @@
--- Where a mapping takes an index, said without `%`; that `image` and `inverse` undo each other; and the image of the next index.
--- An index is at most steps and an offset below them, so each sum passes steps at most once; the rest is arithmetic modulo steps.
+-- Where a mapping takes an index, said without `%`; that `image` and `inverse` undo each other; and the image of
+-- the next index. An index is at most steps and an offset below them, so each sum passes steps at most once; the
+-- rest is arithmetic modulo steps.
 use Prim.Native.Nat.{ℕ, _+_, _-_, _%_, _≤_, _<_}
-use native.Mathlib.Nat.{eq-zero-or-pos, eq-or-lt-of-le, mod-lt, mod-self, mod-eq-of-lt, mod-eq-sub-mod, mod-add-mod, add-mod-mod, add-mod-right}
+use native.Mathlib.Nat.{eq-zero-or-pos, eq-or-lt-of-le, mod-lt, mod-self, mod-eq-of-lt, mod-eq-sub-mod, mod-add-mod}
+use native.Mathlib.Nat.{add-mod-mod, add-mod-right}
 use native.Mathlib.Omega.{arith}
 use mathlib.Core.Path.{_≡_, refl, _∙_}
 use mathlib.Core.Logic.{_⊎_, inl, inr, ⊎-elim}
@@ -83,11 +85,13 @@ reverse-same o n j = refl
 
 -- forward at offset o of n steps, from j to k
 abbrev pub ForwardAt : ℕ → ℕ → ℕ → ℕ → Type 0
-ForwardAt o n j k = OneOf ((o ≡ 0) × (k ≡ j)) ((0 < o) × (o + j < n) × (k ≡ o + j)) ((0 < o) × (n ≤ o + j) × (k + n ≡ o + j))
+ForwardAt o n j k =
+    OneOf ((o ≡ 0) × (k ≡ j)) ((0 < o) × (o + j < n) × (k ≡ o + j)) ((0 < o) × (n ≤ o + j) × (k + n ≡ o + j))
 
 -- in reverse, from a to b and from b to a
 abbrev pub ReverseAt : ℕ → ℕ → ℕ → ℕ → Type 0
-ReverseAt o n j k = OneOf ((o ≡ 0) × (k + j ≡ n)) ((0 < o) × (j ≤ o) × (k + j ≡ o)) ((0 < o) × (o < j) × (k + j ≡ o + n))
+ReverseAt o n j k =
+    OneOf ((o ≡ 0) × (k + j ≡ n)) ((0 < o) × (j ≤ o) × (k + j ≡ o)) ((0 < o) × (o < j) × (k + j ≡ o + n))
 
 -- forward, from b to a
 abbrev pub InverseAt : ℕ → ℕ → ℕ → ℕ → Type 0
@@ -98,11 +102,13 @@ by-offset : (o n x k : ℕ) {A : Type 0} → (0 < o → x < n + n) → (o ≡ 0 
     OneOf ((o ≡ 0) × A) ((0 < o) × (x < n) × (k ≡ x)) ((0 < o) × (n ≤ x) × (k + n ≡ x))
 by-offset o n x k h f g =
     ⊎-elim (λ z. inl (z, f z))
-    (λ p. let e = g (omega arith) in inr (⊎-elim (λ w. inl (p, w .0, omega arith)) (λ w. inr (p, w .0, omega arith)) (wrapped x n (h p))))
+    (λ p. let e = g (omega arith) in inr
+    (⊎-elim (λ w. inl (p, w .0, omega arith)) (λ w. inr (p, w .0, omega arith)) (wrapped x n (h p))))
     (eq-zero-or-pos o)
 
 pub forward-at : (o n j : ℕ) → o < n → j ≤ n → ForwardAt o n j (image (Forward o n) j)
-forward-at o n j h l = by-offset o n (o + j) (image (Forward o n) j) (omega arith) (forward-zero o n j) (forward-other o n j)
+forward-at o n j h l =
+    by-offset o n (o + j) (image (Forward o n) j) (omega arith) (forward-zero o n j) (forward-other o n j)
 
 pub reverse-at : (o n j : ℕ) → o < n → j ≤ n → ReverseAt o n j (image (Reverse o n) j)
 reverse-at o n j h l =
@@ -113,7 +119,8 @@ reverse-at o n j h l =
 
 pub inverse-at : (o n j : ℕ) → o < n → j ≤ n → InverseAt o n j (inverse (Forward o n) j)
 inverse-at o n j h l =
-    three (by-offset o n (j + n - o) (inverse (Forward o n) j) (omega arith) (inverse-zero o n j) (inverse-minus o n j h))
+    three (by-offset o n (j + n - o) (inverse (Forward o n) j) (omega arith) (inverse-zero o n j)
+    (inverse-minus o n j h))
     inl
     (λ w. inr (inr (w .0, omega arith, omega arith)))
     (λ w. inr (inl (w .0, omega arith, omega arith)))
@@ -121,11 +128,14 @@ inverse-at o n j h l =
 -- Within the row
 
 pub image-within : (m : CyclicMapping) (j : ℕ) → HasIndex m j → image m j ≤ stepsOf m
-image-within (Forward o n) j u = three (forward-at o n j (u .1) (u .2)) (λ w. omega arith) (λ w. omega arith) (λ w. omega arith)
-image-within (Reverse o n) j u = three (reverse-at o n j (u .1) (u .2)) (λ w. omega arith) (λ w. omega arith) (λ w. omega arith)
+image-within (Forward o n) j u =
+    three (forward-at o n j (u .1) (u .2)) (λ w. omega arith) (λ w. omega arith) (λ w. omega arith)
+image-within (Reverse o n) j u =
+    three (reverse-at o n j (u .1) (u .2)) (λ w. omega arith) (λ w. omega arith) (λ w. omega arith)
 
 pub inverse-within : (m : CyclicMapping) (j : ℕ) → HasIndex m j → inverse m j ≤ stepsOf m
-inverse-within (Forward o n) j u = three (inverse-at o n j (u .1) (u .2)) (λ w. omega arith) (λ w. omega arith) (λ w. omega arith)
+inverse-within (Forward o n) j u =
+    three (inverse-at o n j (u .1) (u .2)) (λ w. omega arith) (λ w. omega arith) (λ w. omega arith)
 inverse-within (Reverse o n) j u = rw reverse-same (image-within (Reverse o n) j u)
 
 -- Offset 0, forward or reverse
@@ -146,7 +156,8 @@ zero-twice (Forward o n) j l z = forward-zero o n (image (Forward o n) j) z ∙ 
 zero-twice (Reverse o n) j l z = rw (reverse-zero o n j z, reverse-zero o n (n - j) z) (omega arith)
 
 -- at another it comes back modulo steps
-there-and-back : (m : CyclicMapping) (j : ℕ) → HasIndex m j → (offsetOf m ≡ 0 → ⊥) → inverse m (image m j) ≡ j % stepsOf m
+there-and-back : (m : CyclicMapping) (j : ℕ) → HasIndex m j → (offsetOf m ≡ 0 → ⊥) →
+    inverse m (image m j) ≡ j % stepsOf m
 there-and-back (Forward o n) j u f =
     let x : (o + j) % n + n - o ≡ (o + j) % n + (n - o) = omega arith in
     let y : o + j + (n - o) ≡ j + n = omega arith in
@@ -159,29 +170,37 @@ there-and-back (Reverse o n) j u f =
     (λ w. let x : o + n - k ≡ j + n = omega arith in rw (x, add-mod-right))
     (λ w. let x : o + n - k ≡ j = omega arith in rw x))
 
-back-and-there : (m : CyclicMapping) (j : ℕ) → HasIndex m j → (offsetOf m ≡ 0 → ⊥) → image m (inverse m j) ≡ j % stepsOf m
+back-and-there : (m : CyclicMapping) (j : ℕ) → HasIndex m j → (offsetOf m ≡ 0 → ⊥) →
+    image m (inverse m j) ≡ j % stepsOf m
 back-and-there (Forward o n) j u f =
     let x : o + (j + n - o) ≡ j + n = omega arith in
     rw (forward-other o n _ f, inverse-minus o n j (u .1) f, add-mod-mod, x, add-mod-right)
 back-and-there (Reverse o n) j u f = rw reverse-same (rw reverse-same at (there-and-back (Reverse o n) j u f))
 
--- `map_index_inv` undoes `map_index`: at offset 0 at every index from 0 to steps, at another offset at every index below steps
-pub inverse-image : (m : CyclicMapping) (j : ℕ) → HasIndex m j → (0 < offsetOf m → j < stepsOf m) → inverse m (image m j) ≡ j
+-- `map_index_inv` undoes `map_index`: at offset 0 at every index from 0 to steps, at another offset
+-- at every index below steps
+pub inverse-image : (m : CyclicMapping) (j : ℕ) → HasIndex m j → (0 < offsetOf m → j < stepsOf m) →
+    inverse m (image m j) ≡ j
 inverse-image m j u f =
-    ⊎-elim (λ z. zero-same m (image m j) z ∙ zero-twice m j (u .2) z) (λ p. there-and-back m j u (omega arith) ∙ mod-eq-of-lt (f p))
+    ⊎-elim (λ z. zero-same m (image m j) z ∙ zero-twice m j (u .2) z)
+    (λ p. there-and-back m j u (omega arith) ∙ mod-eq-of-lt (f p))
     (eq-zero-or-pos (offsetOf m))
 
 -- and `map_index` undoes `map_index_inv` there
-pub image-inverse : (m : CyclicMapping) (j : ℕ) → HasIndex m j → (0 < offsetOf m → j < stepsOf m) → image m (inverse m j) ≡ j
+pub image-inverse : (m : CyclicMapping) (j : ℕ) → HasIndex m j → (0 < offsetOf m → j < stepsOf m) →
+    image m (inverse m j) ≡ j
 image-inverse m j u f =
-    ⊎-elim (λ z. rw (zero-same m j z) (zero-twice m j (u .2) z)) (λ p. back-and-there m j u (omega arith) ∙ mod-eq-of-lt (f p))
+    ⊎-elim (λ z. rw (zero-same m j z) (zero-twice m j (u .2) z))
+    (λ p. back-and-there m j u (omega arith) ∙ mod-eq-of-lt (f p))
     (eq-zero-or-pos (offsetOf m))
 
 -- at an offset other than 0 the index steps comes back as 0, which it equals modulo steps
-pub inverse-image-end : (m : CyclicMapping) → HasIndex m (stepsOf m) → 0 < offsetOf m → inverse m (image m (stepsOf m)) ≡ 0
+pub inverse-image-end : (m : CyclicMapping) → HasIndex m (stepsOf m) → 0 < offsetOf m →
+    inverse m (image m (stepsOf m)) ≡ 0
 inverse-image-end m u p = there-and-back m (stepsOf m) u (omega arith) ∙ mod-self (stepsOf m)
 
-pub image-inverse-end : (m : CyclicMapping) → HasIndex m (stepsOf m) → 0 < offsetOf m → image m (inverse m (stepsOf m)) ≡ 0
+pub image-inverse-end : (m : CyclicMapping) → HasIndex m (stepsOf m) → 0 < offsetOf m →
+    image m (inverse m (stepsOf m)) ≡ 0
 image-inverse-end m u p = back-and-there m (stepsOf m) u (omega arith) ∙ mod-self (stepsOf m)
 
 -- The image of the next index: forward one more, in reverse one less
@@ -207,18 +226,22 @@ pub reverse-next : (o n j : ℕ) → o < n → j < n → OneMore o n (image (Rev
 reverse-next o n j h l =
     let x : o + n - (j + 1) + 1 ≡ o + n - j = omega arith in
     one-more o n _ _ (λ z. omega (arith, reverse-zero o n j z, reverse-zero o n (j + 1) z))
-    (λ f. rw (reverse-minus o n (j + 1) (omega arith) f) (mod-lt (o + n - (j + 1)) (omega arith), rw (mod-add-mod, x) (reverse-minus o n j (omega arith) f)))
+    (λ f. rw (reverse-minus o n (j + 1) (omega arith) f)
+    (mod-lt (o + n - (j + 1)) (omega arith), rw (mod-add-mod, x) (reverse-minus o n j (omega arith) f)))
 
 -- the image of index 0, where the offset is not 0
 pub first-image : (m : CyclicMapping) → HasIndex m 0 → (offsetOf m ≡ 0 → ⊥) → offsetOf m ≡ image m 0
-first-image (Forward o n) u f = three (forward-at o n 0 (u .1) (u .2)) (λ w. absurd (f (w .0))) (λ w. omega arith) (λ w. absurd (omega arith))
-first-image (Reverse o n) u f = three (reverse-at o n 0 (u .1) (u .2)) (λ w. absurd (f (w .0))) (λ w. omega arith) (λ w. absurd (omega arith))
+first-image (Forward o n) u f =
+    three (forward-at o n 0 (u .1) (u .2)) (λ w. absurd (f (w .0))) (λ w. omega arith) (λ w. absurd (omega arith))
+first-image (Reverse o n) u f =
+    three (reverse-at o n 0 (u .1) (u .2)) (λ w. absurd (f (w .0))) (λ w. omega arith) (λ w. absurd (omega arith))
 
 -- What the test of an index shows
 
 pub usable-known : (m : CyclicMapping) (i : ℕ) → usable m i ≡ true → HasIndex m i
 usable-known m i h =
-    let b = and-both (leb 1 (stepsOf m) && leb (stepsOf m) 65535) (ltb (offsetOf m) (stepsOf m) && leb i (stepsOf m)) h in
+    let b = and-both (leb 1 (stepsOf m) && leb (stepsOf m) 65535)
+    (ltb (offsetOf m) (stepsOf m) && leb i (stepsOf m)) h in
     let s = and-both (leb 1 (stepsOf m)) (leb (stepsOf m) 65535) (b .0) in
     let t = and-both (ltb (offsetOf m) (stepsOf m)) (leb i (stepsOf m)) (b .1) in
     (leb-true (stepsOf m) 65535 (s .1), ltb-true (offsetOf m) (stepsOf m) (t .0), leb-true i (stepsOf m) (t .1))

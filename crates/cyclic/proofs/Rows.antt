@@ -1,4 +1,5 @@
--- Rows in their lists: each point of a row stands in its list, a list of points is a row of its own, and what the tests of two rows show.
+-- Rows in their lists: each point of a row stands in its list, a list of points is a row of its own, and what
+-- the tests of two rows show.
 use Prim.Native.Nat.{ℕ, _+_, _-_, _*_, _/_, _%_, _≤_, _<_}
 use native.Mathlib.Nat.{mul-le-mul-right}
 use native.Mathlib.Omega.{arith}
@@ -19,7 +20,8 @@ use Rattle.refusal.specs.Refusals.{ok, refused, numberOf, unless}
 use Rattle.refusal.proofs.Laws.{unless-passed}
 use Rattle.cyclic.specs.declared.seam.Seam.the-variants.{Unjoined}
 use Rattle.cyclic.specs.declared.seam.SeamSearch.{SeamSearch}
-use Rattle.cyclic.specs.Search.{Row, Rows, Closeness, closeAt, rowOf, searched, searchRows, search, rowFits, rowsCheck, newVector}
+use Rattle.cyclic.specs.Search.{Row, Rows, Closeness, closeAt, rowOf, searched, searchRows, search, rowFits}
+use Rattle.cyclic.specs.Search.{rowsCheck, newVector}
 use Rattle.cyclic.proofs.Remains.{Meets}
 
 -- Points
@@ -48,7 +50,8 @@ module _ {a b : List Float} {aStart bStart stride steps : ℕ} (rows : Rows a aS
         let most : k ≤ steps = rw meets (opposite-within steps j reverse l) in
         (omega arith, omega arith)
 
-    pub close-next : (close : Closeness) {i : ℕ} → i ≡ aStart + j → close (pointAt a i) (pointAt b (bStart + k)) ≡ true →
+    pub close-next : (close : Closeness) {i : ℕ} → i ≡ aStart + j →
+        close (pointAt a i) (pointAt b (bStart + k)) ≡ true →
         Meets close (rowOf a aStart stride) (rowOf b bStart stride) steps reverse j
     close-next close {i} e h =
         let x : aStart + j * stride ≡ i = rw next (omega arith) in
@@ -80,7 +83,8 @@ module _ (a b : List Float) where
   unfolding rowsCheck
   no-length h = rw h
 
-  pub no-coordinate : rowFits a && rowFits b ≡ true → coordinatesFit a && coordinatesFit b ≡ false → rowsCheck a b ≡ Failed Coordinate
+  pub no-coordinate : rowFits a && rowFits b ≡ true → coordinatesFit a && coordinatesFit b ≡ false →
+      rowsCheck a b ≡ Failed Coordinate
   unfolding rowsCheck
   no-coordinate h g = rw (h, g)
 
@@ -91,17 +95,20 @@ module _ (a b : List Float) where
   pub passed-length : rowsCheck a b ≡ Passed → length a ≤ 196608
   unfolding rowsCheck
   passed-length h =
-      let t = unless-passed (rowFits a && rowFits b) Length (unless (coordinatesFit a && coordinatesFit b) Coordinate Passed) h .0 in
+      let t = unless-passed (rowFits a && rowFits b) Length
+      (unless (coordinatesFit a && coordinatesFit b) Coordinate Passed) h .0 in
       let u = and-both (rowFits a) (rowFits b) t in
       leb-true (length a) 196608 (and-both (eqb (length a % 3) 0) (leb (length a) 196608) (u .0) .1)
 
   -- The answer
 
-  pub refused-is : {k : Refusal} (tolerance : Float) → rowsCheck a b ≡ Failed k → refused (numberOf k) ≡ newVector a b tolerance
+  pub refused-is : {k : Refusal} (tolerance : Float) → rowsCheck a b ≡ Failed k →
+      refused (numberOf k) ≡ newVector a b tolerance
   unfolding newVector
   refused-is tolerance h = rw h
 
-  pub answer-is : {s : SeamSearch} (tolerance : Float) → rowsCheck a b ≡ Passed → s ≡ search (closeAt tolerance) (pointAt a) (pointAt b) (length a / 3) (length b / 3) →
+  pub answer-is : {s : SeamSearch} (tolerance : Float) → rowsCheck a b ≡ Passed →
+      s ≡ search (closeAt tolerance) (pointAt a) (pointAt b) (length a / 3) (length b / 3) →
       ok s ≡ newVector a b tolerance
   unfolding newVector
   answer-is tolerance h e = rw h (ap ok e)

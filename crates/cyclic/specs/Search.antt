@@ -1,4 +1,4 @@
--- Seam search (01): the first offset at which row a fits row b, forward before reverse, and the comparisons made.
+-- Rules 3.1 to 3.3: the first offset at which row a fits row b, forward before reverse, and the comparisons made.
 -- A row is its points by index, 0 to steps; `close` compares a point of one row with a point of another (or the same).
 use Prim.Native.Nat.{ℕ, zero, suc, _+_, _-_, _*_, _/_, _%_, _≤_}
 use mathlib.Core.Bool.{Bool, true, false, _&&_, _||_, not, cond}
@@ -23,10 +23,12 @@ use Rattle.cyclic.specs.declared.seam.SeamAnswer.{SeamAnswer}
 use Rattle.cyclic.specs.declared.seam.SeamAnswer.the-variants.{Found, NotFound, Refused}
 use Rattle.cyclic.specs.Mapping.{image}
 
+-- a row, by index
 abbrev pub Row : Type 0
 Row = ℕ → Vector
 
--- the row whose point j is point start + j·stride of a list of coordinates: a line of a grid, or with stride 1 a list of its own
+-- the row whose point j is point start + j·stride of a list of coordinates: a line of a grid, or with
+-- stride 1 a list of its own
 abbrev pub rowOf : List Float → ℕ → ℕ → Row
 rowOf l start stride j = pointAt l (start + j * stride)
 
@@ -37,14 +39,15 @@ pub record Rows (a : List Float) (aStart : ℕ) (b : List Float) (bStart stride 
   pub a-inside : 3 * (aStart + steps * stride) + 3 ≤ length a
   pub b-inside : 3 * (bStart + steps * stride) + 3 ≤ length b
 
+-- a test of two points: the search is defined for any
 abbrev pub Closeness : Type 0
 Closeness = Vector → Vector → Bool
 
--- the closeness of 01 at a tolerance
+-- close, by Rules 2.1, at a tolerance
 abbrev pub closeAt : Float → Closeness
 closeAt tolerance p q = allClose p q tolerance
 
--- a search's answer: a mapping or None, and the comparisons made
+-- Rules 3.3: a search's answer, a mapping or None, and the comparisons made
 abbrev pub searched : Seam → ℕ → SeamSearch
 searched s k = record { seam = s; comparisons = k }
 
@@ -53,16 +56,17 @@ abbrev pub tried : Bool → ℕ → Tried
 tried f k = record { fits = f; made = k }
 
 module _ (close : Closeness) (a b : Row) where
-  -- "j runs 0 to n−1 and stops at the first failure": k points from j on, after c comparisons
+  -- a direction at an offset: k points of a from j on with their partners in b, after c comparisons, up to
+  -- the first that is not close
   unfoldable pub tryFrom : CyclicMapping → ℕ → ℕ → ℕ → Tried
   tryFrom m zero j c = tried true c
   tryFrom m (suc k) j c = cond (close (a j) (b (image m j))) (tryFrom m k (j + 1) (c + 1)) (tried false (c + 1))
 
-  -- "Rows are closed if a's ends are close and then b's ends are"
+  -- closed rows: the ends of a are close, and then those of b
   unfoldable pub closed : ℕ → Tried
   closed steps = cond (close (a 0) (a steps)) (tried (close (b 0) (b steps)) 2) (tried false 1)
 
-  -- "At each offset forward is tried, then reverse; the search leaves at the first offset that fits": k offsets from o on, after c comparisons
+  -- k offsets from o on, after c comparisons: at each, forward before reverse, and the first that fits is the answer
   unfoldable pub searchFrom : ℕ → ℕ → ℕ → ℕ → SeamSearch
   searchFrom steps zero o c = searched Unjoined c
   searchFrom steps (suc k) o c =
@@ -72,27 +76,29 @@ module _ (close : Closeness) (a b : Row) where
       (cond (reverse .fits) (searched (Joined (Reverse o steps)) (reverse .made))
       (searchFrom steps k (o + 1) (reverse .made)))
 
-  -- "closed rows try offsets 0 to steps−1, others offset 0"
+  -- all offsets below steps on closed rows, and offset 0 on others
   unfoldable pub searchRows : ℕ → SeamSearch
   searchRows steps = searchFrom steps (cond (closed steps .fits) steps 1) 0 (closed steps .made)
 
--- "Rows a and b of n points, steps = n−1. None if n < 2 or the lengths differ, after 0 comparisons."
+-- Rules 3.1: rows of na and nb points; where these differ or are under two, there is no seam after no comparison
 unfoldable pub search : Closeness → Row → Row → ℕ → ℕ → SeamSearch
 search close a b na nb = cond (ltb na 2 || not (eqb na nb)) (searched Unjoined 0) (searchRows close a b (na - 1))
 
--- not "a seam row not a multiple of 3 or over 65,536 points"
+-- what refusal 2 asks of a row: whole points, and at most 65,536
 abbrev pub rowFits : List Float → Bool
 rowFits r = eqb (length r % 3) 0 && leb (length r) 196608
 
--- refusals 2 and 4 of two rows
+-- refusals 2 and 4 of two rows, in this order
 unfoldable pub rowsCheck : List Float → List Float → Check
 rowsCheck a b = unless (rowFits a && rowFits b) Length (unless (coordinatesFit a && coordinatesFit b) Coordinate Passed)
 
--- the open call, reference `CyclicMapping::new_vector`, at any tolerance
+-- the open call `CyclicMapping::new_vector`, at a tolerance, for which the rules take EPS
 unfoldable pub newVector : List Float → List Float → Float → Answer SeamSearch
-newVector a b tolerance = passing (rowsCheck a b) (ok (search (closeAt tolerance) (pointAt a) (pointAt b) (length a / 3) (length b / 3)))
+newVector a b tolerance =
+    passing (rowsCheck a b)
+    (ok (search (closeAt tolerance) (pointAt a) (pointAt b) (length a / 3) (length b / 3)))
 
--- 01's number and values of each case
+-- the values or the number that each answer of the code stands for
 abbrev pub statedSeam : SeamAnswer → Answer SeamSearch
 statedSeam (Found m k) = ok (searched (Joined m) k)
 statedSeam (NotFound k) = ok (searched Unjoined k)

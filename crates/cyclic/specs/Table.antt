@@ -1,4 +1,4 @@
--- 01's starred results on seams and mappings, by computation.
+-- The known results of Rules 3, by computation: mappings, and then searches.
 use mathlib.Core.Path.{_≡_, refl}
 use mathlib.Core.Bool.{Bool, true}
 use mathlib.Core.List.{List, [], _∷_}
@@ -16,10 +16,11 @@ use Rattle.cyclic.specs.Search.{searched, tryFrom, closed, searchFrom, s
 
 -- `unfolding computed` opens every definition that a closed result of this file needs
 unfoldable pub computed : Bool
-unfolding mapIndex mapIndexInv image inverse newVector rowsCheck search searchRows searchFrom closed tryFrom pointAt coordinatesFit allClose larger absolute eps ofBits lt le sub round
+unfolding mapIndex mapIndexInv image inverse newVector rowsCheck search searchRows searchFrom closed tryFrom
+    pointAt coordinatesFit allClose larger absolute eps ofBits lt le sub round
 computed = true
 
--- "Forward(1,4): image of 4 is 1, inverse of 0 is 3"
+-- forward, round the end of the row and back
 pub forward-image : mapIndex (Forward 1 4) 4 ≡ ok 1
 unfolding computed
 forward-image = refl
@@ -28,7 +29,7 @@ pub forward-inverse : mapIndexInv (Forward 1 4) 0 ≡ ok 3
 unfolding computed
 forward-inverse = refl
 
--- "Reverse(0,4): inverse of 1 is 3. Reverse(1,4): of 2 is 3, of 4 is 1."
+-- inverse images in reverse, at offset 0 and at another
 pub reverse-zero : mapIndexInv (Reverse 0 4) 1 ≡ ok 3
 unfolding computed
 reverse-zero = refl
@@ -52,17 +53,21 @@ abbrev pub along : List Float → List Float
 along [] = []
 along (x ∷ xs) = x ∷ zero64 ∷ zero64 ∷ along xs
 
--- "Rows with x = 0,1,2,3 and 3,2,1,0 (y = z = 0): Reverse(0,3)"
-pub turned : newVector (along (zero64 ∷ one64 ∷ two64 ∷ three64 ∷ [])) (along (three64 ∷ two64 ∷ one64 ∷ zero64 ∷ [])) eps ≡ ok (searched (Joined (Reverse 0 3)) 6)
+-- b is a from its end to its start
+pub turned : newVector (along (zero64 ∷ one64 ∷ two64 ∷ three64 ∷ []))
+    (along (three64 ∷ two64 ∷ one64 ∷ zero64 ∷ [])) eps
+    ≡ ok (searched (Joined (Reverse 0 3)) 6)
 unfolding computed
 turned = refl
 
--- "x = 0,1,2,0 and 1,2,0,1: Forward(2,3), 10 comparisons"
-pub shifted : newVector (along (zero64 ∷ one64 ∷ two64 ∷ zero64 ∷ [])) (along (one64 ∷ two64 ∷ zero64 ∷ one64 ∷ [])) eps ≡ ok (searched (Joined (Forward 2 3)) 10)
+-- closed rows, b a step further round than a
+pub shifted : newVector (along (zero64 ∷ one64 ∷ two64 ∷ zero64 ∷ [])) (along (one64 ∷ two64 ∷ zero64 ∷ one64 ∷ [])) eps
+    ≡ ok (searched (Joined (Forward 2 3)) 10)
 unfolding computed
 shifted = refl
 
--- "x = 0,1,2 and 1,2,3: None, 3 comparisons"
-pub apart : newVector (along (zero64 ∷ one64 ∷ two64 ∷ [])) (along (one64 ∷ two64 ∷ three64 ∷ [])) eps ≡ ok (searched Unjoined 3)
+-- open rows that fit neither way
+pub apart : newVector (along (zero64 ∷ one64 ∷ two64 ∷ [])) (along (one64 ∷ two64 ∷ three64 ∷ [])) eps
+    ≡ ok (searched Unjoined 3)
 unfolding computed
 apart = refl

@@ -1,7 +1,8 @@
-// CyclicMapping: an index of row a to one of row b, and back.
+// Rules 3.4: CyclicMapping, from an index of row a to one of row b, and back.
 use refusal::Refusal;
 ghost use mathlib.Core.Path.{_≡_};
-ghost use Rattle.cyclic.specs.Mapping.{isReverse, image, inverse, usable, inRows, HasIndex, mapIndex, mapIndexInv, statedIndex};
+ghost use Rattle.cyclic.specs.Mapping.{isReverse, image, inverse, usable, inRows, HasIndex};
+ghost use Rattle.cyclic.specs.Mapping.{mapIndex, mapIndexInv, statedIndex};
 
 // The largest number of steps of a row.
 pub const MAX_STEPS: usize = 65535;
@@ -27,7 +28,7 @@ impl CyclicMapping {
         }
     }
 
-    // The index of b that index a_idx of a joins.
+    // The image of a_idx: the index of b that it joins.
     pub fn map_index(self, a_idx: usize) -> MappedIndex
         ensures { λ r. ⌜ statedIndex r ≡ mapIndex self «a_idx» ⌝ }
     {
@@ -38,7 +39,7 @@ impl CyclicMapping {
         }
     }
 
-    // The index of a that index b_idx of b joins.
+    // The inverse image of b_idx: the index of a that it joins.
     pub fn map_index_inv(self, b_idx: usize) -> MappedIndex
         ensures { λ r. ⌜ statedIndex r ≡ mapIndexInv self «b_idx» ⌝ }
     {

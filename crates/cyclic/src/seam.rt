@@ -1,4 +1,4 @@
-// The search for a seam between two rows of points.
+// Rules 3.1 to 3.3: the search for a seam between two rows of points.
 use crate::mapping::CyclicMapping;
 use float::consts::EPS;
 use refusal::Check;
@@ -11,7 +11,8 @@ ghost use Rattle.grid.specs.Grid.{pointAt};
 ghost use Rattle.float.specs.Consts.{eps};
 ghost use Rattle.vector.specs.Vectors.{allClose};
 ghost use Rattle.cyclic.specs.Mapping.{image, HasIndex};
-ghost use Rattle.cyclic.specs.Search.{rowOf, Rows, closeAt, searched, closed, searchRows, search, rowFits, rowsCheck, newVector, statedSeam};
+ghost use Rattle.cyclic.specs.Search.{rowOf, Rows, closeAt, searched, closed, searchRows, search};
+ghost use Rattle.cyclic.specs.Search.{rowFits, rowsCheck, newVector, statedSeam};
 
 // A row has at most 65,536 points.
 const MAX_ROW: usize = 196608;
@@ -66,7 +67,7 @@ fn points_close(a: &[f64], i: usize, b: &[f64], k: usize) -> bool
     grid::point_at(a, i).all_close(grid::point_at(b, k))
 }
 
-// Whether two points differ by less than EPS in each coordinate, and so are close. No branch, which is what makes it fast.
+// Whether two points differ by less than EPS in each coordinate, and so are close. It has no branch, and so is fast.
 fn points_near(a: &[f64], i: usize, b: &[f64], k: usize) -> bool
     requires { ⌜ (3 * i + 3 ≤ length (now a)) × (3 * k + 3 ≤ length (now b)) ⌝ }
     ensures { λ r. ⌜ (r ≡ true → allClose (pointAt (now (a .entry)) i) (pointAt (now (b .entry)) k) eps ≡ true) ⌝ }
@@ -75,7 +76,7 @@ fn points_near(a: &[f64], i: usize, b: &[f64], k: usize) -> bool
     ((-EPS < d.x) & (d.x < EPS)) & ((-EPS < d.y) & (d.y < EPS)) & ((-EPS < d.z) & (d.z < EPS))
 }
 
-// Rows are closed if a's ends are close and then b's ends are.
+// Whether the rows are closed. The ends of b are compared only where those of a are close.
 fn rows_closed(
     a: &[f64],
     a_start: usize,
@@ -85,7 +86,8 @@ fn rows_closed(
     steps: usize,
 ) -> Tried
     requires { ⌜ Rows (now a) «a_start» (now b) «b_start» stride steps ⌝ }
-    ensures { λ r. ⌜ r ≡ closed (closeAt eps) (rowOf (now (a .entry)) «a_start» stride) (rowOf (now (b .entry)) «b_start» stride) steps ⌝ }
+    ensures { λ r. ⌜ r ≡ closed (closeAt eps) (rowOf (now (a .entry)) «a_start» stride)
+        (rowOf (now (b .entry)) «b_start» stride) steps ⌝ }
 {
     if points_close(a, a_start, a, a_start + steps * stride) {
         return Tried {
@@ -102,7 +104,8 @@ fn rows_closed(
 // The index of b that follows k, going forward.
 fn ahead(k: usize, offset: usize, steps: usize) -> usize
     requires { ⌜ HasIndex (CyclicMapping.Forward offset steps) k ⌝ }
-    ensures { λ r. ⌜ ((j : ℕ) → j < steps → k ≡ image (CyclicMapping.Forward offset steps) j → r ≡ image (CyclicMapping.Forward offset steps) (j + 1)) ⌝ }
+    ensures { λ r. ⌜ ((j : ℕ) → j < steps → k ≡ image (CyclicMapping.Forward offset steps) j →
+        r ≡ image (CyclicMapping.Forward offset steps) (j + 1)) ⌝ }
 {
     if offset != 0 && k + 1 == steps {
         return 0;
@@ -113,7 +116,8 @@ fn ahead(k: usize, offset: usize, steps: usize) -> usize
 // The index of b that follows k, going in reverse.
 fn back(k: usize, offset: usize, steps: usize) -> usize
     requires { ⌜ HasIndex (CyclicMapping.Reverse offset steps) k ⌝ }
-    ensures { λ r. ⌜ ((j : ℕ) → j < steps → k ≡ image (CyclicMapping.Reverse offset steps) j → r ≡ image (CyclicMapping.Reverse offset steps) (j + 1)) ⌝ }
+    ensures { λ r. ⌜ ((j : ℕ) → j < steps → k ≡ image (CyclicMapping.Reverse offset steps) j →
+        r ≡ image (CyclicMapping.Reverse offset steps) (j + 1)) ⌝ }
 {
     if k == 0 {
         return steps - 1;
@@ -141,7 +145,9 @@ fn close_run(
     reverse: bool,
 ) -> usize
     requires { ⌜ Rows (now a) «a_start» (now b) «b_start» stride steps ⌝ }
-    ensures { λ r. ⌜ (r ≤ steps) × ((j : ℕ) → j < r → allClose (rowOf (now (a .entry)) «a_start» stride j) (rowOf (now (b .entry)) «b_start» stride (cond reverse («steps» - j) j)) eps ≡ true) ⌝ }
+    ensures { λ r. ⌜ (r ≤ steps) × ((j : ℕ) → j < r →
+        allClose (rowOf (now (a .entry)) «a_start» stride j)
+        (rowOf (now (b .entry)) «b_start» stride (cond reverse («steps» - j) j)) eps ≡ true) ⌝ }
 {
     let mut run: usize = 0;
     if stride != 1 {
@@ -170,7 +176,8 @@ pub fn search_rows(
     steps: usize,
 ) -> SeamSearch
     requires { ⌜ Rows (now a) «a_start» (now b) «b_start» stride steps ⌝ }
-    ensures { λ r. ⌜ r ≡ searchRows (closeAt eps) (rowOf (now (a .entry)) «a_start» stride) (rowOf (now (b .entry)) «b_start» stride) steps ⌝ }
+    ensures { λ r. ⌜ r ≡ searchRows (closeAt eps) (rowOf (now (a .entry)) «a_start» stride)
+        (rowOf (now (b .entry)) «b_start» stride) steps ⌝ }
 {
     let ends = rows_closed(a, a_start, b, b_start, stride, steps);
     let end = if ends.fits { steps } else { 1 };
@@ -221,10 +228,11 @@ pub fn search_rows(
     }
 }
 
-// None if there are under 2 points or the lengths differ, after 0 comparisons; else the search.
+// Rows of unlike length, or of fewer than two points, have no seam, and nothing is compared; others are searched.
 fn search(a: &[f64], b: &[f64]) -> SeamSearch
     requires { ⌜ length (now a) ≤ 196608 ⌝ }
-    ensures { λ r. ⌜ r ≡ search (closeAt eps) (pointAt (now (a .entry))) (pointAt (now (b .entry))) (length (now (a .entry)) / 3) (length (now (b .entry)) / 3) ⌝ }
+    ensures { λ r. ⌜ r ≡ search (closeAt eps) (pointAt (now (a .entry))) (pointAt (now (b .entry)))
+        (length (now (a .entry)) / 3) (length (now (b .entry)) / 3) ⌝ }
 {
     let n = a.len() / 3;
     if n < 2 || n != b.len() / 3 {

@@ -1,5 +1,6 @@
--- The magnitude of x is below y, or at most y, exactly if x lies between -y and y, so that it is told by two comparisons of x. By the signs, down to the
--- sizes a of x and b of y on one scale: what a sign adds is the test 0 < a + b, and it holds where a < b does.
+-- The magnitude of x is below y, or at most y, exactly if x lies between -y and y, so that it is told by two
+-- comparisons of x. By the signs, down to the sizes a of x and b of y on one scale: what a sign adds is the test
+-- 0 < a + b, and it holds where a < b does.
 use Prim.Native.Nat.{ℕ, _+_, _*_}
 use native.Mathlib.Nat.{add-comm}
 use native.Mathlib.Omega.{arith}
@@ -59,8 +60,12 @@ above-either true false a b = sym (or-false (ltb b a))
 above-either false true a b = ap (ltb 0) (add-comm b a) ∙ less-or a b ∙ simp (add-comm a b)
 above-either false false a b = refl
 
-both-one : (s t : Bool) (a b : ℕ) → (below (not t) b s a || level (not t) b s a) && (below s a t b || level s a t b) ≡ below false a t b || level false a t b
-both-one s t a b = rw (le-signed (not t) b s a, le-signed s a t b, le-signed false a t b) (neither (below s a (not t) b) (below t b s a) ∙ ap not (sym (above-either s t a b)))
+both-one : (s t : Bool) (a b : ℕ) →
+    (below (not t) b s a || level (not t) b s a) && (below s a t b || level s a t b) ≡ below false a t b
+    || level false a t b
+both-one s t a b =
+    rw (le-signed (not t) b s a, le-signed s a t b, le-signed false a t b)
+    (neither (below s a (not t) b) (below t b s a) ∙ ap not (sym (above-either s t a b)))
   where
     neither : (p q : Bool) → not p && not q ≡ not (p || q)
     neither true q = refl

@@ -1,9 +1,11 @@
--- A count as a float is exact and stands to others as the counts do; `clamped` lies between its ends; and a value between counts has its floor and its ceiling between them.
---
+-- A count as a float is exact and stands to others as the counts do; `clamped` lies between its ends; and a value
+-- between counts has its floor and its ceiling between them.
 use mathlib.Core.Path.{_≡_, refl, sym, ap, _∙_}
 use mathlib.Core.Logic.{_⊎_, inl, inr}
 use Prim.Native.Nat.{ℕ, zero, suc, _+_, _-_, _*_, _/_, _^_, _≤_, _<_, zero-le}
-use native.Mathlib.Nat.{le-trans, lt-of-lt-of-le, eq-or-lt-of-le, mul-one, zero-lt-suc, mul-comm, le-of-eq, div-lt-iff-lt-mul, div-le-of-le-mul, le-div-iff-mul-le, div-mul-le-self, div-eq-of-lt, mod-eq-of-lt, lt-of-mul-lt-mul-right, lt-of-le-of-lt, le-min, min-le-left}
+use native.Mathlib.Nat.{le-trans, lt-of-lt-of-le, eq-or-lt-of-le, mul-one, zero-lt-suc, mul-comm, le-of-eq}
+use native.Mathlib.Nat.{div-lt-iff-lt-mul, div-le-of-le-mul, le-div-iff-mul-le, div-mul-le-self, div-eq-of-lt}
+use native.Mathlib.Nat.{mod-eq-of-lt, lt-of-mul-lt-mul-right, lt-of-le-of-lt, le-min, min-le-left}
 use native.Mathlib.Omega.{arith}
 use mathlib.Core.Bool.{Bool, true, false, not, cond, true≢false}
 use lib.IntN.{ℤ, pos, negsuc, negℤ, natAbs}
@@ -23,7 +25,8 @@ use Rattle.basics.proofs.Tests.{cond-keeps}
 use Rattle.float.proofs.Rounding.{round-both}
 use Rattle.float.proofs.Signs.{plus-not-below}
 use Rattle.float.proofs.Value.{lt-values, lt-whole, whole-lt, minus-below}
-use Rattle.float.proofs.Less.{lt-irreflexive, not-ltb, le-is, le-not-nan, le-of-not-lt, not-lt-of-le, finite-not-nan}
+use Rattle.float.proofs.Less.{lt-irreflexive, not-ltb, le-is, le-not-nan, le-of-not-lt, not-lt-of-le}
+use Rattle.float.proofs.Less.{finite-not-nan}
 use Rattle.float.proofs.Differences.{sub-level}
 use Rattle.float.proofs.Cut.{over-more, over-same, over-ge}
 
@@ -53,15 +56,19 @@ nat-not-nan n h = finite-not-nan (natFloat n) (nat-finite n h)
 
 -- counts as floats compare as the counts
 pub nat-lt : (a b : ℕ) → a ≤ 2 ^ 53 → b ≤ 2 ^ 53 → lt (natFloat a) (natFloat b) ≡ ltb a b
-nat-lt a b h k = lt-values (natFloat a) (natFloat b) false a 1 false b 1 (zero-lt-suc 0) (zero-lt-suc 0) (nat-value a h) (nat-value b k) ∙ simp mul-one
+nat-lt a b h k =
+    lt-values (natFloat a) (natFloat b) false a 1 false b 1 (zero-lt-suc 0) (zero-lt-suc 0) (nat-value a h)
+    (nat-value b k) ∙ simp mul-one
 
 pub nat-le : (a b : ℕ) → a ≤ 2 ^ 53 → b ≤ 2 ^ 53 → le (natFloat a) (natFloat b) ≡ leb a b
-nat-le a b h k = le-is (natFloat a) (natFloat b) (nat-not-nan a h) (nat-not-nan b k) ∙ ap not (nat-lt b a k h) ∙ not-ltb a b
+nat-le a b h k =
+    le-is (natFloat a) (natFloat b) (nat-not-nan a h) (nat-not-nan b k) ∙ ap not (nat-lt b a k h) ∙ not-ltb a b
 
 -- a count as a float is not negative, however large
 pub nat-nonneg : (n : ℕ) → lt (natFloat n) zero64 ≡ false
 unfolding natFloat ofInt
-nat-nonneg n = round-both (λ x y. lt x zero64 ≡ false) false false plus-not-below (unfold lt ofBits in refl) binary64 n 1
+nat-nonneg n =
+    round-both (λ x y. lt x zero64 ≡ false) false false plus-not-below (unfold lt ofBits in refl) binary64 n 1
 
 -- what is at most a finite bound in magnitude is finite
 pub at-most-finite : (x top : Float) → isFinite top ≡ true → atMost x top ≡ true → isFinite x ≡ true
@@ -82,12 +89,15 @@ clamp-between x lo hi h k = simp (h, k)
 -- the result is the value or an end: what holds of all three holds of it
 pub clamp-keeps : (P : Float → Type 0) (x lo hi : Float) → P x → P lo → P hi → P (clamped x lo hi)
 unfolding clamped
-clamp-keeps P x lo hi p l h = cond-keeps P (lt hi (cond (lt x lo) lo x)) hi (cond (lt x lo) lo x) h (cond-keeps P (lt x lo) lo x l p)
+clamp-keeps P x lo hi p l h =
+    cond-keeps P (lt hi (cond (lt x lo) lo x)) hi (cond (lt x lo) lo x) h (cond-keeps P (lt x lo) lo x l p)
 
-pub clamp-finite : (x lo hi : Float) → isFinite x ≡ true → isFinite lo ≡ true → isFinite hi ≡ true → isFinite (clamped x lo hi) ≡ true
+pub clamp-finite : (x lo hi : Float) → isFinite x ≡ true → isFinite lo ≡ true → isFinite hi ≡ true →
+    isFinite (clamped x lo hi) ≡ true
 clamp-finite = clamp-keeps (λ y. isFinite y ≡ true)
 
-pub clamp-fits : (x lo hi : Float) → T (fits binary64 x) → T (fits binary64 lo) → T (fits binary64 hi) → T (fits binary64 (clamped x lo hi))
+pub clamp-fits : (x lo hi : Float) → T (fits binary64 x) → T (fits binary64 lo) → T (fits binary64 hi) →
+    T (fits binary64 (clamped x lo hi))
 clamp-fits = clamp-keeps (λ y. T (fits binary64 y))
 
 -- the result is not above the upper end, nor, where the ends are in order, below the lower one
@@ -120,7 +130,9 @@ module _ (x lo hi : Float) (n : isNan x ≡ false) (h : le lo hi ≡ true) where
   clamp-not-nan = clamp-keeps (λ y. isNan y ≡ false) x lo hi n (le-not-nan lo hi h .0) (le-not-nan lo hi h .1)
 
   pub clamp-above : le lo (clamped x lo hi) ≡ true
-  clamp-above = le-of-not-lt lo (clamped x lo hi) (le-not-nan lo hi h .0) clamp-not-nan (clamp-not-below x lo hi (not-lt-of-le lo hi h))
+  clamp-above =
+      le-of-not-lt lo (clamped x lo hi) (le-not-nan lo hi h .0) clamp-not-nan
+      (clamp-not-below x lo hi (not-lt-of-le lo hi h))
 
   pub clamp-below : le (clamped x lo hi) hi ≡ true
   clamp-below = le-of-not-lt (clamped x lo hi) hi clamp-not-nan (le-not-nan lo hi h .1) (clamp-not-above x lo hi)
@@ -148,31 +160,38 @@ count-neg zero = refl
 count-neg (suc k) = refl
 
 -- a value that is n is within EPS of n
-same-close : (m : ℕ) (e : ℤ) (y : Float) (n : ℕ) → HasValue y false n 1 → m * up e ≡ n * down e → lt (absolute (sub binary64 (fin false m e) y)) eps ≡ true
+same-close : (m : ℕ) (e : ℤ) (y : Float) (n : ℕ) → HasValue y false n 1 → m * up e ≡ n * down e →
+    lt (absolute (sub binary64 (fin false m e) y)) eps ≡ true
 same-close m e nan n v h = absurd v
 same-close m e (inf s) n v h = absurd v
 same-close m e (fin true k d) n v h = absurd (true≢false (v .0))
-same-close m e (fin false k d) n v h = rw (sub-level false m e k d (cross (m * up e) (down e) (k * up d) (down d) h (v .1))) (unfold lt absolute eps ofBits in refl)
+same-close m e (fin false k d) n v h =
+    rw (sub-level false m e k d (cross (m * up e) (down e) (k * up d) (down d) h (v .1)))
+    (unfold lt absolute eps ofBits in refl)
   where
     cross : (a b c d : ℕ) → a ≡ n * b → c * 1 ≡ n * d → a * d ≡ c * b
     cross a b c d p q = omega (arith, ap (λ (x : ℕ). x * d) p, ap (λ (x : ℕ). x * b) q)
 
 -- the floor of what is not above n, and not within EPS of n, is a count below n
-pub floor-below : (v : Float) (n : ℕ) → 0 < n → n ≤ 2 ^ 53 → lt (natFloat n) v ≡ false → lt (absolute (sub binary64 v (natFloat n))) eps ≡ false → count (floorZ v) < n
+pub floor-below : (v : Float) (n : ℕ) → 0 < n → n ≤ 2 ^ 53 → lt (natFloat n) v ≡ false →
+    lt (absolute (sub binary64 v (natFloat n))) eps ≡ false → count (floorZ v) < n
 unfolding floorZ
 floor-below nan n N h l c = N
 floor-below (inf true) n N h l c = N
 floor-below (inf false) n N h l c = absurd (true≢false (sym (inside (natFloat n) (nat-finite n h) .0) ∙ l))
 floor-below (fin true m e) n N h l c = rw count-neg N
 floor-below (fin false m e) n N h l c =
-    lt-of-le-of-lt (min-le-left (m * up e / down e) (2 ^ 63 - 1)) (div-lt-iff-lt-mul (down-pos e) .1 (strict (eq-or-lt-of-le (most m e n h l))))
+    lt-of-le-of-lt (min-le-left (m * up e / down e) (2 ^ 63 - 1))
+    (div-lt-iff-lt-mul (down-pos e) .1 (strict (eq-or-lt-of-le (most m e n h l))))
   where
     strict : (m * up e ≡ n * down e) ⊎ (m * up e < n * down e) → m * up e < n * down e
     strict (inl p) = absurd (true≢false (sym (same-close m e (natFloat n) n (nat-value n h) p) ∙ c))
     strict (inr q) = q
 
 -- the floor of a value clamped to 0 and n, and not within EPS of n, is a count below n
-pub floor-count : (v : Float) (n : ℕ) → 0 < n → n ≤ 2 ^ 53 → lt (absolute (sub binary64 (clamped v zero64 (natFloat n)) (natFloat n))) eps ≡ false → count (floorZ (clamped v zero64 (natFloat n))) < n
+pub floor-count : (v : Float) (n : ℕ) → 0 < n → n ≤ 2 ^ 53 →
+    lt (absolute (sub binary64 (clamped v zero64 (natFloat n)) (natFloat n))) eps ≡ false →
+    count (floorZ (clamped v zero64 (natFloat n))) < n
 floor-count v n N h c = floor-below (clamped v zero64 (natFloat n)) n N h (clamp-not-above v zero64 (natFloat n)) c
 
 -- the floor of what is not below 0 is not negative
@@ -199,19 +218,24 @@ over-le : (a d n : ℕ) → a ≤ n * d → over a d ≤ n
 over-le a d n h = go (eq-or-lt-of-le (div-mul-le-self a d))
   where
     go : (a / d * d ≡ a) ⊎ (a / d * d < a) → over a d ≤ n
-    go (inl p) = le-trans (le-of-eq (over-same a d (le-of-eq (sym p)))) (div-le-of-le-mul d (le-trans h (le-of-eq (mul-comm n d))))
+    go (inl p) =
+        le-trans (le-of-eq (over-same a d (le-of-eq (sym p))))
+        (div-le-of-le-mul d (le-trans h (le-of-eq (mul-comm n d))))
     go (inr p) = le-trans (le-of-eq (over-more a d p)) (lt-of-mul-lt-mul-right d (lt-of-lt-of-le p h))
 
 -- a value that is not above n has its floor and its ceiling at most n
-pub whole-at-most : (v : Float) (n : ℕ) → n ≤ 2 ^ 53 → lt (natFloat n) v ≡ false → (count (floorZ v) ≤ n) × (count (ceilZ v) ≤ n)
+pub whole-at-most : (v : Float) (n : ℕ) → n ≤ 2 ^ 53 → lt (natFloat n) v ≡ false →
+    (count (floorZ v) ≤ n) × (count (ceilZ v) ≤ n)
 unfolding floorZ ceilZ
 whole-at-most nan n h l = (zero-le, zero-le)
 whole-at-most (inf true) n h l = (zero-le, zero-le)
 whole-at-most (inf false) n h l = absurd (true≢false (sym (inside (natFloat n) (nat-finite n h) .0) ∙ l))
 whole-at-most (fin true m e) n h l = (rw count-neg zero-le, rw count-neg zero-le)
 whole-at-most (fin false m e) n h l =
-    let up-to = over-le (m * up e) (down e) n (most m e n h l) in
-    (le-trans (min-le-left (m * up e / down e) _) (le-trans (over-ge (m * up e) (down e)) up-to), le-trans (min-le-left (over (m * up e) (down e)) _) up-to)
+    let up-to = over-le (m * up e) (down e) n (most m e n h l) in (
+      le-trans (min-le-left (m * up e / down e) _) (le-trans (over-ge (m * up e) (down e)) up-to),
+      le-trans (min-le-left (over (m * up e) (down e)) _) up-to,
+    )
 
 pub floor-at-most : (v : Float) (n : ℕ) → le v (natFloat n) ≡ true → n ≤ 2 ^ 53 → count (floorZ v) ≤ n
 floor-at-most v n l h = whole-at-most v n h (not-lt-of-le v (natFloat n) l) .0
@@ -220,17 +244,21 @@ pub ceil-at-most : (v : Float) (n : ℕ) → le v (natFloat n) ≡ true → n �
 ceil-at-most v n l h = whole-at-most v n h (not-lt-of-le v (natFloat n) l) .1
 
 -- a value at least n has its floor and its ceiling at least n
-pub whole-at-least : (v : Float) (n : ℕ) → n ≤ 2 ^ 53 → le (natFloat n) v ≡ true → (n ≤ count (floorZ v)) × (n ≤ count (ceilZ v))
+pub whole-at-least : (v : Float) (n : ℕ) → n ≤ 2 ^ 53 → le (natFloat n) v ≡ true →
+    (n ≤ count (floorZ v)) × (n ≤ count (ceilZ v))
 unfolding floorZ ceilZ
 whole-at-least nan n h l = absurd (true≢false (unfold isNan in le-not-nan (natFloat n) nan l .1))
-whole-at-least (inf true) n h l = absurd (true≢false (sym (inside (natFloat n) (nat-finite n h) .1) ∙ not-lt-of-le (natFloat n) (inf true) l))
+whole-at-least (inf true) n h l =
+    absurd (true≢false (sym (inside (natFloat n) (nat-finite n h) .1) ∙ not-lt-of-le (natFloat n) (inf true) l))
 whole-at-least (inf false) n h l = (le-trans h (lit≤ tt), le-trans h (lit≤ tt))
 whole-at-least (fin true m e) zero h l = (zero-le, zero-le)
 whole-at-least (fin true m e) (suc n) h l =
     let less = minus-below m e (suc n) (natFloat (suc n)) (zero-lt-suc n) (nat-value (suc n) h) in
     absurd (true≢false (sym less ∙ not-lt-of-le (natFloat (suc n)) (fin true m e) l))
 whole-at-least (fin false m e) n h l =
-    let least : n * down e ≤ m * up e = ltb-false (m * up e) (n * down e) (sym (lt-whole m e n (natFloat n) (nat-value n h)) ∙ not-lt-of-le (natFloat n) (fin false m e) l) in
+    let least : n * down e ≤ m * up e =
+    ltb-false (m * up e) (n * down e)
+    (sym (lt-whole m e n (natFloat n) (nat-value n h)) ∙ not-lt-of-le (natFloat n) (fin false m e) l) in
     let down-to : n ≤ m * up e / down e = le-div-iff-mul-le (down-pos e) .1 least in
     let few : n ≤ 2 ^ 63 - 1 = le-trans h (lit≤ tt) in
     (le-min down-to few, le-min (le-trans down-to (over-ge (m * up e) (down e))) few)

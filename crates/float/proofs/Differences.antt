@@ -15,11 +15,16 @@ use Rattle.float.proofs.Rounding.{abs-round, round-not-nan}
 use Rattle.float.proofs.Larger.{abs-nan}
 
 -- ---- a difference is a sum over one denominator, and a sum is a rounding
-sub-is : (s : Bool) (m : ℕ) (e : ℤ) (t : Bool) (n : ℕ) (d : ℤ) → sub binary64 (fin s m e) (fin t n d) ≡ sum binary64 s (m * up e * down d) (not t) (n * up d * down e) (down e * down d)
+sub-is : (s : Bool) (m : ℕ) (e : ℤ) (t : Bool) (n : ℕ) (d : ℤ) →
+    sub binary64 (fin s m e) (fin t n d) ≡ sum binary64 s (m * up e * down d) (not t) (n * up d * down e)
+    (down e * down d)
 unfolding sub
 sub-is s m e t n d = refl
 
-sum-is : (s : Bool) (a : ℕ) (t : Bool) (b c : ℕ) → sum binary64 s a t b c ≡ cond (Bool·beq s t) (round binary64 s (a + b) c) (cond (ltb a b) (round binary64 t (b - a) c) (round binary64 (s && ltb b a) (a - b) c))
+sum-is : (s : Bool) (a : ℕ) (t : Bool) (b c : ℕ) →
+    sum binary64 s a t b c
+    ≡ cond (Bool·beq s t) (round binary64 s (a + b) c)
+    (cond (ltb a b) (round binary64 t (b - a) c) (round binary64 (s && ltb b a) (a - b) c))
 unfolding sum
 sum-is s a t b c = refl
 
@@ -40,8 +45,10 @@ sum-level s a c C = go s
     go true = sum-is true a false a c ∙ simp (level, none) (zero-round c C)
     go false = sum-is false a true a c ∙ simp (level, none) (zero-round c C)
 
-pub sub-level : (s : Bool) (m : ℕ) (e : ℤ) (n : ℕ) (d : ℤ) → m * up e * down d ≡ n * up d * down e → sub binary64 (fin s m e) (fin s n d) ≡ fin false 0 (pos 0)
-sub-level s m e n d h = sub-is s m e s n d ∙ rw h (sum-level s (n * up d * down e) (down e * down d) (mul-pos (down-pos e) (down-pos d)))
+pub sub-level : (s : Bool) (m : ℕ) (e : ℤ) (n : ℕ) (d : ℤ) → m * up e * down d ≡ n * up d * down e →
+    sub binary64 (fin s m e) (fin s n d) ≡ fin false 0 (pos 0)
+sub-level s m e n d h =
+    sub-is s m e s n d ∙ rw h (sum-level s (n * up d * down e) (down e * down d) (mul-pos (down-pos e) (down-pos d)))
 
 pub sub-self : (x : Float) → isFinite x ≡ true → sub binary64 x x ≡ fin false 0 (pos 0)
 unfolding isFinite
@@ -63,15 +70,21 @@ gap-swap a b = go (ltb a b) (ltb b a) refl refl
     go false true x y = refl
     go false false x y = omega (arith, ltb-false a b x, ltb-false b a y)
 
-abs-sum : (s : Bool) (a : ℕ) (t : Bool) (b c : ℕ) → absolute (sum binary64 s a t b c) ≡ round binary64 false (cond (Bool·beq s t) (a + b) (gap a b)) c
+abs-sum : (s : Bool) (a : ℕ) (t : Bool) (b c : ℕ) →
+    absolute (sum binary64 s a t b c) ≡ round binary64 false (cond (Bool·beq s t) (a + b) (gap a b)) c
 abs-sum s a t b c = ap absolute (sum-is s a t b c) ∙ go (Bool·beq s t) (ltb a b)
   where
-    go : (p q : Bool) → absolute (cond p (round binary64 s (a + b) c) (cond q (round binary64 t (b - a) c) (round binary64 (s && ltb b a) (a - b) c))) ≡ round binary64 false (cond p (a + b) (cond q (b - a) (a - b))) c
+    go : (p q : Bool) →
+        absolute
+        (cond p (round binary64 s (a + b) c)
+        (cond q (round binary64 t (b - a) c) (round binary64 (s && ltb b a) (a - b) c)))
+        ≡ round binary64 false (cond p (a + b) (cond q (b - a) (a - b))) c
     go true q = abs-round binary64 s (a + b) c
     go false true = abs-round binary64 t (b - a) c
     go false false = abs-round binary64 (s && ltb b a) (a - b) c
 
-sum-swap : (s : Bool) (a : ℕ) (t : Bool) (b : ℕ) → cond (Bool·beq s (not t)) (a + b) (gap a b) ≡ cond (Bool·beq t (not s)) (b + a) (gap b a)
+sum-swap : (s : Bool) (a : ℕ) (t : Bool) (b : ℕ) →
+    cond (Bool·beq s (not t)) (a + b) (gap a b) ≡ cond (Bool·beq t (not s)) (b + a) (gap b a)
 sum-swap true a true b = gap-swap a b
 sum-swap true a false b = add-comm a b
 sum-swap false a true b = add-comm a b
@@ -93,11 +106,13 @@ sub-swap (fin s m e) (inf t) = refl
 sub-swap (fin s m e) (fin t n d) =
     let a = m * up e * down d in
     let b = n * up d * down e in
-    abs-sum s a (not t) b (down e * down d) ∙ rw (sum-swap s a t b, mul-comm (down e) (down d)) (sym (abs-sum t b (not s) a (down d * down e)))
+    abs-sum s a (not t) b (down e * down d)
+    ∙ rw (sum-swap s a t b, mul-comm (down e) (down d)) (sym (abs-sum t b (not s) a (down d * down e)))
 
 -- ---- a difference of finite values is no NaN
 sum-not-nan : (s : Bool) (a : ℕ) (t : Bool) (b c : ℕ) → isNan (sum binary64 s a t b c) ≡ false
-sum-not-nan s a t b c = sym (abs-nan (sum binary64 s a t b c)) ∙ rw (abs-sum s a t b c) (round-not-nan binary64 false _ c)
+sum-not-nan s a t b c =
+    sym (abs-nan (sum binary64 s a t b c)) ∙ rw (abs-sum s a t b c) (round-not-nan binary64 false _ c)
 
 pub sub-not-nan : (x y : Float) → isFinite x ≡ true → isFinite y ≡ true → isNan (sub binary64 x y) ≡ false
 unfolding isFinite
@@ -105,4 +120,5 @@ sub-not-nan nan y h k = absurd (true≢false (sym h))
 sub-not-nan (inf s) y h k = absurd (true≢false (sym h))
 sub-not-nan (fin s m e) nan h k = absurd (true≢false (sym k))
 sub-not-nan (fin s m e) (inf t) h k = absurd (true≢false (sym k))
-sub-not-nan (fin s m e) (fin t n d) h k = ap isNan (sub-is s m e t n d) ∙ sum-not-nan s (m * up e * down d) (not t) (n * up d * down e) (down e * down d)
+sub-not-nan (fin s m e) (fin t n d) h k =
+    ap isNan (sub-is s m e t n d) ∙ sum-not-nan s (m * up e * down d) (not t) (n * up d * down e) (down e * down d)

@@ -1,4 +1,5 @@
--- `larger` by the tests of `max`, and its laws: it is below e where both are, a NaN left out, and a NaN only where both are.
+-- `larger` by the tests of `max`, and its laws: it is below e where both are, a NaN left out, and
+-- a NaN only where both are.
 use mathlib.Core.Path.{_≡_, refl, sym, _∙_}
 use mathlib.Core.Bool.{Bool, true, false, _&&_, _||_, and-true, or-false, cond, true≢false}
 use lib.Ieee.{Float, nan, inf, fin, lt, ne, isNan}
@@ -38,7 +39,8 @@ larger-below x y e m n = rw (larger-is x y, m) (go (lt x y) (lt x e) (lt y e) re
 larger-no-nan : (x y : Float) → isNan x ≡ false → isNan y ≡ false → isNan (larger x y) ≡ false
 larger-no-nan x y m n = rw (larger-is x y, m) (cond-keeps (λ z. isNan z ≡ false) (lt x y) y x n m)
 
-both-under : (x y e : Float) → isNan x ≡ false → isNan y ≡ false → lt (larger x y) e || isNan (larger x y) ≡ (lt x e || isNan x) && (lt y e || isNan y)
+both-under : (x y e : Float) → isNan x ≡ false → isNan y ≡ false →
+    lt (larger x y) e || isNan (larger x y) ≡ (lt x e || isNan x) && (lt y e || isNan y)
 both-under x y e m n = simp (larger-below x y e m n, larger-no-nan x y m n, m, n, or-false)
 
 -- of any two
@@ -53,7 +55,8 @@ larger-nan (fin s m g) (inf t) = larger-no-nan (fin s m g) (inf t) refl refl
 larger-nan (fin s m g) (fin t n d) = larger-no-nan (fin s m g) (fin t n d) refl refl
 
 -- below e or a NaN
-pub larger-under : (x y e : Float) → lt (larger x y) e || isNan (larger x y) ≡ (lt x e || isNan x) && (lt y e || isNan y)
+pub larger-under : (x y e : Float) →
+    lt (larger x y) e || isNan (larger x y) ≡ (lt x e || isNan x) && (lt y e || isNan y)
 unfolding larger lt isNan
 larger-under nan y e = refl
 larger-under (inf s) nan e = sym (and-true (lt (inf s) e || false))

@@ -1,15 +1,18 @@
--- Laws of `lt`, `le` and `eq`: less is irreflexive and asymmetric, "not less" is transitive, at most is that the other is not less, and only a NaN differs from
--- itself. They are those of the numbers: a finite value is a fraction with a sign.
+-- Laws of `lt`, `le` and `eq`: less is irreflexive and asymmetric, "not less" is transitive, at most is
+-- that the other is not less, and only a NaN differs from itself. They are those of the numbers: a finite
+-- value is a fraction with a sign.
 use mathlib.Core.Path.{_≡_, refl, sym, ap, _∙_}
 use mathlib.Core.Logic.{_⊎_, inl, inr}
 use Prim.Native.Nat.{ℕ, zero, suc, _+_, _*_, _≤_, _<_}
-use native.Mathlib.Nat.{le-of-eq, le-of-lt, eq-or-lt-of-le, add-comm, add-zero, zero-add, mul-le-mul-right, le-of-mul-le-mul-right, zero-mul}
+use native.Mathlib.Nat.{le-of-eq, le-of-lt, eq-or-lt-of-le, add-comm, add-zero, zero-add, mul-le-mul-right}
+use native.Mathlib.Nat.{le-of-mul-le-mul-right, zero-mul}
 use native.Mathlib.Omega.{arith}
 use mathlib.Core.Bool.{Bool, true, false, not, _&&_, _||_, cond, and-false, or-not-self, Bool·not-not, true≢false}
 use lib.Dec.{ltb, leb, eqb, eqb·zero-suc, eqb·suc-zero}
 use lib.Ieee.{Float, nan, inf, fin, up, down, below, level, lt, le, eq, ne, isNan}
 use lib.Ieee.Fits.{down-pos}
-use borrow.Author.Tests.{not-true, ltb-true, lt-ltb, le-ltb, ltb-false, le-leb, lt-leb, eqb-true, eqb-false, eq-eqb, ne-eqb}
+use borrow.Author.Tests.{not-true, ltb-true, lt-ltb, le-ltb, ltb-false, le-leb, lt-leb, eqb-true, eqb-false, eq-eqb}
+use borrow.Author.Tests.{ne-eqb}
 use Rattle.float.specs.Sign.{isFinite}
 use Rattle.basics.proofs.Tests.{must}
 
@@ -35,7 +38,8 @@ loss-scale true a k = refl
 loss-scale false a k = sym (zero-mul k)
 
 -- ±x / a against ±y / b
-cross-is : (s : Bool) (x b : ℕ) (t : Bool) (y a : ℕ) → below s (x * b) t (y * a) ≡ ltb (gain s x * b + loss t y * a) (gain t y * a + loss s x * b)
+cross-is : (s : Bool) (x b : ℕ) (t : Bool) (y a : ℕ) →
+    below s (x * b) t (y * a) ≡ ltb (gain s x * b + loss t y * a) (gain t y * a + loss s x * b)
 cross-is s x b t y a = below-is s (x * b) t (y * a) ∙ simp (gain-scale, loss-scale)
 
 -- ---- less
@@ -60,11 +64,15 @@ lt-asymmetric (fin s m e) (inf t) h = not-true t h
 lt-asymmetric (fin s m e) (fin t n d) h =
     let a = m * up e * down d in
     let b = n * up d * down e in
-    below-is t b s a ∙ le-ltb (gain t b + loss s a) (gain s a + loss t b) (le-of-lt (ltb-true (gain s a + loss t b) (gain t b + loss s a) (sym (below-is s a t b) ∙ h)))
+    below-is t b s a
+    ∙ le-ltb (gain t b + loss s a) (gain s a + loss t b)
+    (le-of-lt (ltb-true (gain s a + loss t b) (gain t b + loss s a) (sym (below-is s a t b) ∙ h)))
 
 -- where (y - y') / b is at most (x - x') / a, and (z - z') / c at most (y - y') / b, the third is at most the first
-chain : (x x' a y y' b z z' c : ℕ) → 0 < b → y * a + x' * b ≤ x * b + y' * a → z * b + y' * c ≤ y * c + z' * b → z * a + x' * c ≤ x * c + z' * a
-chain x x' a y y' b z z' c B h k = le-of-mul-le-mul-right {k = b} (omega (arith, mul-le-mul-right c h, mul-le-mul-right a k)) B
+chain : (x x' a y y' b z z' c : ℕ) → 0 < b → y * a + x' * b ≤ x * b + y' * a → z * b + y' * c ≤ y * c + z' * b →
+    z * a + x' * c ≤ x * c + z' * a
+chain x x' a y y' b z z' c B h k =
+    le-of-mul-le-mul-right {k = b} (omega (arith, mul-le-mul-right c h, mul-le-mul-right a k)) B
 
 pub not-lt-trans : (x y z : Float) → isNan y ≡ false → lt x y ≡ false → lt y z ≡ false → lt x z ≡ false
 unfolding lt isNan
@@ -93,7 +101,10 @@ not-lt-trans (fin s m e) (fin t i g) (fin u l w) n h k =
     let z = l * up w in
     let first = ltb-false _ _ (sym (cross-is s x (down g) t y (down e)) ∙ h) in
     let second = ltb-false _ _ (sym (cross-is t y (down w) u z (down g)) ∙ k) in
-    cross-is s x (down w) u z (down e) ∙ le-ltb _ _ (chain (gain s x) (loss s x) (down e) (gain t y) (loss t y) (down g) (gain u z) (loss u z) (down w) (down-pos g) first second)
+    cross-is s x (down w) u z (down e)
+    ∙ le-ltb _ _
+    (chain (gain s x) (loss s x) (down e) (gain t y) (loss t y) (down g) (gain u z) (loss u z) (down w)
+    (down-pos g) first second)
 
 -- ---- at most: the other is not less, where neither is a NaN
 le-sizes : (a b : ℕ) → ltb a b || (eqb a b && true) ≡ not (ltb b a)
@@ -175,10 +186,12 @@ le-transitive x y z h k =
 
 -- less than what is at most, and at most what is less
 pub lt-le-trans : (x y z : Float) → lt x y ≡ true → le y z ≡ true → lt x z ≡ true
-lt-le-trans x y z h k = must (lt x z) (λ p. true≢false (sym h ∙ not-lt-trans x z y (le-not-nan y z k .1) p (not-lt-of-le y z k)))
+lt-le-trans x y z h k =
+    must (lt x z) (λ p. true≢false (sym h ∙ not-lt-trans x z y (le-not-nan y z k .1) p (not-lt-of-le y z k)))
 
 pub le-lt-trans : (x y z : Float) → le x y ≡ true → lt y z ≡ true → lt x z ≡ true
-le-lt-trans x y z h k = must (lt x z) (λ p. true≢false (sym k ∙ not-lt-trans y x z (le-not-nan x y h .0) (not-lt-of-le x y h) p))
+le-lt-trans x y z h k =
+    must (lt x z) (λ p. true≢false (sym k ∙ not-lt-trans y x z (le-not-nan x y h .0) (not-lt-of-le x y h) p))
 
 pub lt-transitive : (x y z : Float) → lt x y ≡ true → lt y z ≡ true → lt x z ≡ true
 lt-transitive x y z h k = lt-le-trans x y z h (lt-le y z k)

@@ -1,4 +1,5 @@
--- Laws that belong to no one function. Callers of other crates use Less, Orders, Larger, Differences, Bounds, Range and Between.
+-- Laws that belong to no one function. Callers of other crates use Less, Orders, Larger, Differences,
+-- Bounds, Range and Between.
 pub mod Value
 pub mod Less
 pub mod Rounding

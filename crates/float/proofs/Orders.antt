@@ -1,5 +1,5 @@
--- `totalOrder` is a total order of the values that are no NaN: turned round the answer is the other one, less is transitive, and what is Equal is equal as
--- data, since the bits of a value depend on its sign and size alone.
+-- `totalOrder` is a total order of the values that are no NaN: turned round the answer is the other one, less is
+-- transitive, and what is Equal is equal as data, since the bits of a value depend on its sign and size alone.
 use mathlib.Core.Path.{_≡_, refl, sym, ap, _∙_}
 use mathlib.Core.Logic.{_⊎_, inl, inr}
 use Prim.Native.Nat.{ℕ, _+_, _-_, _*_, _/_, _^_}
@@ -36,7 +36,8 @@ pub order-flip : (x y : Float) → totalOrder y x ≡ flip (totalOrder x y)
 unfolding totalOrder
 order-flip x y = go (lt x y) (lt y x) (negative x) (negative y) (lt-asymmetric x y)
   where
-    go : (p q s t : Bool) → (p ≡ true → q ≡ false) → cond q Less (cond p Greater (signOrder t s)) ≡ flip (cond p Less (cond q Greater (signOrder s t)))
+    go : (p q s t : Bool) → (p ≡ true → q ≡ false) →
+        cond q Less (cond p Greater (signOrder t s)) ≡ flip (cond p Less (cond q Greater (signOrder s t)))
     go true true s t h = absurd (true≢false (h refl))
     go true false s t h = refl
     go false true s t h = refl
@@ -64,7 +65,8 @@ less-says : (x y : Float) → totalOrder x y ≡ Less → Before x y
 unfolding totalOrder
 less-says x y = go (lt x y) (lt y x) (negative x) (negative y)
   where
-    go : (p q s t : Bool) → cond p Less (cond q Greater (signOrder s t)) ≡ Less → (p ≡ true) ⊎ (((p ≡ false) × (q ≡ false)) × (s ≡ true) × (t ≡ false))
+    go : (p q s t : Bool) → cond p Less (cond q Greater (signOrder s t)) ≡ Less →
+        (p ≡ true) ⊎ (((p ≡ false) × (q ≡ false)) × (s ≡ true) × (t ≡ false))
     go true q s t h = inl refl
     go false true s t h = absurd (true≢false (cc))
     go false false true true h = absurd (true≢false (cc))
@@ -97,21 +99,24 @@ lt-level x y z m n l = (
     same true false f g = g refl
     same false t f g = sym (f refl)
 
-pub order-equal-left : (x y z : Float) → isNan x ≡ false → isNan y ≡ false → totalOrder x y ≡ Equal → totalOrder x z ≡ totalOrder y z
+pub order-equal-left : (x y z : Float) → isNan x ≡ false → isNan y ≡ false → totalOrder x y ≡ Equal →
+    totalOrder x z ≡ totalOrder y z
 unfolding totalOrder
 order-equal-left x y z m n h =
     let e = equal-says x y h in
     let l = lt-level x y z m n (e .0) in
     simp (l .0, l .1, e .1)
 
-pub order-equal-right : (x y z : Float) → isNan y ≡ false → isNan z ≡ false → totalOrder y z ≡ Equal → totalOrder x y ≡ totalOrder x z
+pub order-equal-right : (x y z : Float) → isNan y ≡ false → isNan z ≡ false → totalOrder y z ≡ Equal →
+    totalOrder x y ≡ totalOrder x z
 order-equal-right x y z m n h = order-flip y x ∙ ap flip (order-equal-left y z x m n h) ∙ sym (order-flip z x)
 
 order-less : (x y : Float) → lt x y ≡ true → totalOrder x y ≡ Less
 unfolding totalOrder
 order-less x y h = simp h
 
-pub less-transitive : (x y z : Float) → isNan x ≡ false → isNan y ≡ false → isNan z ≡ false → totalOrder x y ≡ Less → totalOrder y z ≡ Less → totalOrder x z ≡ Less
+pub less-transitive : (x y z : Float) → isNan x ≡ false → isNan y ≡ false → isNan z ≡ false → totalOrder x y ≡ Less →
+    totalOrder y z ≡ Less → totalOrder x z ≡ Less
 less-transitive x y z l m n h k = go (less-says x y h) (less-says y z k)
   where
     go : Before x y → Before y z → totalOrder x z ≡ Less
@@ -120,8 +125,10 @@ less-transitive x y z l m n h k = go (less-says x y h) (less-says y z k)
     go (inr p) (inl q) = order-less x z (lt-level x y z l m (p .0) .0 ∙ q)
     go (inr p) (inr q) = absurd (true≢false (sym (q .1) ∙ p .2))
 
--- a stable sort by "less" needs it so: what does not come before y, which does not come before x, does not come before x
-pub not-less-transitive : (x y z : Float) → isNan x ≡ false → isNan y ≡ false → isNan z ≡ false → (totalOrder y x ≡ Less → ⊥) → (totalOrder z y ≡ Less → ⊥) → totalOrder z x ≡ Less → ⊥
+-- a stable sort by "less" needs it so: what does not come before y, which does not come before
+-- x, does not come before x
+pub not-less-transitive : (x y z : Float) → isNan x ≡ false → isNan y ≡ false → isNan z ≡ false →
+    (totalOrder y x ≡ Less → ⊥) → (totalOrder z y ≡ Less → ⊥) → totalOrder z x ≡ Less → ⊥
 not-less-transitive x y z l m n h k p = go (totalOrder x y) refl
   where
     go : (o : Ordering) → totalOrder x y ≡ o → ⊥
@@ -137,12 +144,17 @@ bits-are : (s : Bool) (m : ℕ) (e : ℤ) → toBits binary64 (fin s m e) ≡ bi
 unfolding toBits
 bits-are s m e = refl
 
-same-data : (s : Bool) (m : ℕ) (e : ℤ) (n : ℕ) (d : ℤ) → T (fits binary64 (fin s m e)) → T (fits binary64 (fin s n d)) → m * up e * down d ≡ n * up d * down e → fin s m e ≡ fin s n d
+same-data : (s : Bool) (m : ℕ) (e : ℤ) (n : ℕ) (d : ℤ) → T (fits binary64 (fin s m e)) → T (fits binary64 (fin s n d)) →
+    m * up e * down d ≡ n * up d * down e → fin s m e ≡ fin s n d
 same-data s m e n d f g h =
     let a = m * up e * 2 ^ 1074 in
     let b = n * up d * 2 ^ 1074 in
-    let units : a / down e ≡ b / down d = div-same a (down e) b (down d) (down-pos e) (down-pos d) (scaled (m * up e) (n * up d) (2 ^ 1074) (down d) (down e) h) in
-    sym (ofBits-toBits binary64 (fin s m e) f) ∙ ap (ofBits binary64) (bits-are s m e ∙ ap (bits s) units ∙ sym (bits-are s n d)) ∙ ofBits-toBits binary64 (fin s n d) g
+    let units : a / down e ≡ b / down d =
+    div-same a (down e) b (down d) (down-pos e) (down-pos d)
+    (scaled (m * up e) (n * up d) (2 ^ 1074) (down d) (down e) h) in
+    sym (ofBits-toBits binary64 (fin s m e) f)
+    ∙ ap (ofBits binary64) (bits-are s m e ∙ ap (bits s) units ∙ sym (bits-are s n d))
+    ∙ ofBits-toBits binary64 (fin s n d) g
   where
     scaled : (x y p d e : ℕ) → x * d ≡ y * e → x * p * d ≡ y * p * e
     scaled x y p d e h = omega (arith, ap (λ (z : ℕ). z * p) h)
@@ -151,7 +163,8 @@ same-size : (s : Bool) (a b : ℕ) → below s a s b ≡ false → below s b s a
 same-size true a b h k = le-antisymm (ltb-false b a h) (ltb-false a b k)
 same-size false a b h k = le-antisymm (ltb-false b a k) (ltb-false a b h)
 
-level-same : (x y : Float) → isNan x ≡ false → isNan y ≡ false → T (fits binary64 x) → T (fits binary64 y) → Level x y → negative x ≡ negative y → x ≡ y
+level-same : (x y : Float) → isNan x ≡ false → isNan y ≡ false → T (fits binary64 x) → T (fits binary64 y) → Level x y →
+    negative x ≡ negative y → x ≡ y
 unfolding lt negative isNan
 level-same nan y m n f g l h = absurd (true≢false m)
 level-same (inf s) nan m n f g l h = absurd (true≢false n)
@@ -159,12 +172,15 @@ level-same (inf s) (inf t) m n f g l h = ap inf h
 level-same (inf s) (fin t k d) m n f g l h = absurd (true≢false (sym (ap not (l .0)) ∙ l .1))
 level-same (fin s i e) nan m n f g l h = absurd (true≢false n)
 level-same (fin s i e) (inf t) m n f g l h = absurd (true≢false (sym (ap not (l .1)) ∙ l .0))
-level-same (fin true i e) (fin true k d) m n f g l h = same-data true i e k d f g (same-size true (i * up e * down d) (k * up d * down e) (l .0) (l .1))
+level-same (fin true i e) (fin true k d) m n f g l h =
+    same-data true i e k d f g (same-size true (i * up e * down d) (k * up d * down e) (l .0) (l .1))
 level-same (fin true i e) (fin false k d) m n f g l h = absurd (true≢false h)
 level-same (fin false i e) (fin true k d) m n f g l h = absurd (true≢false (sym h))
-level-same (fin false i e) (fin false k d) m n f g l h = same-data false i e k d f g (same-size false (i * up e * down d) (k * up d * down e) (l .0) (l .1))
+level-same (fin false i e) (fin false k d) m n f g l h =
+    same-data false i e k d f g (same-size false (i * up e * down d) (k * up d * down e) (l .0) (l .1))
 
-pub order-equal : (x y : Float) → isNan x ≡ false → isNan y ≡ false → T (fits binary64 x) → T (fits binary64 y) → totalOrder x y ≡ Equal → x ≡ y
+pub order-equal : (x y : Float) → isNan x ≡ false → isNan y ≡ false → T (fits binary64 x) → T (fits binary64 y) →
+    totalOrder x y ≡ Equal → x ≡ y
 order-equal x y m n f g h = let e = equal-says x y h in level-same x y m n f g (e .0) (e .1)
 
 pub order-self : (x : Float) → totalOrder x x ≡ Equal

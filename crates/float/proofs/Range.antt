@@ -25,13 +25,19 @@ cut-at-most nan n h l = omega arith
 cut-at-most (inf true) n h l = omega arith
 cut-at-most (inf false) n h l = absurd (true≢false (sym (inside (natFloat n) (nat-finite n h) .0) ∙ l))
 cut-at-most (fin true m e) n h l = omega arith
-cut-at-most (fin false m e) n h l = le-trans (min-le-left (m * up e / down e) (2 ^ 64 - 1)) (div-le-of-le-mul (down e) (le-trans (most m e n h l) (le-of-eq (mul-comm n (down e)))))
+cut-at-most (fin false m e) n h l =
+    le-trans (min-le-left (m * up e / down e) (2 ^ 64 - 1))
+    (div-le-of-le-mul (down e) (le-trans (most m e n h l) (le-of-eq (mul-comm n (down e)))))
 
 pub counted : (y : Float) (n : ℕ) → n ≤ 2 ^ 53 → le zero64 y ≡ true → le y (natFloat n) ≡ true → Counted y n
 counted y n h lo hi =
-    let above : lt (fin true 1 (pos 0)) y ≡ true = lt-le-trans (fin true 1 (pos 0)) zero64 y (unfold lt ofBits in refl) lo in
-    let few : lt (natFloat n) (fin false 1 (pos 64)) ≡ true = whole-lt 1 (pos 64) n (natFloat n) (nat-value n h) ∙ lt-ltb (n * 1) (1 * 2 ^ 64) (small n h) in
-    (asked y above (le-lt-trans y (natFloat n) (fin false 1 (pos 64)) hi few), cut-at-most y n h (not-lt-of-le y (natFloat n) hi))
+    let above : lt (fin true 1 (pos 0)) y ≡ true =
+    lt-le-trans (fin true 1 (pos 0)) zero64 y (unfold lt ofBits in refl) lo in
+    let few : lt (natFloat n) (fin false 1 (pos 64)) ≡ true =
+    whole-lt 1 (pos 64) n (natFloat n) (nat-value n h) ∙ lt-ltb (n * 1) (1 * 2 ^ 64) (small n h) in (
+      asked y above (le-lt-trans y (natFloat n) (fin false 1 (pos 64)) hi few),
+      cut-at-most y n h (not-lt-of-le y (natFloat n) hi),
+    )
   where
     small : (k : ℕ) → k ≤ 9007199254740992 → k * 1 < 18446744073709551616
     small k l = omega arith

@@ -1,8 +1,10 @@
--- `rounded` and `ceiled` from the whole part of the magnitude: twice a magnitude below 2^52 is exact, its whole part is a float exactly, and from 2^52 on a value is whole.
---
+-- `rounded` and `ceiled` from the whole part of the magnitude: twice a magnitude below 2^52 is exact, its whole part is
+-- a float exactly, and from 2^52 on a value is whole.
 use mathlib.Core.Path.{_≡_, refl, sym, ap, _∙_}
 use Prim.Native.Nat.{ℕ, zero, suc, _+_, _-_, _*_, _/_, _^_, _≤_, _<_}
-use native.Mathlib.Nat.{lt-of-lt-of-le, lt-of-not-le, le-of-suc-le-suc, le-of-eq, lt-irrefl, mul-one, one-mul, zero-lt-suc, mul-pos, mul-le-mul-right, mul-lt-mul-of-pos-right, lt-of-mul-lt-mul-right, min-eq-left, div-lt-iff-lt-mul, div-one, add-div-right, pow-suc, div-div-eq-div-mul}
+use native.Mathlib.Nat.{lt-of-lt-of-le, lt-of-not-le, le-of-suc-le-suc, le-of-eq, lt-irrefl, mul-one, one-mul}
+use native.Mathlib.Nat.{zero-lt-suc, mul-pos, mul-le-mul-right, mul-lt-mul-of-pos-right, lt-of-mul-lt-mul-right}
+use native.Mathlib.Nat.{min-eq-left, div-lt-iff-lt-mul, div-one, add-div-right, pow-suc, div-div-eq-div-mul}
 use native.Mathlib.Numerals.{add-one}
 use native.Mathlib.Omega.{arith}
 use mathlib.Core.Bool.{Bool, true, false, true≢false}
@@ -30,8 +32,11 @@ pow-le-back i p h = le-of-suc-le-suc (lt-of-not-le (λ (g : p < i). lt-irrefl (2
 steps-of : (s : Bool) (m : ℕ) (e : ℤ) → T (fits binary64 (fin s m e)) → (j : ℕ) × (up e * 2 ^ 1074 ≡ 2 ^ j * down e)
 steps-of s m (pos k) f = (k + 1074, sym (pow-add 2 k 1074) ∙ sym (mul-one (2 ^ (k + 1074))))
 steps-of s m (negsuc k) f =
-    let low : suc k ≤ 1074 = pow-le-back (suc k) 1074 (fits-says s m (negsuc k) f .1) in
-    (1074 - suc k, one-mul (2 ^ 1074) ∙ ap (λ (x : ℕ). 2 ^ x) (sym (back 1074 (suc k) low)) ∙ pow-add 2 (1074 - suc k) (suc k))
+    let low : suc k ≤ 1074 = pow-le-back (suc k) 1074 (fits-says s m (negsuc k) f .1) in (
+      1074 - suc k,
+      one-mul (2 ^ 1074) ∙ ap (λ (x : ℕ). 2 ^ x) (sym (back 1074 (suc k) low))
+          ∙ pow-add 2 (1074 - suc k) (suc k),
+    )
 
 -- ---- twice a value below 2 ^ 52 is exact
 abbrev pub two : Float
@@ -51,7 +56,8 @@ module _ (m : ℕ) (e : ℤ) (f : T (fits binary64 (fin false m e))) (small : m 
 
   few-units : (j : ℕ) → up e * 2 ^ 1074 ≡ 2 ^ j * down e → m * 2 ^ (j + 1) < 2 ^ (1074 + 1024)
   few-units j h =
-      let bound : m * 2 ^ (j + 1) * (down e * 1) < 2 ^ 53 * 2 ^ 1074 * (down e * 1) = rw (in-units j h) at (scaled (m * up e) (down e) (2 ^ 1074) (pow-pos 1074) small) in
+      let bound : m * 2 ^ (j + 1) * (down e * 1) < 2 ^ 53 * 2 ^ 1074 * (down e * 1) =
+      rw (in-units j h) at (scaled (m * up e) (down e) (2 ^ 1074) (pow-pos 1074) small) in
       lt-of-lt-of-le (lt-of-mul-lt-mul-right (down e * 1) bound) (lit≤ tt)
     where
       scaled : (a d p : ℕ) → 0 < p → a < 4503599627370496 * d → a * 2 * p < 9007199254740992 * p * (d * 1)
@@ -61,9 +67,12 @@ module _ (m : ℕ) (e : ℤ) (f : T (fits binary64 (fin false m e))) (small : m 
   twice-value =
       let s = steps-of false m e f in
       let D : 0 < down e * 1 = mul-pos (down-pos e) (zero-lt-suc 0) in
-      rw (twice-is m e) (round-exact binary64 false (m * up e * 2) (down e * 1) m (s .0 + 1) D (fits-says false m e f .0) (few-units (s .0) (s .1)) (in-units (s .0) (s .1)))
+      rw (twice-is m e)
+      (round-exact binary64 false (m * up e * 2) (down e * 1) m (s .0 + 1) D (fits-says false m e f .0)
+      (few-units (s .0) (s .1)) (in-units (s .0) (s .1)))
 
--- ---- the whole part of a value that is a / c and below 2 ^ 64: what `std::num::truncating_f64_to_u64` asks of y, and what it gives
+-- ---- the whole part of a value that is a / c and below 2 ^ 64: what `std::num::truncating_f64_to_u64`
+-- asks of y, and what it gives
 abbrev Part : Float → ℕ → Type 0
 Part y q = Asked y × (toUnsigned 64 y ≡ q)
 
@@ -78,8 +87,12 @@ whole-part (fin false m e) a c C v h =
 
 part-of : (y : Float) (a c : ℕ) → 0 < c → HasValue y false a c → a < 2 ^ 64 * c → Part y (a / c)
 part-of y a c C v h =
-    let above : lt (fin true 1 (pos 0)) y ≡ true = lt-values (fin true 1 (pos 0)) y true 1 1 false a c (lit< tt) C (refl, refl) v ∙ lt-ltb 0 (1 * c + a * 1) (some c a C) in
-    let below : lt y (fin false 1 (pos 64)) ≡ true = lt-values y (fin false 1 (pos 64)) false a c false (2 ^ 64) 1 C (lit< tt) v (refl, refl) ∙ lt-ltb (a * 1) (2 ^ 64 * c) (rw mul-one h) in
+    let above : lt (fin true 1 (pos 0)) y ≡ true =
+    lt-values (fin true 1 (pos 0)) y true 1 1 false a c (lit< tt) C (refl, refl) v
+    ∙ lt-ltb 0 (1 * c + a * 1) (some c a C) in
+    let below : lt y (fin false 1 (pos 64)) ≡ true =
+    lt-values y (fin false 1 (pos 64)) false a c false (2 ^ 64) 1 C (lit< tt) v (refl, refl)
+    ∙ lt-ltb (a * 1) (2 ^ 64 * c) (rw mul-one h) in
     (asked y above below, whole-part y a c C v h)
   where
     some : (d n : ℕ) → 0 < d → 0 < 1 * d + n * 1
@@ -103,11 +116,14 @@ from-p52 : (m : ℕ) (e : ℤ) → lt (fin false m e) p52 ≡ false → 2 ^ 52 *
 from-p52 m e h = ltb-false (m * up e) (2 ^ 52 * down e) (sym (below-p52 m e) ∙ h)
 
 -- from there on a value is whole, and so it is a rounding of K, which is the value where that is whole
-large : (s : Bool) (m : ℕ) (e : ℤ) (K : ℕ) → T (fits binary64 (fin s m e)) → 2 ^ 52 * down e ≤ m * up e → (down e ≡ 1 → K ≡ m * up e) → fin s m e ≡ round binary64 s K 1
+large : (s : Bool) (m : ℕ) (e : ℤ) (K : ℕ) → T (fits binary64 (fin s m e)) → 2 ^ 52 * down e ≤ m * up e →
+    (down e ≡ 1 → K ≡ m * up e) → fin s m e ≡ round binary64 s K 1
 large s m (pos k) K f h is =
-    whole-unique binary64 (fin s m (pos k)) (round binary64 s K 1) s (m * 2 ^ k) f (round-fits binary64 s K 1) (refl, refl)
+    whole-unique binary64 (fin s m (pos k)) (round binary64 s K 1) s (m * 2 ^ k) f
+    (round-fits binary64 s K 1) (refl, refl)
     (rw (is refl) (rw div-one at (cut-exact s s m (pos k) f)))
-large s m (negsuc k) K f h is = absurd (clash (2 ^ k) (pow-pos k) (rw (pow-suc 2 k) at h) (fits-says s m (negsuc k) f .0))
+large s m (negsuc k) K f h is =
+    absurd (clash (2 ^ k) (pow-pos k) (rw (pow-suc 2 k) at h) (fits-says s m (negsuc k) f .0))
   where
     clash : (p : ℕ) → 0 < p → 4503599627370496 * (p * 2) ≤ m * 1 → m < 9007199254740992 → ⊥
     clash p P l g = omega arith
@@ -121,16 +137,20 @@ either-sign s (suc m) e t = t
 pub record Halved (x a : Float) : Type 0 where
   pub asked : Asked (mul binary64 a two)
   pub few : {t : ℕ} → t ≡ toUnsigned 64 (mul binary64 a two) → t < 2 ^ 53
-  pub minus : {t : ℕ} {r : Float} → t ≡ toUnsigned 64 (mul binary64 a two) → r ≡ ofInt binary64 (pos ((t + 1) / 2)) → negative x ≡ true → neg r ≡ rounded x
-  pub plus : {t : ℕ} {r : Float} → t ≡ toUnsigned 64 (mul binary64 a two) → r ≡ ofInt binary64 (pos ((t + 1) / 2)) → negative x ≡ false → r ≡ rounded x
+  pub minus : {t : ℕ} {r : Float} → t ≡ toUnsigned 64 (mul binary64 a two) → r ≡ ofInt binary64 (pos ((t + 1) / 2)) →
+      negative x ≡ true → neg r ≡ rounded x
+  pub plus : {t : ℕ} {r : Float} → t ≡ toUnsigned 64 (mul binary64 a two) → r ≡ ofInt binary64 (pos ((t + 1) / 2)) →
+      negative x ≡ false → r ≡ rounded x
 
 -- the nearest whole number with the sign of the value
-round-minus : (s : Bool) (m : ℕ) (e : ℤ) → negative (fin s m e) ≡ true → neg (ofInt binary64 (pos (near (m * up e) (down e)))) ≡ rounded (fin s m e)
+round-minus : (s : Bool) (m : ℕ) (e : ℤ) → negative (fin s m e) ≡ true →
+    neg (ofInt binary64 (pos (near (m * up e) (down e)))) ≡ rounded (fin s m e)
 unfolding negative rounded ofInt
 round-minus true m e p = neg-round binary64 (near (m * up e) (down e)) 1
 round-minus false m e p = absurd (true≢false (sym p))
 
-round-plus : (s : Bool) (m : ℕ) (e : ℤ) → negative (fin s m e) ≡ false → ofInt binary64 (pos (near (m * up e) (down e))) ≡ rounded (fin s m e)
+round-plus : (s : Bool) (m : ℕ) (e : ℤ) → negative (fin s m e) ≡ false →
+    ofInt binary64 (pos (near (m * up e) (down e))) ≡ rounded (fin s m e)
 unfolding negative rounded ofInt
 round-plus true m e p = absurd (true≢false p)
 round-plus false m e p = refl
@@ -146,7 +166,8 @@ halved (fin s m e) f h =
     let small = under-p52 m e h in
     let most : n * 2 < 2 ^ 53 * (d * 1) = tight n d small in
     let k : Part (mul binary64 (fin false m e) two) (n * 2 / (d * 1)) =
-    part-of (mul binary64 (fin false m e) two) (n * 2) (d * 1) D (twice-value m e (either-sign s m e f) small) (lt-of-lt-of-le most (mul-le-mul-right (d * 1) (lit≤ {m = 2 ^ 53} {n = 2 ^ 64} tt))) in
+    part-of (mul binary64 (fin false m e) two) (n * 2) (d * 1) D (twice-value m e (either-sign s m e f) small)
+    (lt-of-lt-of-le most (mul-le-mul-right (d * 1) (lit≤ {m = 2 ^ 53} {n = 2 ^ 64} tt))) in
     let half : (n * 2 / (d * 1) + 1) / 2 ≡ near n d = rw mul-one (near-is n d (down-pos e)) in
     record {
       asked = k .0;
@@ -169,7 +190,8 @@ large-rounded : (x : Float) → T (fits binary64 x) → lt (absolute x) p52 ≡ 
 unfolding absolute rounded
 large-rounded nan f h = refl
 large-rounded (inf s) f h = refl
-large-rounded (fin s m e) f h = large s m e (near (m * up e) (down e)) f (from-p52 m e h) (whole-near (m * up e) (down e))
+large-rounded (fin s m e) f h =
+    large s m e (near (m * up e) (down e)) f (from-p52 m e h) (whole-near (m * up e) (down e))
 
 pub round-large : (x : Float) {a : Float} → fits binary64 x ≡ true → a ≡ absolute x → lt a p52 ≡ false → x ≡ rounded x
 round-large x f p h = large-rounded x (rw f tt) (rw p at h)
@@ -178,9 +200,12 @@ round-large x f p h = large-rounded x (rw f tt) (rw p at h)
 pub record Cuts (x a : Float) : Type 0 where
   pub asked : Asked a
   pub few : {t : ℕ} → t ≡ toUnsigned 64 a → t < 2 ^ 52
-  pub minus : {t : ℕ} {r : Float} → t ≡ toUnsigned 64 a → r ≡ ofInt binary64 (pos t) → negative x ≡ true → neg r ≡ ceiled x
-  pub same : {t : ℕ} {r : Float} → t ≡ toUnsigned 64 a → r ≡ ofInt binary64 (pos t) → negative x ≡ false → lt r x ≡ false → r ≡ ceiled x
-  pub more : {t : ℕ} {r : Float} → t ≡ toUnsigned 64 a → r ≡ ofInt binary64 (pos t) → negative x ≡ false → lt r x ≡ true → ofInt binary64 (pos (t + 1)) ≡ ceiled x
+  pub minus : {t : ℕ} {r : Float} → t ≡ toUnsigned 64 a → r ≡ ofInt binary64 (pos t) → negative x ≡ true →
+      neg r ≡ ceiled x
+  pub same : {t : ℕ} {r : Float} → t ≡ toUnsigned 64 a → r ≡ ofInt binary64 (pos t) → negative x ≡ false →
+      lt r x ≡ false → r ≡ ceiled x
+  pub more : {t : ℕ} {r : Float} → t ≡ toUnsigned 64 a → r ≡ ofInt binary64 (pos t) → negative x ≡ false →
+      lt r x ≡ true → ofInt binary64 (pos (t + 1)) ≡ ceiled x
 
 -- m * 2 ^ e cut to a whole number, as a float
 abbrev whole : ℕ → ℤ → Float
@@ -193,21 +218,26 @@ ceil-minus true m e p = neg-round binary64 (m * up e / down e) 1
 ceil-minus false m e p = absurd (true≢false (sym p))
 
 -- of another one nothing is added where it is not above its whole part, and one where it is
-ceil-test : (m : ℕ) (e : ℤ) → T (fits binary64 (fin false m e)) → lt (whole m e) (fin false m e) ≡ ltb (m * up e / down e * down e) (m * up e)
+ceil-test : (m : ℕ) (e : ℤ) → T (fits binary64 (fin false m e)) →
+    lt (whole m e) (fin false m e) ≡ ltb (m * up e / down e * down e) (m * up e)
 ceil-test m e f = whole-lt m e (m * up e / down e) (whole m e) (back-pos false m e f)
 
-ceil-same : (s : Bool) (m : ℕ) (e : ℤ) → T (fits binary64 (fin s m e)) → negative (fin s m e) ≡ false → lt (whole m e) (fin s m e) ≡ false → whole m e ≡ ceiled (fin s m e)
+ceil-same : (s : Bool) (m : ℕ) (e : ℤ) → T (fits binary64 (fin s m e)) → negative (fin s m e) ≡ false →
+    lt (whole m e) (fin s m e) ≡ false → whole m e ≡ ceiled (fin s m e)
 unfolding negative ceiled
 ceil-same true m e f p h = absurd (true≢false p)
 ceil-same false m e f p h =
-    let none : m * up e ≤ m * up e / down e * down e = ltb-false (m * up e / down e * down e) (m * up e) (sym (ceil-test m e f) ∙ h) in
+    let none : m * up e ≤ m * up e / down e * down e =
+    ltb-false (m * up e / down e * down e) (m * up e) (sym (ceil-test m e f) ∙ h) in
     rw (over-same (m * up e) (down e) none) (unfold ofInt in refl)
 
-ceil-more : (s : Bool) (m : ℕ) (e : ℤ) → T (fits binary64 (fin s m e)) → negative (fin s m e) ≡ false → lt (whole m e) (fin s m e) ≡ true → ofInt binary64 (pos (m * up e / down e + 1)) ≡ ceiled (fin s m e)
+ceil-more : (s : Bool) (m : ℕ) (e : ℤ) → T (fits binary64 (fin s m e)) → negative (fin s m e) ≡ false →
+    lt (whole m e) (fin s m e) ≡ true → ofInt binary64 (pos (m * up e / down e + 1)) ≡ ceiled (fin s m e)
 unfolding negative ceiled
 ceil-more true m e f p h = absurd (true≢false p)
 ceil-more false m e f p h =
-    let some : m * up e / down e * down e < m * up e = ltb-true (m * up e / down e * down e) (m * up e) (sym (ceil-test m e f) ∙ h) in
+    let some : m * up e / down e * down e < m * up e =
+    ltb-true (m * up e / down e * down e) (m * up e) (sym (ceil-test m e f) ∙ h) in
     rw (over-more (m * up e) (down e) some, add-one) (unfold ofInt in refl)
 
 cuts : (x : Float) → T (fits binary64 x) → lt (absolute x) p52 ≡ true → Cuts x (absolute x)
@@ -218,7 +248,9 @@ cuts (fin s m e) f h =
     let n = m * up e in
     let d = down e in
     let small = under-p52 m e h in
-    let k : Part (fin false m e) (n / d) = part-of (fin false m e) n d (down-pos e) (refl, refl) (lt-of-lt-of-le small (mul-le-mul-right d (lit≤ {m = 2 ^ 52} {n = 2 ^ 64} tt))) in
+    let k : Part (fin false m e) (n / d) =
+    part-of (fin false m e) n d (down-pos e) (refl, refl)
+    (lt-of-lt-of-le small (mul-le-mul-right d (lit≤ {m = 2 ^ 52} {n = 2 ^ 64} tt))) in
     record {
       asked = k .0;
       few = λ p. rw (p, k .1) (div-lt-iff-lt-mul (down-pos e) .1 small);
@@ -241,8 +273,10 @@ large-ceiled : (x : Float) → T (fits binary64 x) → lt (absolute x) p52 ≡ f
 unfolding absolute ceiled
 large-ceiled nan f h = refl
 large-ceiled (inf s) f h = refl
-large-ceiled (fin true m e) f h = large true m e (under (m * up e) (down e)) f (from-p52 m e h) (under-one (m * up e) (down e))
-large-ceiled (fin false m e) f h = large false m e (over (m * up e) (down e)) f (from-p52 m e h) (over-one (m * up e) (down e))
+large-ceiled (fin true m e) f h =
+    large true m e (under (m * up e) (down e)) f (from-p52 m e h) (under-one (m * up e) (down e))
+large-ceiled (fin false m e) f h =
+    large false m e (over (m * up e) (down e)) f (from-p52 m e h) (over-one (m * up e) (down e))
 
 pub ceil-large : (x : Float) {a : Float} → fits binary64 x ≡ true → a ≡ absolute x → lt a p52 ≡ false → x ≡ ceiled x
 ceil-large x f p h = large-ceiled x (rw f tt) (rw p at h)

@@ -1,4 +1,5 @@
--- What `round` of lib.Ieee gives has the sign it was handed and, with another sign, the same size: the sign is only passed on.
+-- What `round` of lib.Ieee gives has the sign it was handed and, with another sign, the same size:
+-- the sign is only passed on.
 use mathlib.Core.Path.{_≡_, refl}
 use Prim.Native.Nat.{ℕ, zero, suc, _+_, _*_, _^_}
 use mathlib.Core.Bool.{Bool, true, false, cond}
@@ -9,7 +10,8 @@ use lib.Ieee.Fits.{round-is}
 use Rattle.float.specs.Sign.{absolute}
 
 -- P holds of the two results where it holds of any two values of one size, and of the two infinities
-module _ (P : Float → Float → Type 0) (s t : Bool) (same : (m : ℕ) (e : ℤ) → P (fin s m e) (fin t m e)) (ends : P (inf s) (inf t)) where
+module _ (P : Float → Float → Type 0) (s t : Bool) (same : (m : ℕ) (e : ℤ) → P (fin s m e) (fin t m e))
+    (ends : P (inf s) (inf t)) where
   odd-both : (d q k l : ℕ) → P (odd d s q k l) (odd d t q k l)
   unfolding odd
   odd-both d zero k l = same zero (pos zero)
@@ -19,7 +21,8 @@ module _ (P : Float → Float → Type 0) (s t : Bool) (same : (m : ℕ) (e : �
   unfolding units
   units-both f q k = go (ltb (q * 2 ^ k) (2 ^ (low f + suc (emax f))))
     where
-      go : (b : Bool) → P (cond b (odd (suc (prec f)) s q k (low f)) (inf s)) (cond b (odd (suc (prec f)) t q k (low f)) (inf t))
+      go : (b : Bool) →
+          P (cond b (odd (suc (prec f)) s q k (low f)) (inf s)) (cond b (odd (suc (prec f)) t q k (low f)) (inf t))
       go true = odd-both (suc (prec f)) q k (low f)
       go false = ends
 

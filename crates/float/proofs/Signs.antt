@@ -1,5 +1,5 @@
--- What the tests of `is_negative`, `abs` and `is_finite` say: below 0 the sign is negative, above it is not, and 1 divided by a zero is the infinity of its sign.
---
+-- What the tests of `is_negative`, `abs` and `is_finite` say: below 0 the sign is negative, above it is not, and 1
+-- divided by a zero is the infinity of its sign.
 use mathlib.Core.Path.{_≡_, refl, sym, _∙_}
 use Prim.Native.Nat.{ℕ, zero, suc, _*_}
 use native.Mathlib.Nat.{mul-pos, zero-mul, zero-lt-suc}
@@ -40,7 +40,8 @@ zero-sign nan h = refl
 zero-sign (inf s) h = absurd (true≢false (sym h))
 zero-sign (fin true zero e) h = refl
 zero-sign (fin false zero e) h = refl
-zero-sign (fin s (suc m) e) h = absurd (not-zero m e (level-zero (suc m * up e * 1) (0 * down e) _ (zero-mul (down e)) h))
+zero-sign (fin s (suc m) e) h =
+    absurd (not-zero m e (level-zero (suc m * up e * 1) (0 * down e) _ (zero-mul (down e)) h))
 
 pub not-below : (x : Float) → lt x zero64 ≡ false → eq x zero64 ≡ false → negative x ≡ false
 unfolding lt eq le negative ofBits isNan

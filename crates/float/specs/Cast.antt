@@ -1,9 +1,9 @@
--- A whole number as an f64. (An f64 as a whole number is `toUnsigned 64` of lib.Ieee.)
+-- Rules 12.4: a whole number as an f64. (An f64 as a whole number, `to_usize`, is `toUnsigned 64` of lib.Ieee.)
 use Prim.Native.Nat.{ℕ}
 use lib.IntN.{ℤ, pos, negsuc}
 use lib.Ieee.{Float, binary64, ofInt}
 
--- n as an f64
+-- `to_f64`: the f64 nearest to n
 unfoldable pub natFloat : ℕ → Float
 natFloat n = ofInt binary64 (pos n)
 

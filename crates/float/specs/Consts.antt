@@ -1,14 +1,15 @@
--- The constants of 01, by their bits.
+-- Rules 1.3: EPS, TAU and SQRT_2 by their bits, and after them three values that other definitions use.
 use lib.Ieee.{Float, binary64, ofBits}
 
--- "EPS is the f64 nearest to 10^-9"
+-- EPS: no f64 is nearer to 10^-9
 unfoldable pub eps : Float
 eps = ofBits binary64 0x3E112E0BE826D695
 
--- "TAU and SQRT_2 have the bits 401921FB54442D18 and 3FF6A09E667F3BCD (hexadecimal)"
+-- TAU, a full turn
 unfoldable pub tau : Float
 tau = ofBits binary64 0x401921FB54442D18
 
+-- SQRT_2, the root of 2
 unfoldable pub sqrt2 : Float
 sqrt2 = ofBits binary64 0x3FF6A09E667F3BCD
 

@@ -1,4 +1,4 @@
--- The definitions that the contracts of this crate cite.
+-- Open calls cite Consts, Sign, Order, Whole and Cast. Table has known results, and no contract cites it.
 pub mod Consts
 pub mod Sign
 pub mod Order

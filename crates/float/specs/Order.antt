@@ -1,29 +1,29 @@
--- The larger of two values, a value between two ends, and IEEE 754's totalOrder.
+-- Rules 12.3 and 12.2: the larger of two values, a value between two ends, and IEEE 754's totalOrder.
 use mathlib.Core.Bool.{Bool, true, false, cond}
 use lib.Ieee.{Float, nan, inf, fin, lt}
 use Rattle.float.specs.Sign.{negative}
 use Rattle.float.specs.declared.order.Ordering.{Ordering}
 use Rattle.float.specs.declared.order.Ordering.the-variants.{Less, Equal, Greater}
 
--- the larger; where one is `nan` the other; the first of two that are equal, which fixes the sign of a zero
+-- `max`: the larger; where one is `nan` the other; the first of two that are equal, which fixes the sign of a zero
 unfoldable pub larger : Float → Float → Float
 larger nan y = y
 larger (inf s) y = cond (lt (inf s) y) y (inf s)
 larger (fin s m e) y = cond (lt (fin s m e) y) y (fin s m e)
 
--- x where it is neither below lo nor above hi: so -0 stays -0 between 0 and 1, and `nan` stays `nan`
+-- `clamp`: x where it is neither below lo nor above hi, so that -0 stays -0 between 0 and 1, and `nan` stays `nan`
 unfoldable pub clamped : Float → Float → Float → Float
 clamped x lo hi =
     let y = cond (lt x lo) lo x in
     cond (lt hi y) hi y
 
--- of two values neither of which is less: -0 precedes +0
+-- two values neither of which is less, by sign: -0 comes before +0
 abbrev pub signOrder : Bool → Bool → Ordering
 signOrder true true = Equal
 signOrder true false = Less
 signOrder false true = Greater
 signOrder false false = Equal
 
--- "IEEE 754 totalOrder, so −0 precedes +0", for values that are no `nan`, in the order of its clauses: less, greater, then the zeros by sign
+-- `total_cmp`, for values that are no `nan`: by value, and where neither is less by sign
 unfoldable pub totalOrder : Float → Float → Ordering
 totalOrder x y = cond (lt x y) Less (cond (lt y x) Greater (signOrder (negative x) (negative y)))

@@ -1,4 +1,4 @@
--- The sign and the magnitude of a value of lib.Ieee: `nan`, an infinity or `fin s m e`.
+-- Rules 12.1: the sign and the magnitude of a value of lib.Ieee, which is `nan`, an infinity or `fin s m e`.
 use mathlib.Core.Bool.{Bool, true, false}
 use lib.Ieee.{Float, nan, inf, fin, le}
 
@@ -8,18 +8,18 @@ negative nan = false
 negative (inf s) = s
 negative (fin s m e) = s
 
--- the value without its sign
+-- `abs`: the value without its sign
 unfoldable pub absolute : Float → Float
 absolute nan = nan
 absolute (inf s) = inf false
 absolute (fin s m e) = fin false m e
 
--- neither `nan` nor an infinity
+-- `is_finite`: neither `nan` nor an infinity
 unfoldable pub isFinite : Float → Bool
 isFinite nan = false
 isFinite (inf s) = false
 isFinite (fin s m e) = true
 
--- at most `top` in magnitude, and no `nan`
+-- `at_most`: no `nan`, and in magnitude not above `top`
 abbrev pub atMost : Float → Float → Bool
 atMost x top = le (absolute x) top

@@ -1,4 +1,4 @@
--- Known results of the helpers, by computation.
+-- Rules 12 on single values, by computation.
 use mathlib.Core.Path.{_≡_, refl}
 use mathlib.Core.Bool.{Bool, true}
 use lib.IntN.{pos, negsuc}
@@ -12,10 +12,11 @@ use Rattle.float.specs.declared.order.Ordering.the-variants.{Less, Great
 
 -- `unfolding computed` opens every definition of this crate and of lib.Ieee that a closed result needs
 unfoldable pub computed : Bool
-unfolding rounded ceiled floorZ ceilZ clamped absolute totalOrder negative larger eps tau sqrt2 natFloat ofBits ofInt toUnsigned neg lt le eq add sub round
+unfolding rounded ceiled floorZ ceilZ clamped absolute totalOrder negative larger eps tau sqrt2 natFloat
+    ofBits ofInt toUnsigned neg lt le eq add sub round
 computed = true
 
--- "−0.25 gives −1"
+-- the floor of −0.25 is −1 (Rules 6.3), and its ceiling is 0
 floor-quarter : floorZ (ofBits binary64 0xBFD0000000000000) ≡ negsuc 0
 unfolding computed
 floor-quarter = refl
@@ -24,7 +25,7 @@ ceil-quarter : ceilZ (ofBits binary64 0xBFD0000000000000) ≡ pos 0
 unfolding computed
 ceil-quarter = refl
 
--- "−0 precedes +0", and not the other way
+-- 12.2: −0 comes before +0, and +0 after −0
 zeros : totalOrder (ofBits binary64 0x8000000000000000) (ofBits binary64 0) ≡ Less
 unfolding computed
 zeros = refl
@@ -33,12 +34,13 @@ zeros-back : totalOrder (ofBits binary64 0) (ofBits binary64 0x8000000000000000)
 unfolding computed
 zeros-back = refl
 
--- "clamp keeps −0"
-keeps : clamped (ofBits binary64 0x8000000000000000) (ofBits binary64 0) (ofBits binary64 0x3FF0000000000000) ≡ ofBits binary64 0x8000000000000000
+-- 12.3: between 0 and 1, −0 stays as it is
+keeps : clamped (ofBits binary64 0x8000000000000000) (ofBits binary64 0) (ofBits binary64 0x3FF0000000000000)
+    ≡ ofBits binary64 0x8000000000000000
 unfolding computed
 keeps = refl
 
--- a half goes away from zero, and a zero keeps its sign
+-- 12.4: a half goes away from zero, and a zero keeps its sign
 round-half : rounded (ofBits binary64 0xBFE0000000000000) ≡ ofBits binary64 0xBFF0000000000000
 unfolding computed
 round-half = refl

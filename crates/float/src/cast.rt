@@ -1,4 +1,4 @@
-// Casts between f64 and whole numbers with Rust's meaning of `as`.
+// Rules 12.4: casts between f64 and whole numbers, with Rust's meaning of `as`.
 ghost use mathlib.Core.Path.{_≡_};
 ghost use lib.Ieee.{toUnsigned};
 ghost use Rattle.float.specs.Cast.{natFloat};

@@ -1,4 +1,4 @@
-// The constants of 01. The decimal text of each is the shortest that names its bits (specs/Consts.antt).
+// Rules 1.3: the constants. The decimal text of each is the shortest that names its bits (specs/Consts.antt).
 
 // The f64 nearest to 10^-9.
 pub const EPS: f64 = 1e-9;

@@ -1,4 +1,4 @@
-// The larger of two, a value between two ends, and the order of `total_cmp`.
+// Rules 12.2 and 12.3: the larger of two, a value between two ends, and the order of `total_cmp`.
 ghost use mathlib.Core.Path.{_≡_};
 ghost use Rattle.float.specs.Order.{larger, clamped, totalOrder};
 
@@ -27,7 +27,7 @@ pub fn clamp(x: f64, lo: f64, hi: f64) -> f64
     }
 }
 
-// IEEE 754's totalOrder on values that are no NaN: less, greater, then the zeros by sign.
+// IEEE 754's totalOrder on values that are no NaN: by value, and where neither is less by sign.
 pub fn total_cmp(x: f64, y: f64) -> Ordering
     ensures { λ r. ⌜ r ≡ totalOrder x y ⌝ }
 {

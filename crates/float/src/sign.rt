@@ -1,4 +1,4 @@
-// The sign and the magnitude.
+// Rules 12.1: the sign and the magnitude.
 ghost use mathlib.Core.Path.{_≡_};
 ghost use Rattle.float.specs.Sign.{negative, absolute, isFinite, atMost};
 

@@ -1,4 +1,4 @@
-// floor, ceil and round.
+// Rules 12.4: floor, ceil and round.
 ghost use mathlib.Core.Path.{_≡_};
 ghost use Rattle.float.specs.Whole.{floorZ, ceilZ, rounded, ceiled};
 

@@ -1,4 +1,5 @@
--- What a grid that passes its tests is known by, and where its points stand: callers use these and open no definition of specs/Grid.antt.
+-- What a grid that passes its tests is known by, and where its points stand: callers use these and open no
+-- definition of specs/Grid.antt.
 use Prim.Native.Nat.{ℕ, zero, suc, _+_, _*_, _/_, _%_, _≤_, _<_}
 use native.Mathlib.Nat.{mul-le-mul}
 use native.Mathlib.Omega.{arith}
@@ -47,7 +48,13 @@ steps-known m n h =
     let bn = and-both (leb 1 n) (leb n 255) (b .1) in
     let hm = leb-true m 255 (bm .1) in
     let hn = leb-true n 255 (bn .1) in
-    record { m-least = leb-true 1 m (bm .0); m-most = hm; n-least = leb-true 1 n (bn .0); n-most = hn; points = points-most m n hm hn }
+    record {
+      m-least = leb-true 1 m (bm .0);
+      m-most = hm;
+      n-least = leb-true 1 n (bn .0);
+      n-most = hn;
+      points = points-most m n hm hn;
+    }
 
 -- The tests of a grid
 
@@ -57,7 +64,8 @@ pub record Passing (g : List Float) (m n : ℕ) (between : Check) : Type 0 where
   pub own : between ≡ Passed
   pub coordinates : coordinatesFit g ≡ true
 
-pub grid-passed : (g : List Float) (m n : ℕ) (between : Check) → gridCheck g m n between ≡ Passed → Passing g m n between
+pub grid-passed : (g : List Float) (m n : ℕ) (between : Check) → gridCheck g m n between ≡ Passed →
+    Passing g m n between
 unfolding gridCheck
 grid-passed g m n between h =
     let last = unless (coordinatesFit g) Coordinate Passed in
@@ -78,25 +86,30 @@ pub accepted-known : (g : List Float) (m n : ℕ) → Accepted g m n → Shaped 
 accepted-known g m n h = grid-passed g m n Passed h .shaped
 
 -- 1 comes first, whatever the call itself tests
-pub steps-refused : (g : List Float) (m n : ℕ) (between : Check) → stepsFit m n ≡ false → gridCheck g m n between ≡ Failed Steps
+pub steps-refused : (g : List Float) (m n : ℕ) (between : Check) → stepsFit m n ≡ false →
+    gridCheck g m n between ≡ Failed Steps
 unfolding gridCheck
 steps-refused g m n between h = rw h
 
 -- Coordinates
 
 -- from place i on they fit where the coordinate at i fits and those from i + 1 on do
-pub coordinates-step : (g : List Float) (i : ℕ) (d : Float) → i < length g → coordinatesFit (drop i g) ≡ (atMost (getD g i d) maxCoordinate && coordinatesFit (drop (i + 1) g))
+pub coordinates-step : (g : List Float) (i : ℕ) (d : Float) → i < length g →
+    coordinatesFit (drop i g) ≡ (atMost (getD g i d) maxCoordinate && coordinatesFit (drop (i + 1) g))
 unfolding coordinatesFit
 coordinates-step g i d h = rw (add-one, drop-cons g i d)
 
 -- each coordinate is at most 2^40 in magnitude, and so it is finite
-pub coordinate-fits : (g : List Float) (i : ℕ) (d : Float) → coordinatesFit g ≡ true → i < length g → atMost (getD g i d) maxCoordinate ≡ true
+pub coordinate-fits : (g : List Float) (i : ℕ) (d : Float) → coordinatesFit g ≡ true → i < length g →
+    atMost (getD g i d) maxCoordinate ≡ true
 unfolding coordinatesFit
 coordinate-fits [] i d h l = absurd (omega arith)
 coordinate-fits (x ∷ xs) zero d h l = and-both (atMost x maxCoordinate) (coordinatesFit xs) h .0
-coordinate-fits (x ∷ xs) (suc i) d h l = coordinate-fits xs i d (and-both (atMost x maxCoordinate) (coordinatesFit xs) h .1) (omega arith)
+coordinate-fits (x ∷ xs) (suc i) d h l =
+    coordinate-fits xs i d (and-both (atMost x maxCoordinate) (coordinatesFit xs) h .1) (omega arith)
 
-pub coordinate-finite : (g : List Float) (i : ℕ) (d : Float) → coordinatesFit g ≡ true → i < length g → isFinite (getD g i d) ≡ true
+pub coordinate-finite : (g : List Float) (i : ℕ) (d : Float) → coordinatesFit g ≡ true → i < length g →
+    isFinite (getD g i d) ≡ true
 unfolding isFinite ofBits
 coordinate-finite g i d h l = at-most-finite (getD g i d) maxCoordinate refl (coordinate-fits g i d h l)
 

@@ -1,2 +1,2 @@
--- The definitions that the contracts of this crate cite.
+-- Every open call that takes a grid cites Grid.
 pub mod Grid

@@ -1,11 +1,11 @@
-// The grid: one list of f64, three per point (x, y, z), in number order. Point numbers, reading a point, and the
-// refusals of a grid, once for every call that takes one.
+// Rules 1.1 and 1.2: a grid's points by number, read from its list, and refusals 1, 2 and 4 of a grid, once for every
+// call that takes one.
 use refusal::Check;
 use refusal::Refusal;
 use vector::Vector;
 ghost use mathlib.Core.Path.{_≡_};
-ghost use Prim.Native.Nat.{_+_, _*_, _≤_};
 ghost use lib.ListN.{length};
+ghost use Prim.Native.Nat.{_+_, _*_, _≤_};
 ghost use Rattle.grid.specs.Grid.{pointNumber, pointAt, stepsFit, coordinatesFit, gridCheck};
 
 // M and N are at most this.
@@ -34,7 +34,7 @@ pub fn point_at(points: &[f64], i: usize) -> Vector
     }
 }
 
-// Whether every coordinate is finite and at most 2^40 in magnitude. A grid rarely fails, so no test ends the loop early.
+// Whether every coordinate is a number within ±2^40. A grid rarely fails, so no test ends the loop early.
 pub fn coordinates_fit(points: &[f64]) -> bool
     ensures { λ r. ⌜ r ≡ coordinatesFit (now (points .entry)) ⌝ }
 {

@@ -1,5 +1,5 @@
--- Lists that a caller lends for output: what stands in them after a call, over any element and its zero; and one way to say what a call answers and what
--- its lists hold afterwards.
+-- Rules 8: lists that a caller lends for output, over any element and its zero. Whether they have room, what stands in
+-- them after a call, and one way to say what a call answers and what its lists hold afterwards.
 use Prim.Native.Nat.{ℕ, _-_}
 use mathlib.Core.Bool.{_&&_}
 use mathlib.Core.List.{List, _++_}
@@ -10,11 +10,11 @@ use Rattle.refusal.specs.declared.Check.the-variants.{Passed, Failed}
 use Rattle.refusal.specs.declared.Refusal.the-variants.{Room}
 use Rattle.refusal.specs.Refusals.{Answer, refused, numberOf, unless}
 
--- refusal 3 of two lent lists: each has at least what the call may write into it, counted in numbers
+-- refusal 3 (Rules 11.1) of two lent lists: passed if each has at least as many numbers as the call may write into it
 abbrev pub roomCheck : ℕ → ℕ → ℕ → ℕ → Check
 roomCheck need have need′ have′ = unless (leb need have && leb need′ have′) Room Passed
 
--- a lent list after a call that wrote these contents into it: zero in every place past them
+-- Rules 8.2: a lent list after a call that wrote these contents into it, and zero in every place past them
 abbrev pub filled : {A : Type 0} → A → List A → List A → List A
 filled z contents lent = contents ++ replicate (length lent - length contents) z
 
@@ -34,7 +34,7 @@ afterwards a l = record { answer = a; lists = l }
 abbrev pub answering : {A B L : Type 0} → (A → B) → Afterwards A L → Afterwards B L
 answering f t = afterwards (f (t .answer)) (t .lists)
 
--- a call whose tests refuse leaves the lists as they were lent
+-- Rules 8.3: a call whose tests refuse leaves the lists as they were lent
 abbrev pub ifPassed : {A L : Type 0} → Check → L → Afterwards (Answer A) L → Afterwards (Answer A) L
 ifPassed Passed lent t = t
 ifPassed (Failed k) lent t = afterwards (refused (numberOf k)) lent

@@ -1,2 +1,2 @@
--- The definitions that the contracts of every call with lent lists cite.
+-- Every open call with lent lists cites Lent; of it `roomCheck` and `zeroedFrom` serve inner contracts only.
 pub mod Lent

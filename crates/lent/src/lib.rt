@@ -1,4 +1,5 @@
-// Lists that a caller lends for output: whether they have room, and zero in every place past what a call writes.
+// Rules 8: lists that a caller lends for output. Whether they have room, and zero in every
+// place past what a call writes.
 use refusal::Check;
 use refusal::Refusal;
 ghost use mathlib.Core.Path.{_≡_};

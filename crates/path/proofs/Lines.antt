@@ -1,5 +1,5 @@
--- The lines of a grid are runs, since grid points that follow each other along u have numbers N+1 apart and along v one apart; so what
--- the loops store is what `gridPaths` says.
+-- The lines of a grid are runs, since grid points that follow each other along u have numbers N+1 apart and along v one
+-- apart; so what the loops store is what `gridPaths` says.
 use Prim.Native.Nat.{ℕ, zero, suc, _+_, _*_, _≤_}
 use native.Mathlib.Nat.{suc-mul}
 use native.Mathlib.Omega.{arith}
@@ -15,7 +15,8 @@ use Rattle.vector.specs.declared.Vector.{Vector}
 use Rattle.grid.specs.Grid.{pointNumber, pointAt}
 use Rattle.path.specs.GridPaths.{counting, alongU, alongV, gridLines, coordinates, startsFrom}
 use Rattle.path.specs.Runs.{run, runs, spaced}
-use Rattle.path.proofs.Stores.{sets-append, length-coordinates, coordinates-append, flatten-append, length-flatten-runs, length-run, length-spaced}
+use Rattle.path.proofs.Stores.{sets-append, length-coordinates, coordinates-append, flatten-append}
+use Rattle.path.proofs.Stores.{length-flatten-runs, length-run, length-spaced}
 
 -- A line is a run
 
@@ -27,7 +28,8 @@ module _ (g : List Float) (number : ℕ → ℕ) (step : ℕ) (next : (k : ℕ) 
   points-run k (suc c) = rw (points-run (suc k) c, next k)
 
 -- lines that are runs, and whose first numbers are apart from each other, are runs one after the other
-module _ (g : List Float) (line : ℕ → List Vector) (number : ℕ → ℕ) (apart step count : ℕ) (each : (k : ℕ) → line k ≡ run g (number k) step count) (next : (k : ℕ) → number (suc k) ≡ number k + apart) where
+module _ (g : List Float) (line : ℕ → List Vector) (number : ℕ → ℕ) (apart step count : ℕ)
+    (each : (k : ℕ) → line k ≡ run g (number k) step count) (next : (k : ℕ) → number (suc k) ≡ number k + apart) where
   lines-runs : (k c : ℕ) → map line (counting k c) ≡ runs g (number k) apart step count c
   unfolding counting runs
   lines-runs k zero = refl
@@ -38,7 +40,12 @@ unfolding alongU
 along-u g m n v =
     let first : pointNumber n 0 v ≡ v = omega arith in
     let count : suc m ≡ m + 1 = omega arith in
-    rw (points-run g (λ (u : ℕ). pointNumber n u v) (n + 1) (λ k. omega (arith, suc-mul k (n + 1))) 0 (suc m), first, count)
+    rw (
+      points-run g (λ (u : ℕ). pointNumber n u v) (n + 1) (λ k. omega (arith, suc-mul k (n + 1))) 0
+          (suc m),
+      first,
+      count,
+    )
 
 along-v : (g : List Float) (m n u : ℕ) → alongV g m n u ≡ run g (u * (n + 1)) 1 (n + 1)
 unfolding alongV
@@ -47,14 +54,18 @@ along-v g m n u =
     let count : suc n ≡ n + 1 = omega arith in
     rw (points-run g (pointNumber n u) 1 (λ k. omega arith) 0 (suc n), first, count)
 
-pub grid-lines : (g : List Float) (m n : ℕ) → gridLines g m n ≡ runs g 0 1 (n + 1) (m + 1) (n + 1) ++ runs g 0 (n + 1) 1 (n + 1) (m + 1)
+pub grid-lines : (g : List Float) (m n : ℕ) →
+    gridLines g m n ≡ runs g 0 1 (n + 1) (m + 1) (n + 1) ++ runs g 0 (n + 1) 1 (n + 1) (m + 1)
 unfolding gridLines
 grid-lines g m n =
     let m-one : suc m ≡ m + 1 = omega arith in
     let n-one : suc n ≡ n + 1 = omega arith in
     let z : 0 * (n + 1) ≡ 0 = omega arith in
-    let us = lines-runs g (alongU g m n) (λ (v : ℕ). v) 1 (n + 1) (m + 1) (along-u g m n) (λ k. omega arith) 0 (suc n) in
-    let vs = lines-runs g (alongV g m n) (λ (u : ℕ). u * (n + 1)) (n + 1) 1 (n + 1) (along-v g m n) (λ k. suc-mul k (n + 1)) 0 (suc m) in
+    let us =
+    lines-runs g (alongU g m n) (λ (v : ℕ). v) 1 (n + 1) (m + 1) (along-u g m n) (λ k. omega arith) 0 (suc n) in
+    let vs =
+    lines-runs g (alongV g m n) (λ (u : ℕ). u * (n + 1)) (n + 1) 1 (n + 1) (along-v g m n)
+    (λ k. suc-mul k (n + 1)) 0 (suc m) in
     rw (us, vs, m-one, n-one, z)
 
 -- Lists that are drawn one after the other
@@ -65,52 +76,64 @@ take-sets vs l h =
     rw (sets-eq, take-append-seam)
 
 -- two lists stored one after the other, and zero past them
-two-filled : {A : Type 0} (z : A) (l vs ws : List A) (j k : ℕ) → length vs ≡ j → length vs + length ws ≡ k → k ≤ length l →
+two-filled : {A : Type 0} (z : A) (l vs ws : List A) (j k : ℕ) → length vs ≡ j →
+    length vs + length ws ≡ k → k ≤ length l →
     {p q r : List A} → p ≡ sets l 0 vs → q ≡ sets p j ws → r ≡ zeroedFrom z k q → r ≡ filled z (vs ++ ws) l
 two-filled z l vs ws j k a b h ep eq er =
     let n : length (vs ++ ws) ≡ k = length-append vs ws ∙ b in
     let i : 0 + length vs ≡ j = omega arith in
     let s : sets (sets l 0 vs) j ws ≡ sets l 0 (vs ++ ws) = rw (sets-append, i) in
     let f : length (vs ++ ws) ≤ length l = omega arith in
-    rw (er, eq, ep, s, ← n) (zeroed-filled z (vs ++ ws) (sets l 0 (vs ++ ws)) l (length-sets l 0 (vs ++ ws)) (take-sets (vs ++ ws) l f))
+    rw (er, eq, ep, s, ← n)
+    (zeroed-filled z (vs ++ ws) (sets l 0 (vs ++ ws)) l (length-sets l 0 (vs ++ ws)) (take-sets (vs ++ ws) l f))
 
 -- Starts
 
-starts-append : (at : ℕ) (xs ys : List (List Vector)) → startsFrom at (xs ++ ys) ≡ startsFrom at xs ++ startsFrom (at + length (flatten xs)) ys
+starts-append : (at : ℕ) (xs ys : List (List Vector)) →
+    startsFrom at (xs ++ ys) ≡ startsFrom at xs ++ startsFrom (at + length (flatten xs)) ys
 unfolding startsFrom flatten
 starts-append at [] ys = let e : at + 0 ≡ at = omega arith in rw e
 starts-append at (x ∷ xs) ys =
-    let e : at + length x + length (flatten xs) ≡ at + length (x ++ flatten xs) = omega (arith, length-append x (flatten xs)) in
+    let e : at + length x + length (flatten xs) ≡ at + length (x ++ flatten xs) =
+    omega (arith, length-append x (flatten xs)) in
     rw (starts-append (at + length x) xs ys, e)
 
-starts-runs : (g : List Float) (at first apart step count lines : ℕ) → startsFrom at (runs g first apart step count lines) ≡ spaced at count lines
+starts-runs : (g : List Float) (at first apart step count lines : ℕ) →
+    startsFrom at (runs g first apart step count lines) ≡ spaced at count lines
 unfolding startsFrom runs spaced
 starts-runs g at first apart step count zero = refl
-starts-runs g at first apart step count (suc l) = rw (length-run g first step count, starts-runs g (at + count) (first + apart) apart step count l)
+starts-runs g at first apart step count (suc l) =
+    rw (length-run g first step count, starts-runs g (at + count) (first + apart) apart step count l)
 
-pub grid-starts : (g : List Float) (m n : ℕ) → startsFrom 0 (gridLines g m n) ≡ spaced 0 (m + 1) (n + 1) ++ spaced ((m + 1) * (n + 1)) (n + 1) (m + 1)
+pub grid-starts : (g : List Float) (m n : ℕ) →
+    startsFrom 0 (gridLines g m n) ≡ spaced 0 (m + 1) (n + 1) ++ spaced ((m + 1) * (n + 1)) (n + 1) (m + 1)
 grid-starts g m n =
-    let e : 0 + length (flatten (runs g 0 1 (n + 1) (m + 1) (n + 1))) ≡ (m + 1) * (n + 1) = omega (arith, length-flatten-runs g 0 1 (n + 1) (m + 1) (n + 1)) in
+    let e : 0 + length (flatten (runs g 0 1 (n + 1) (m + 1) (n + 1))) ≡ (m + 1) * (n + 1) =
+    omega (arith, length-flatten-runs g 0 1 (n + 1) (m + 1) (n + 1)) in
     rw (grid-lines, starts-append, e) (simp starts-runs)
 
 -- What the two drawing functions leave
 
 pub starts-drawn : (m n : ℕ) (l : List ℕ) → m + n + 2 ≤ length l →
-    {p q r : List ℕ} → p ≡ sets l 0 (spaced 0 (m + 1) (n + 1)) → q ≡ sets p (n + 1) (spaced ((m + 1) * (n + 1)) (n + 1) (m + 1)) → r ≡ zeroedFrom 0 (m + 1 + (n + 1)) q →
+    {p q r : List ℕ} → p ≡ sets l 0 (spaced 0 (m + 1) (n + 1)) → q
+    ≡ sets p (n + 1) (spaced ((m + 1) * (n + 1)) (n + 1) (m + 1)) → r ≡ zeroedFrom 0 (m + 1 + (n + 1)) q →
     r ≡ filled 0 (spaced 0 (m + 1) (n + 1) ++ spaced ((m + 1) * (n + 1)) (n + 1) (m + 1)) l
 starts-drawn m n l h =
     let us : List ℕ = spaced 0 (m + 1) (n + 1) in
     let vs : List ℕ = spaced ((m + 1) * (n + 1)) (n + 1) (m + 1) in
-    two-filled 0 l us vs (n + 1) (m + 1 + (n + 1)) (length-spaced 0 (m + 1) (n + 1)) (simp length-spaced (omega arith)) (omega arith)
+    two-filled 0 l us vs (n + 1) (m + 1 + (n + 1)) (length-spaced 0 (m + 1) (n + 1))
+    (simp length-spaced (omega arith)) (omega arith)
 
 pub points-drawn : (g : List Float) (m n : ℕ) (l : List Float) → 6 * ((m + 1) * (n + 1)) ≤ length l →
     {p q r : List Float} → p ≡ sets l 0 (coordinates (flatten (runs g 0 1 (n + 1) (m + 1) (n + 1)))) →
     q ≡ sets p (3 * ((m + 1) * (n + 1))) (coordinates (flatten (runs g 0 (n + 1) 1 (n + 1) (m + 1)))) →
-    r ≡ zeroedFrom zero64 (2 * (3 * ((m + 1) * (n + 1)))) q → r ≡ filled zero64 (coordinates (flatten (gridLines g m n))) l
+    r ≡ zeroedFrom zero64 (2 * (3 * ((m + 1) * (n + 1)))) q → r
+    ≡ filled zero64 (coordinates (flatten (gridLines g m n))) l
 points-drawn g m n l h ep eq er =
     let us : List Float = coordinates (flatten (runs g 0 1 (n + 1) (m + 1) (n + 1))) in
     let vs : List Float = coordinates (flatten (runs g 0 (n + 1) 1 (n + 1) (m + 1))) in
     let half : ℕ = 3 * ((m + 1) * (n + 1)) in
     let a : length us ≡ half = simp (length-coordinates, length-flatten-runs) (omega arith) in
     let b : length vs ≡ half = simp (length-coordinates, length-flatten-runs) (omega arith) in
-    rw (grid-lines, flatten-append, coordinates-append) (two-filled zero64 l us vs half (2 * half) a (omega arith) (omega arith) ep eq er)
+    rw (grid-lines, flatten-append, coordinates-append)
+    (two-filled zero64 l us vs half (2 * half) a (omega arith) (omega arith) ep eq er)

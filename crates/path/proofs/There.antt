@@ -27,7 +27,14 @@ module _ (points : List Float) (starts : List ℕ) (pointCount lineCount index :
 
   is-there : There points starts pointCount lineCount index → isThere points starts pointCount lineCount index ≡ true
   unfolding isThere
-  is-there t = rw (lt-ltb _ _ (t .below), le-leb _ _ (t .points-fit), le-leb _ _ (t .starts-fit), le-leb _ _ (t .ordered), le-leb _ _ (t .within))
+  is-there t =
+      rw (
+        lt-ltb _ _ (t .below),
+        le-leb _ _ (t .points-fit),
+        le-leb _ _ (t .starts-fit),
+        le-leb _ _ (t .ordered),
+        le-leb _ _ (t .within),
+      )
 
   there : isThere points starts pointCount lineCount index ≡ true → There points starts pointCount lineCount index
   unfolding isThere
@@ -40,14 +47,22 @@ module _ (points : List Float) (starts : List ℕ) (pointCount lineCount index :
       let b = and-both (p && q) (leb s e && leb e pointCount) (a .1) in
       let f = and-both p q (b .0) in
       let o = and-both (leb s e) (leb e pointCount) (b .1) in
-      record { below = ltb-true _ _ (a .0); points-fit = leb-true _ _ (f .0); starts-fit = leb-true _ _ (f .1); ordered = leb-true _ _ (o .0); within = leb-true _ _ (o .1) }
+      record {
+        below = ltb-true _ _ (a .0);
+        points-fit = leb-true _ _ (f .0);
+        starts-fit = leb-true _ _ (f .1);
+        ordered = leb-true _ _ (o .0);
+        within = leb-true _ _ (o .1);
+      }
 
   -- the span of a line that is there, and 8 for one that is not
-  pub span-there : There points starts pointCount lineCount index → lineSpan points starts pointCount lineCount index ≡ ok ends
+  pub span-there : There points starts pointCount lineCount index →
+      lineSpan points starts pointCount lineCount index ≡ ok ends
   unfolding lineSpan
   span-there t = rw (is-there t)
 
-  pub span-not : (There points starts pointCount lineCount index → ⊥) → lineSpan points starts pointCount lineCount index ≡ refused 8
+  pub span-not : (There points starts pointCount lineCount index → ⊥) →
+      lineSpan points starts pointCount lineCount index ≡ refused 8
   unfolding lineSpan
   span-not f = go (isThere points starts pointCount lineCount index) refl
     where
@@ -56,18 +71,22 @@ module _ (points : List Float) (starts : List ℕ) (pointCount lineCount index :
       go false e = refl
 
   -- an answer that is no refusal is of a line that is there
-  pub span-ok : {e : Ends} → ok e ≡ lineSpan points starts pointCount lineCount index → There points starts pointCount lineCount index
+  pub span-ok : {e : Ends} → ok e ≡ lineSpan points starts pointCount lineCount index →
+      There points starts pointCount lineCount index
   unfolding lineSpan
   span-ok {e} h = go (isThere points starts pointCount lineCount index) refl h
     where
-      go : (t : Bool) → isThere points starts pointCount lineCount index ≡ t → ok e ≡ cond t (ok ends) (refused 8) → There points starts pointCount lineCount index
+      go : (t : Bool) → isThere points starts pointCount lineCount index ≡ t → ok e ≡ cond t (ok ends) (refused 8) →
+          There points starts pointCount lineCount index
       go true q h = there q
       go false q h = let z : _≡_ {A = ℕ} 0 1 = cc in absurd (omega arith)
 
   -- where a line lies whose ends were answered
-  pub span-bounds : {r : LineAnswer} {s e : ℕ} → r ≡ Span s e → statedLine r ≡ lineSpan points starts pointCount lineCount index → (s ≤ e) × (3 * e ≤ length points)
+  pub span-bounds : {r : LineAnswer} {s e : ℕ} → r ≡ Span s e →
+      statedLine r ≡ lineSpan points starts pointCount lineCount index → (s ≤ e) × (3 * e ≤ length points)
   span-bounds {r} {s} {e} i h =
-      let answered : ok (record { start = s; end = e }) ≡ lineSpan points starts pointCount lineCount index = ap statedLine (sym i) ∙ h in
+      let answered : ok (record { start = s; end = e }) ≡ lineSpan points starts pointCount lineCount index =
+      ap statedLine (sym i) ∙ h in
       let t = span-ok answered in
       let same : record { start = s; end = e } ≡ ends = cc (span-there t) in
       let a : s ≡ lineStart starts index = ap (λ (x : Ends). x .start) same in
@@ -75,6 +94,7 @@ module _ (points : List Float) (starts : List ℕ) (pointCount lineCount index :
       (omega arith, omega arith)
 
   -- the part that an answer gives
-  pub part-is : {r q : LineAnswer} → r ≡ q → statedLine r ≡ lineSpan points starts pointCount lineCount index → partOf points (statedLine q) ≡ lineAt points starts pointCount lineCount index
+  pub part-is : {r q : LineAnswer} → r ≡ q → statedLine r ≡ lineSpan points starts pointCount lineCount index →
+      partOf points (statedLine q) ≡ lineAt points starts pointCount lineCount index
   unfolding lineAt
   part-is i h = rw (← i, h)

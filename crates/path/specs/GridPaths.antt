@@ -1,4 +1,4 @@
--- "Grid lines: N+1 lines along u, then M+1 along v, 2·(M+1)·(N+1) points, no closeness test."
+-- Rules 9.1: the grid lines, the lists and counts that `grid_paths` leaves, and its refusals.
 use Prim.Native.Nat.{ℕ, zero, suc, _+_, _*_}
 use mathlib.Core.Bool.{Bool, _&&_}
 use mathlib.Core.List.{List, [], _∷_, _++_, map, flatten}
@@ -16,7 +16,7 @@ use Rattle.grid.specs.Grid.{pointNumber, pointAt, gridCheck}
 use Rattle.path.specs.declared.GridPathsAnswer.{GridPathsAnswer}
 use Rattle.path.specs.declared.GridPathsAnswer.the-variants.{Drawn, Refused}
 
--- count numbers from k on, and 0 to n
+-- numbers one after the other: a count of them from k on, and those from 0 to n
 unfoldable pub counting : ℕ → ℕ → List ℕ
 counting k zero = []
 counting k (suc c) = k ∷ counting (suc k) c
@@ -32,32 +32,32 @@ alongU g m n v = map (λ (u : ℕ). pointAt g (pointNumber n u v)) (upTo m)
 unfoldable pub alongV : List Float → ℕ → ℕ → ℕ → List Vector
 alongV g m n u = map (λ (v : ℕ). pointAt g (pointNumber n u v)) (upTo n)
 
--- "N+1 lines along u, then M+1 along v"
+-- all lines: one along u for each v, and after them one along v for each u
 unfoldable pub gridLines : List Float → ℕ → ℕ → List (List Vector)
 gridLines g m n = map (alongU g m n) (upTo n) ++ map (alongV g m n) (upTo m)
 
--- "A point takes three f64": points as they stand in a list
+-- Rules 8.1: points as they stand in a list, x, y and z of each
 unfoldable pub coordinates : List Vector → List Float
 coordinates [] = []
 coordinates (p ∷ ps) = p .x ∷ p .y ∷ p .z ∷ coordinates ps
 
--- "line starts (point numbers)": of lines that follow each other from point number at on
+-- Rules 8.1: line starts, of lines that follow each other from point number at on
 unfoldable pub startsFrom : ℕ → List (List Vector) → List ℕ
 startsFrom at [] = []
 startsFrom at (l ∷ ls) = at ∷ startsFrom (at + length l) ls
 
--- "2·(M+1)·(N+1) points", and the lines N+1 and M+1
+-- the counts of points and of lines
 abbrev pub pointCount : ℕ → ℕ → ℕ
 pointCount m n = 2 * ((m + 1) * (n + 1))
 
 abbrev pub lineCount : ℕ → ℕ → ℕ
 lineCount m n = m + n + 2
 
--- not "grid-line points under 6·(M+1)·(N+1) or their starts under M+N+2, all counted in numbers"
+-- what refusal 3 asks for: room for three numbers of each point, and for each line's start
 abbrev pub roomFits : ℕ → ℕ → List Float → List ℕ → Bool
 roomFits m n points starts = leb (6 * ((m + 1) * (n + 1))) (length points) && leb (m + n + 2) (length starts)
 
--- refusals 1, 2, 3 and 4
+-- refusals 1, 2, 3 and 4, in this order
 unfoldable pub pathsCheck : List Float → ℕ → ℕ → List Float → List ℕ → Check
 pathsCheck g m n points starts = gridCheck g m n (unless (roomFits m n points starts) Room Passed)
 
@@ -72,15 +72,16 @@ pathLists points starts = record { points = points; starts = starts }
 -- the lines, drawn into these lists
 abbrev pub drawnInto : PathLists → List Float → ℕ → ℕ → PathLists
 drawnInto lent g m n =
-    pathLists (filled zero64 (coordinates (flatten (gridLines g m n))) (lent .points)) (filled 0 (startsFrom 0 (gridLines g m n)) (lent .starts))
+    pathLists (filled zero64 (coordinates (flatten (gridLines g m n))) (lent .points))
+    (filled 0 (startsFrom 0 (gridLines g m n)) (lent .starts))
 
--- the open call, reference `grid_paths`; a refusal of 1 to 10 leaves the lists untouched
+-- the open call `grid_paths`: the counts, and the lines in the lists; or a refusal, and the lists as they were
 unfoldable pub gridPaths : List Float → ℕ → ℕ → PathLists → Afterwards (Answer Counts) PathLists
 gridPaths g m n lent =
     ifPassed (pathsCheck g m n (lent .points) (lent .starts)) lent
     (afterwards (ok (counts (pointCount m n) (lineCount m n))) (drawnInto lent g m n))
 
--- 01's number and values of each answer
+-- the values or the number that each answer of the code stands for
 abbrev pub statedPaths : GridPathsAnswer → Answer Counts
 statedPaths (Drawn p l) = ok (counts p l)
 statedPaths (Refused k) = refused (numberOf k)

@@ -1,4 +1,5 @@
--- What the loops of `grid_paths` write: points and numbers that are a step apart.
+-- For inner contracts, towards Rules 9.1: what the loops of `grid_paths` write, points and
+-- numbers that are a step apart.
 use Prim.Native.Nat.{ℕ, zero, suc, _+_}
 use mathlib.Core.List.{List, [], _∷_}
 use lib.Ieee.{Float}

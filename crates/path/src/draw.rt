@@ -1,9 +1,9 @@
-// What `grid_paths` writes. A grid line is a run: points whose numbers are `step` apart. The lines of one kind are runs of
-// `count` points each whose first numbers are `apart` apart, so that u and v share the loops.
+// Rules 9.1: what `grid_paths` writes. A grid line is a run: points whose numbers are `step` apart. The lines of one
+// kind are runs of `count` points each whose first numbers are `apart` apart, so that u and v share the loops.
 use vector::Vector;
 ghost use mathlib.Core.Path.{_≡_};
-ghost use Prim.Native.Nat.{_+_, _*_, _≤_};
 ghost use mathlib.Core.List.{[], _∷_, _++_, flatten};
+ghost use Prim.Native.Nat.{_+_, _*_, _≤_};
 ghost use lib.ListN.{length};
 ghost use lib.Seq.{sets};
 ghost use Rattle.float.specs.Consts.{zero64};
@@ -23,8 +23,10 @@ fn put(points: &mut [f64], at: usize, p: Vector)
 
 // One run, into `points` from place `at` on.
 fn draw_run(grid: &[f64], first: usize, step: usize, count: usize, points: &mut [f64], at: usize)
-    requires { ⌜ (3 * (first + count * step) + 3 ≤ length (now grid) + 3 * step) × (step ≤ 256) × (at + 3 * count ≤ length (now points)) ⌝ }
-    ensures { λ _. ⌜ now (points .exit) ≡ sets (now (points .entry)) at (coordinates (run (now (grid .entry)) first step count)) ⌝ }
+    requires { ⌜ (3 * (first + count * step) + 3 ≤ length (now grid) + 3 * step) × (step ≤ 256)
+        × (at + 3 * count ≤ length (now points)) ⌝ }
+    ensures { λ _. ⌜ now (points .exit) ≡ sets (now (points .entry)) at
+        (coordinates (run (now (grid .entry)) first step count)) ⌝ }
 {
     let mut number = first;
     let mut place = at;
@@ -47,9 +49,10 @@ fn draw_four(
     points: &mut [f64],
     at: usize,
 )
-    requires { ⌜ (3 * (first + 3 * apart + count * step) + 3 ≤ length (now grid) + 3 * step) × (step ≤ 256) × (apart ≤ 256)
-        × (at + 4 * (3 * count) ≤ length (now points)) ⌝ }
-    ensures { λ _. ⌜ now (points .exit) ≡ sets (now (points .entry)) at (coordinates (flatten (runs (now (grid .entry)) first apart step count 4))) ⌝ }
+    requires { ⌜ (3 * (first + 3 * apart + count * step) + 3 ≤ length (now grid) + 3 * step)
+        × (step ≤ 256) × (apart ≤ 256) × (at + 4 * (3 * count) ≤ length (now points)) ⌝ }
+    ensures { λ _. ⌜ now (points .exit) ≡ sets (now (points .entry)) at
+        (coordinates (flatten (runs (now (grid .entry)) first apart step count 4))) ⌝ }
 {
     let width = 3 * count;
     let mut number = first;
@@ -82,9 +85,10 @@ fn draw_runs(
     points: &mut [f64],
     at: usize,
 )
-    requires { ⌜ (3 * (lines * apart + count * step) + 3 ≤ length (now grid) + 3 * step + 3 * apart) × (step ≤ 256) × (apart ≤ 256)
-        × (count ≤ 256) × (at + lines * (3 * count) ≤ length (now points)) ⌝ }
-    ensures { λ _. ⌜ now (points .exit) ≡ sets (now (points .entry)) at (coordinates (flatten (runs (now (grid .entry)) 0 apart step count lines))) ⌝ }
+    requires { ⌜ (3 * (lines * apart + count * step) + 3 ≤ length (now grid) + 3 * step + 3 * apart)
+        × (step ≤ 256) × (apart ≤ 256) × (count ≤ 256) × (at + lines * (3 * count) ≤ length (now points)) ⌝ }
+    ensures { λ _. ⌜ now (points .exit) ≡ sets (now (points .entry)) at
+        (coordinates (flatten (runs (now (grid .entry)) 0 apart step count lines))) ⌝ }
 {
     let width = 3 * count;
     let mut first: usize = 0;
@@ -122,8 +126,10 @@ fn put_spaced(starts: &mut [usize], at: usize, first: usize, step: usize, lines:
 
 // The points of all lines, and zero past them.
 pub fn points(grid: &[f64], m: usize, n: usize, points: &mut [f64])
-    requires { ⌜ (m ≤ 255) × (n ≤ 255) × (length (now grid) ≡ 3 * ((m + 1) * (n + 1))) × (6 * ((m + 1) * (n + 1)) ≤ length (now points)) ⌝ }
-    ensures { λ _. ⌜ now (points .exit) ≡ filled zero64 (coordinates (flatten (gridLines (now (grid .entry)) m n))) (now (points .entry)) ⌝ }
+    requires { ⌜ (m ≤ 255) × (n ≤ 255) × (length (now grid) ≡ 3 * ((m + 1) * (n + 1)))
+        × (6 * ((m + 1) * (n + 1)) ≤ length (now points)) ⌝ }
+    ensures { λ _. ⌜ now (points .exit) ≡ filled zero64 (coordinates (flatten (gridLines (now (grid .entry)) m n)))
+        (now (points .entry)) ⌝ }
 {
     let us = m + 1;
     let vs = n + 1;
@@ -136,7 +142,8 @@ pub fn points(grid: &[f64], m: usize, n: usize, points: &mut [f64])
 // The starts of all lines, and zero past them.
 pub fn starts(m: usize, n: usize, starts: &mut [usize])
     requires { ⌜ (m ≤ 255) × (n ≤ 255) × (m + n + 2 ≤ length (now starts)) ⌝ }
-    ensures { λ _. ⌜ now (starts .exit) ≡ filled 0 (spaced 0 (m + 1) (n + 1) ++ spaced ((m + 1) * (n + 1)) (n + 1) (m + 1)) (now (starts .entry)) ⌝ }
+    ensures { λ _. ⌜ now (starts .exit) ≡ filled 0
+        (spaced 0 (m + 1) (n + 1) ++ spaced ((m + 1) * (n + 1)) (n + 1) (m + 1)) (now (starts .entry)) ⌝ }
 {
     let us = m + 1;
     let vs = n + 1;

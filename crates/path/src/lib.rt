@@ -1,12 +1,12 @@
-// Lines: those of a grid, drawn into lists that the caller lends, and one line as the part of the points that it
-// occupies.
+// Rules 9: the lines of a grid, drawn into lists that the caller lends, and one line of such
+// lists as a part of the points.
 mod draw;
 
 use refusal::Check;
 use refusal::Refusal;
 ghost use mathlib.Core.Path.{_≡_};
-ghost use Prim.Native.Nat.{_≤_, _<_};
 ghost use lib.ListN.{length};
+ghost use Prim.Native.Nat.{_≤_, _<_};
 ghost use Rattle.lent.specs.Lent.{afterwards};
 ghost use Rattle.path.specs.GridPaths.{pathsCheck, gridPaths, pathLists, statedPaths};
 ghost use Rattle.path.specs.Line.{lineEnd, lineSpan, lineAt, statedLine};
@@ -39,8 +39,8 @@ fn check_paths(grid: &[f64], m: usize, n: usize, points: &[f64], starts: &[usize
     grid::check_grid(grid, m, n, room)
 }
 
-// The grid's lines: those along u, v by v, then those along v, u by u. Three f64 a point go into `points`, the number of
-// each line's first point into `starts`.
+// The grid's lines: those along u, v by v, then those along v, u by u. Three f64 a point go into `points`, the number
+// of each line's first point into `starts`.
 pub fn grid_paths(
     grid: &[f64],
     m: usize,
@@ -71,7 +71,8 @@ pub fn line_span(
     line_count: usize,
     index: usize,
 ) -> LineAnswer
-    ensures { λ r. ⌜ statedLine r ≡ lineSpan (now (points .entry)) (now (starts .entry)) «point_count» «line_count» index ⌝ }
+    ensures { λ r. ⌜ statedLine r ≡ lineSpan (now (points .entry)) (now (starts .entry))
+        «point_count» «line_count» index ⌝ }
 {
     if line_count <= index {
         return LineAnswer::Refused(Refusal::NotThere);
@@ -93,7 +94,7 @@ pub fn line_span(
     LineAnswer::Span(start, end)
 }
 
-// The next start or, for the last line, the point count.
+// Where a line ends: at the start of the one after it, and the last at the point count.
 fn line_end(starts: &[usize], point_count: usize, line_count: usize, index: usize) -> usize
     requires { ⌜ (index < «line_count») × («line_count» ≤ length (now starts)) ⌝ }
     ensures { λ r. ⌜ r ≡ lineEnd (now (starts .entry)) «point_count» «line_count» index ⌝ }
@@ -105,7 +106,7 @@ fn line_end(starts: &[usize], point_count: usize, line_count: usize, index: usiz
     point_count
 }
 
-// The part of the points that a line occupies: the empty part where the line is not there.
+// A line's part of the points: the empty part where there is no such line.
 pub fn get<'a, 'b>(
     points: &'a [f64],
     starts: &'b [usize],

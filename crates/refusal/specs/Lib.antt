@@ -1,2 +1,3 @@
--- The definitions that every contract of an open call cites.
+-- Every open call that can refuse cites Refusals. `unless`, `andThen` and `passing` are how
+-- definitions put tests in order.
 pub mod Refusals

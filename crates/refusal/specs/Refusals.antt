@@ -1,39 +1,42 @@
--- "Who sends the caller back", and what an answer is.
+-- Rules 11: the number of each refusal (11.1), what an answer is, and tests in the order of their numbers (11.2). What
+-- each refusal tests is defined with the calls that give it.
 use Prim.Native.Nat.{ℕ}
 use mathlib.Core.Bool.{Bool, true, false}
 use Rattle.refusal.specs.declared.Refusal.{Refusal}
-use Rattle.refusal.specs.declared.Refusal.the-variants.{Steps, Length, Room, Coordinate, Texture, Count, Direction, NotThere, Mark, Sample, NoStep, Full}
+use Rattle.refusal.specs.declared.Refusal.the-variants.{Steps, Length, Room, Coordinate, Texture, Count}
+use Rattle.refusal.specs.declared.Refusal.the-variants.{Direction}
+use Rattle.refusal.specs.declared.Refusal.the-variants.{NotThere, Mark, Sample, NoStep, Full}
 use Rattle.refusal.specs.declared.Check.{Check}
 use Rattle.refusal.specs.declared.Check.the-variants.{Passed, Failed}
 
--- 01's number of each refusal
+-- the number of each refusal
 abbrev pub numberOf : Refusal → ℕ
--- M or N outside 1 to 255
+-- M or N is not from 1 to 255
 numberOf Steps = 1
--- a list that has not the length its rule gives, or is longer than allowed
+-- a list has another length than it must have, or is too long
 numberOf Length = 2
--- a lent list too short for every answer
+-- a list is lent too short for all that the call may write
 numberOf Room = 3
--- a grid or row coordinate not finite or over 2^40 in magnitude
+-- some coordinate of a grid or row is a NaN, infinite, or beyond ±2^40
 numberOf Coordinate = 4
--- twist not finite or over 64 in magnitude, or arms over 64
+-- the twist is a NaN, infinite, or beyond ±64; or there are more than 64 arms
 numberOf Texture = 5
--- rays or samples per ray above 65,536
+-- a plan has more than 65,536 rays, or samples to a ray
 numberOf Count = 6
--- a cosine or sine not finite or outside −1 to 1
+-- the cosine or sine lent is a NaN or beyond ±1
 numberOf Direction = 7
--- a mapping, an index, a ray, a sample or a line that is not there
+-- there is no such mapping, index, ray, sample or line
 numberOf NotThere = 8
--- a mark neither 0 nor 1
+-- some mark is neither 0 nor 1
 numberOf Mark = 9
--- a marked coordinate not finite or over 1,048,576 in magnitude
+-- some coordinate of a point among the samples is a NaN, infinite, or beyond ±1,048,576
 numberOf Sample = 10
--- `step_index` has no answer for an event's point
+-- `step_index` cannot answer (Rules 7.2)
 numberOf NoStep = 11
--- a point or a kept line past what a lent list can hold
+-- a pushed point or a kept line has no room (Rules 7.4)
 numberOf Full = 12
 
--- An answer: number 0 and its values, or "a refusal carries its number and no other value".
+-- what a call answers: values, or the number of a refusal and nothing beside it (Rules 8.3)
 pub data Answer (A : Type 0) : Type 0 where
   ok : A → Answer A
   refused : ℕ → Answer A
@@ -43,12 +46,12 @@ abbrev pub answerNumber : {A : Type 0} → Answer A → ℕ
 answerNumber (ok a) = 0
 answerNumber (refused k) = k
 
--- the values of an answer, and others where it is a refusal
+-- the values of an answer, and the given ones where it is a refusal
 abbrev pub valuesOr : {A : Type 0} → A → Answer A → A
 valuesOr z (ok a) = a
 valuesOr z (refused k) = z
 
--- "The lowest number applies": tests stand in the order of their numbers, and the first that fails answers.
+-- Rules 11.2. Tests stand in the order of their numbers, so the first that fails has the least.
 -- One test: k where it does not hold, and what comes after it where it does
 abbrev pub unless : Bool → Refusal → Check → Check
 unless true k after = after

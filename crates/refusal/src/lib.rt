@@ -1,4 +1,4 @@
-// Who sends the caller back: 01's table of refusals, once for every call.
+// Rules 11: the refusals and their numbers, once for every call.
 ghost use mathlib.Core.Path.{_≡_};
 ghost use Rattle.refusal.specs.Refusals.{numberOf};
 

@@ -1,5 +1,5 @@
--- `allClose` as `all_close` tests it, and its laws, at any tolerance. The largest of three is below it where each is, but `larger` leaves a NaN out: so a NaN
--- difference is passed over, and only three of them are never close.
+-- `allClose` as `all_close` tests it, and its laws, at any tolerance. The largest of three is below it where each is,
+-- but `larger` leaves a NaN out: so a NaN difference is passed over, and only three of them are never close.
 use mathlib.Core.Path.{_≡_, refl, sym, _∙_}
 use mathlib.Core.Bool.{Bool, true, false, not, _&&_, _||_, or-true, or-false, and-true, and-false, true≢false}
 use lib.Ieee.{Float, nan, inf, fin, binary64, lt, le, eq, neg, sub, ofBits, isNan}
@@ -27,7 +27,8 @@ passes d t = lt (absolute d) t || isNan d
 
 -- what their difference has to be for points to be close: each component passes, and not all three are NaNs
 abbrev pub closeBy : Vector → Float → Bool
-closeBy d t = (passes (d .x) t && passes (d .y) t && passes (d .z) t) && not (isNan (d .x) && isNan (d .y) && isNan (d .z))
+closeBy d t =
+    (passes (d .x) t && passes (d .y) t && passes (d .z) t) && not (isNan (d .x) && isNan (d .y) && isNan (d .z))
 
 largest-below : (d : Vector) (t : Float) → lt (largest (absolutes d)) t ≡ closeBy d t
 largest-below d t =
@@ -35,8 +36,10 @@ largest-below d t =
     let q = absolute (d .y) in
     let r = absolute (d .z) in
     let l = larger (larger p q) r in
-    let under : lt l t || isNan l ≡ passes (d .x) t && passes (d .y) t && passes (d .z) t = larger-under (larger p q) r t ∙ simp (larger-under p q t, abs-nan) in
-    let none : isNan l ≡ isNan (d .x) && isNan (d .y) && isNan (d .z) = larger-nan (larger p q) r ∙ simp (larger-nan p q, abs-nan) in
+    let under : lt l t || isNan l ≡ passes (d .x) t && passes (d .y) t && passes (d .z) t =
+    larger-under (larger p q) r t ∙ simp (larger-under p q t, abs-nan) in
+    let none : isNan l ≡ isNan (d .x) && isNan (d .y) && isNan (d .z) =
+    larger-nan (larger p q) r ∙ simp (larger-nan p q, abs-nan) in
     split (lt l t) (isNan l) (nan-not-below l t) ∙ rw (under, none)
   where
     split : (u n : Bool) → (n ≡ true → u ≡ false) → u ≡ (u || n) && not n
@@ -52,7 +55,10 @@ close-by a b t = largest-below (minus a b) t
 -- ---- as `all_close` tests it
 -- no value is at most a NaN, nor a NaN at most a value
 not-le-nan : (x y : Float) → isNan y ≡ true → (le x y ≡ false) × (le y x ≡ false)
-not-le-nan x y h = (cannot (le x y) (λ e. true≢false (sym h ∙ le-not-nan x y e .1)), cannot (le y x) (λ e. true≢false (sym h ∙ le-not-nan y x e .0)))
+not-le-nan x y h = (
+  cannot (le x y) (λ e. true≢false (sym h ∙ le-not-nan x y e .1)),
+  cannot (le y x) (λ e. true≢false (sym h ∙ le-not-nan y x e .0)),
+)
 
 neg-nan : (x : Float) → isNan (neg x) ≡ isNan x
 unfolding neg isNan
@@ -117,7 +123,8 @@ within-below d t h =
     let below : lt (absolute d) t ≡ true = abs-below d t ∙ h in
     (below, cannot (isNan d) (λ e. true≢false (sym below ∙ nan-not-below (absolute d) t (abs-nan d ∙ e))))
 
-pub close-within : (a b d : Vector) (t : Float) → d ≡ minus a b → (within (d .x) t && within (d .y) t) && within (d .z) t ≡ true → allClose a b t ≡ true
+pub close-within : (a b d : Vector) (t : Float) → d ≡ minus a b →
+    (within (d .x) t && within (d .y) t) && within (d .z) t ≡ true → allClose a b t ≡ true
 close-within a b d t e h =
     let xy = and-both (within (d .x) t && within (d .y) t) (within (d .z) t) h in
     let each = and-both (within (d .x) t) (within (d .y) t) (xy .0) in
@@ -132,7 +139,15 @@ Finite a = (isFinite (a .x) ≡ true) × (isFinite (a .y) ≡ true) × (isFinite
 
 pub close-finite : (a b : Vector) (t : Float) → Finite a → Finite b →
     allClose a b t ≡ lt (absolute (minus a b .x)) t && lt (absolute (minus a b .y)) t && lt (absolute (minus a b .z)) t
-close-finite a b t h k = close-by a b t ∙ simp (sub-not-nan (a .x) (b .x) (h .0) (k .0), sub-not-nan (a .y) (b .y) (h .1) (k .1), sub-not-nan (a .z) (b .z) (h .2) (k .2), or-false, and-true)
+close-finite a b t h k =
+    close-by a b t
+    ∙ simp (
+      sub-not-nan (a .x) (b .x) (h .0) (k .0),
+      sub-not-nan (a .y) (b .y) (h .1) (k .1),
+      sub-not-nan (a .z) (b .z) (h .2) (k .2),
+      or-false,
+      and-true,
+    )
 
 -- a finite point is close to itself where the tolerance is above 0
 pub close-self : (a : Vector) (t : Float) → lt zero64 t ≡ true → Finite a → allClose a a t ≡ true
@@ -143,7 +158,8 @@ close-self a t p h = close-finite a a t h h ∙ simp (none (a .x) (h .0), none (
     none x k = rw (sub-self x k) p
 
 -- ---- NaN: three differences that are NaNs are close to nothing; one is passed over, as by f64::max
-pub nan-not-close : (a b : Vector) (t : Float) → isNan (minus a b .x) ≡ true → isNan (minus a b .y) ≡ true → isNan (minus a b .z) ≡ true → allClose a b t ≡ false
+pub nan-not-close : (a b : Vector) (t : Float) → isNan (minus a b .x) ≡ true → isNan (minus a b .y) ≡ true →
+    isNan (minus a b .z) ≡ true → allClose a b t ≡ false
 nan-not-close a b t h k l = close-by a b t ∙ simp (h, k, l, and-false)
 
 nan-passed-over : allClose (vector nan zero64 zero64) (vector zero64 zero64 zero64) eps ≡ true

@@ -1,2 +1,2 @@
--- The definitions that the contracts of this crate cite.
+-- Open calls cite Vectors.
 pub mod Vectors

@@ -1,4 +1,4 @@
-// A point or direction of three f64. The operations keep the source's names and hand back a new Vector.
+// Rules 2: a point or direction of three f64, with operations that are called as in the original and give a new one.
 use float::consts::EPS;
 ghost use mathlib.Core.Path.{_≡_};
 ghost use mathlib.Core.Bool.{_||_};
@@ -43,8 +43,8 @@ impl Vector {
         }
     }
 
-    // Whether the largest of the three absolute differences is below EPS: none is EPS or more, and
-    // not all are NaNs, which f64::max passes over.
+    // Whether two points are close: no difference is EPS or more in magnitude, and not all three are
+    // NaNs, which f64::max passes over.
     pub fn all_close(self, other: Vector) -> bool
         ensures { λ r. ⌜ r ≡ allClose self other eps ⌝ }
     {

@@ -1,4 +1,5 @@
--- `grid::check_grid` meets its contract: the tests are those of `gridCheck` in its order, and with M and N at most 255 the length fits.
+-- `grid::check_grid` meets its contract: the tests are those of `gridCheck` in its order, and with M and N at
+-- most 255 the length fits.
 use native.Mathlib.Omega.{arith}
 use mathlib.Core.Path.{_≡_}
 use mathlib.Core.Bool.{true}
@@ -11,7 +12,8 @@ use Rattle.grid.proofs.check_grid.Statement.{statement}
 use Rattle.grid.proofs.check_grid.Tie as tie
 
 -- 1 does not apply
-steps-stand : (e : tie.Else1) → stepsFit (e .before .before .before .args .m) (e .before .before .before .args .n) ≡ true
+steps-stand : (e : tie.Else1) →
+    stepsFit (e .before .before .before .args .m) (e .before .before .before .args .n) ≡ true
 steps-stand e = held (e .before .steps-fit .ensures) (e .if1 .left)
 
 stepped : (e : tie.Else1) → Stepped (e .before .before .before .args .m) (e .before .before .before .args .n)
@@ -36,14 +38,24 @@ unfolding gridCheck
 returns-4 c =
     let t = c .before .before in
     let e = t .before .before in
-    rw (steps-stand (e .before), eq-eqb _ _ (e .if2 .left), t .enum-told .given .1, failed (c .before .coordinates-fit .ensures) (c .if3 .taken))
+    rw (
+      steps-stand (e .before),
+      eq-eqb _ _ (e .if2 .left),
+      t .enum-told .given .1,
+      failed (c .before .coordinates-fit .ensures) (c .if3 .taken),
+    )
 
 returns-5 : tie.Need-returns-5
 unfolding gridCheck
 returns-5 c =
     let t = c .before .before in
     let e = t .before .before in
-    rw (steps-stand (e .before), eq-eqb _ _ (e .if2 .left), t .enum-told .given .1, held (c .before .coordinates-fit .ensures) (c .if3 .left))
+    rw (
+      steps-stand (e .before),
+      eq-eqb _ _ (e .if2 .left),
+      t .enum-told .given .1,
+      held (c .before .coordinates-fit .ensures) (c .if3 .left),
+    )
 
 pub check-grid-spec : {M : Type 1} → statement M
 check-grid-spec =

@@ -1,4 +1,5 @@
--- `grid::coordinates_fit` meets its contract: what was found so far, and what is left to test from i on, answer for the whole list.
+-- `grid::coordinates_fit` meets its contract: what was found so far, and what is left to test from i on,
+-- answer for the whole list.
 use Prim.Native.Nat.{_≤_, _-_}
 use mathlib.Core.Path.{_≡_, sym}
 use mathlib.Core.Bool.{_&&_, and-assoc, and-true}
@@ -19,12 +20,16 @@ abbrev μ-loop : tie.MeasureT-loop
 loop-again : tie.Need-loop-again Inv-loop μ-loop
 loop-again c =
     let t = c .before .before in
-    let l = t .before .loop in
-    (search needs, rw (l .inv .1, coordinates-step _ _ nan (t .loop-test .taken), c .at-most .ensures) (sym (and-assoc (l .fit) _ _)))
+    let l = t .before .loop in (
+      search needs,
+      rw (l .inv .1, coordinates-step _ _ nan (t .loop-test .taken), c .at-most .ensures)
+          (sym (and-assoc (l .fit) _ _)),
+    )
 
 returns : tie.Need-returns Inv-loop μ-loop
 unfolding coordinatesFit
-returns c = let l = c .before .loop in rw (l .inv .1, drop-of-length-le _ (c .loop-test .left)) (sym (and-true (l .fit)))
+returns c =
+    let l = c .before .loop in rw (l .inv .1, drop-of-length-le _ (c .loop-test .left)) (sym (and-true (l .fit)))
 
 pub coordinates-fit-spec : {M : Type 1} → statement M
 coordinates-fit-spec =

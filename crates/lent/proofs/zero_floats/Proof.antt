@@ -26,4 +26,5 @@ returns c = zeroing-done zero64 (c .before .loop .inv) (omega arith)
 pub zero-floats-spec : {M : Type 1} → statement M
 zero-floats-spec =
     tie.close
-    (tie.spec Inv-loop μ-loop (λ c. search needs) (λ c. search needs) (λ c. search needs) (λ c. search needs) loop-less loop-again (λ c. search needs) returns)
+    (tie.spec Inv-loop μ-loop (λ c. search needs) (λ c. search needs) (λ c. search needs) (λ c. search needs)
+    loop-less loop-again (λ c. search needs) returns)

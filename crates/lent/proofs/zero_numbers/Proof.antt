@@ -25,4 +25,5 @@ returns c = zeroing-done 0 (c .before .loop .inv) (omega arith)
 pub zero-numbers-spec : {M : Type 1} → statement M
 zero-numbers-spec =
     tie.close
-    (tie.spec Inv-loop μ-loop (λ c. search needs) (λ c. search needs) (λ c. search needs) (λ c. search needs) loop-less loop-again (λ c. search needs) returns)
+    (tie.spec Inv-loop μ-loop (λ c. search needs) (λ c. search needs) (λ c. search needs) (λ c. search needs)
+    loop-less loop-again (λ c. search needs) returns)

@@ -1,4 +1,5 @@
--- `path::get` meets its contract: the part is cut where `lineSpan` says, and a line that is there lies within the points.
+-- `path::get` meets its contract: the part is cut where `lineSpan` says, and a line that is
+-- there lies within the points.
 use Prim.Native.Nat.{_*_, _≤_}
 use native.Mathlib.Omega.{arith}
 use lib.ListN.{length}
@@ -7,13 +8,15 @@ use Rattle.path.proofs.There.{span-bounds, part-is}
 use Rattle.path.proofs.get.Statement.{statement}
 use Rattle.path.proofs.get.Tie as tie
 
--- a line that is there: its start is at most its end, and its end lies within the points
+-- a line that is there: start ≤ end, and the end lies within the points
 bounds : (c : tie.After-known-told) →
-    let a = c .before .before .before .before .before .before .args in let s = c .before .start .given .0 in (s .0 ≤ s .1 .0) × (3 * s .1 .0 ≤ length (a .points .now))
+    let a = c .before .before .before .before .before .before .args in
+    let s = c .before .start .given .0 in (s .0 ≤ s .1 .0) × (3 * s .1 .0 ≤ length (a .points .now))
 bounds c = span-bounds _ _ _ _ _ (c .before .start .given .1) (c .before .before .before .line-span .ensures)
 
 returns : tie.Need-returns
-returns c = part-is _ _ _ _ _ (c .before .before .start .given .1) (c .before .before .before .before .line-span .ensures)
+returns c =
+    part-is _ _ _ _ _ (c .before .before .start .given .1) (c .before .before .before .before .line-span .ensures)
 
 returns-2 : tie.Need-returns-2
 returns-2 c = part-is _ _ _ _ _ (c .before .enum-told .given .1) (c .before .before .before .line-span .ensures)

@@ -11,11 +11,13 @@ use Rattle.path.proofs.grid_paths.Tie as tie
 
 -- no refusal applies
 passed : (e : tie.After-enum-told) →
-    let a = e .before .before .before .before .before .before .before .before .args in pathsCheck (a .grid .now) (a .m) (a .n) (a .points .now) (a .starts .now) ≡ Passed
+    let a = e .before .before .before .before .before .before .before .before .args in
+    pathsCheck (a .grid .now) (a .m) (a .n) (a .points .now) (a .starts .now) ≡ Passed
 passed e = sym (e .before .before .check-paths .ensures) ∙ e .enum-told .given .1
 
 -- the grid that passed
-shape : (e : tie.After-enum-told) → let a = e .before .before .before .before .before .before .before .before .args in Shaped (a .grid .now) (a .m) (a .n)
+shape : (e : tie.After-enum-told) → let a =
+    e .before .before .before .before .before .before .before .before .args in Shaped (a .grid .now) (a .m) (a .n)
 shape e = passed-shape _ _ _ _ _ (passed e)
 
 points-requires : tie.Need-points-requires

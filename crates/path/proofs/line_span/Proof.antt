@@ -1,4 +1,5 @@
--- `path::line_span` meets its contract: each refusal breaks one of the five facts of a line that is there, and past all tests they hold.
+-- `path::line_span` meets its contract: each refusal breaks one of the five facts of a line that is there, and
+-- past all tests they hold.
 use mathlib.Core.Path.{sym}
 use native.Mathlib.Omega.{arith}
 use Rattle.path.proofs.There.{span-there, span-not}
@@ -11,7 +12,13 @@ returns-6 c =
     let p = c .before .before in
     let e = p .line-end .ensures in
     rw e (sym (span-there _ _ _ _ _
-    (record { below = omega arith; points-fit = omega arith; starts-fit = omega arith; ordered = omega arith; within = omega arith })))
+    (record {
+      below = omega arith;
+      points-fit = omega arith;
+      starts-fit = omega arith;
+      ordered = omega arith;
+      within = omega arith;
+    })))
 
 pub line-span-spec : {M : Type 1} → statement M
 line-span-spec =

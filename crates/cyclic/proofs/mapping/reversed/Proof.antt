@@ -20,4 +20,6 @@ returns-2 c = rw (ne-eqb (c .before .args .offset) 0 (c .if1 .left))
 
 pub reversed-spec : {M : Type 1} → statement M
 reversed-spec =
-    tie.close (tie.spec (λ c. search needs) returns (λ c. search needs) (λ c. search needs) sub-result-2 (λ c. search needs) returns-2)
+    tie.close
+    (tie.spec (λ c. search needs) returns (λ c. search needs) (λ c. search needs) sub-result-2
+    (λ c. search needs) returns-2)

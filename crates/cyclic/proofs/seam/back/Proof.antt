@@ -8,12 +8,14 @@ use Rattle.cyclic.proofs.seam.back.Tie as tie
 returns : tie.Need-returns
 returns c =
     let s = c .before in
-    λ j b e. three (reverse-next (s .args .offset) (s .args .steps) j (s .pre .1) b) (λ w. omega arith) (λ w. omega arith) (λ w. omega arith)
+    λ j b e. three (reverse-next (s .args .offset) (s .args .steps) j (s .pre .1) b) (λ w. omega arith)
+    (λ w. omega arith) (λ w. omega arith)
 
 returns-2 : tie.Need-returns-2
 returns-2 c =
     let s = c .before in
-    λ j b e. three (reverse-next (s .args .offset) (s .args .steps) j (s .pre .1) b) (λ w. omega arith) (λ w. omega arith) (λ w. omega arith)
+    λ j b e. three (reverse-next (s .args .offset) (s .args .steps) j (s .pre .1) b) (λ w. omega arith)
+    (λ w. omega arith) (λ w. omega arith)
 
 pub back-spec : {M : Type 1} → statement M
 back-spec = tie.close (tie.spec (λ c. search needs) returns (λ c. search needs) returns-2)

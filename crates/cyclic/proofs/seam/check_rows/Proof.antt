@@ -10,21 +10,26 @@ use Rattle.cyclic.proofs.seam.check_rows.Statement.{statement}
 use Rattle.cyclic.proofs.seam.check_rows.Tie as tie
 
 returns : tie.Need-returns
-returns c = sym (no-length _ _ (failed (ap₂ _&&_ (c .before .before .row-fits .ensures) (c .before .row-fits2 .ensures)) (c .if1 .taken)))
+returns c =
+    sym (no-length _ _
+    (failed (ap₂ _&&_ (c .before .before .row-fits .ensures) (c .before .row-fits2 .ensures)) (c .if1 .taken)))
 
 -- past the first test both lengths fit
-lengths : (t : tie.Else1) → let s = t .before .before .before .before .before .args in rowFits (now (s .a)) && rowFits (now (s .b)) ≡ true
+lengths : (t : tie.Else1) → let s =
+    t .before .before .before .before .before .args in rowFits (now (s .a)) && rowFits (now (s .b)) ≡ true
 lengths t = held (ap₂ _&&_ (t .before .before .row-fits .ensures) (t .before .row-fits2 .ensures)) (t .if1 .left)
 
 returns-2 : tie.Need-returns-2
 returns-2 c =
     sym (no-coordinate _ _ (lengths (c .before .before .before))
-    (failed (ap₂ _&&_ (c .before .before .coordinates-fit .ensures) (c .before .coordinates-fit2 .ensures)) (c .if2 .taken)))
+    (failed (ap₂ _&&_ (c .before .before .coordinates-fit .ensures) (c .before .coordinates-fit2 .ensures))
+    (c .if2 .taken)))
 
 returns-3 : tie.Need-returns-3
 returns-3 c =
     sym (rows-pass _ _ (lengths (c .before .before .before))
-    (held (ap₂ _&&_ (c .before .before .coordinates-fit .ensures) (c .before .coordinates-fit2 .ensures)) (c .if2 .left)))
+    (held (ap₂ _&&_ (c .before .before .coordinates-fit .ensures) (c .before .coordinates-fit2 .ensures))
+    (c .if2 .left)))
 
 pub check-rows-spec : {M : Type 1} → statement M
 check-rows-spec =

@@ -34,7 +34,8 @@ first : (n : tie.After-opposite2 Inv-loop μ-loop) →
 first n =
     let l = n .before .before .before in
     let s = l .before .before .before .before in
-    inside-next (s .pre) (l .before .if1 .left) (s .args .reverse) (l .loop .run) (n .before .opposite .ensures) (omega arith)
+    inside-next (s .pre) (l .before .if1 .left) (s .args .reverse) (l .loop .run)
+    (n .before .opposite .ensures) (omega arith)
 
 second : (n : tie.After-opposite2 Inv-loop μ-loop) →
     let l = n .before .before .before in
@@ -43,7 +44,8 @@ second : (n : tie.After-opposite2 Inv-loop μ-loop) →
 second n =
     let l = n .before .before .before in
     let s = l .before .before .before .before in
-    inside-next (s .pre) (l .before .if1 .left) (s .args .reverse) (l .loop .run + 1) (n .opposite2 .ensures) (omega arith)
+    inside-next (s .pre) (l .before .if1 .left) (s .args .reverse) (l .loop .run + 1)
+    (n .opposite2 .ensures) (omega arith)
 
 returns-2 : tie.Need-returns-2 Inv-loop μ-loop
 returns-2 c = c .before .before .before .before .before .before .loop .inv
@@ -61,8 +63,10 @@ loop-again c =
     let both = and-both (p .points-near .result) (q .points-near2 .result) (not-false _ (c .if2 .left)) in (
       omega arith,
       two-longer (closeAt eps) a b (s .args .steps) (s .args .reverse) (l .loop .run) (l .loop .inv .1)
-          (close-next (s .pre) (l .before .if1 .left) (s .args .reverse) (l .loop .run) (o .opposite .ensures) (closeAt eps) refl (p .points-near .ensures (both .0)))
-          (close-next (s .pre) (l .before .if1 .left) (s .args .reverse) (l .loop .run + 1) (n .opposite2 .ensures) (closeAt eps) (omega arith) (q .points-near2 .ensures (both .1))),
+          (close-next (s .pre) (l .before .if1 .left) (s .args .reverse) (l .loop .run) (o .opposite .ensures)
+          (closeAt eps) refl (p .points-near .ensures (both .0)))
+          (close-next (s .pre) (l .before .if1 .left) (s .args .reverse) (l .loop .run + 1) (n .opposite2 .ensures)
+          (closeAt eps) (omega arith) (q .points-near2 .ensures (both .1))),
     )
 
 returns-3 : tie.Need-returns-3 Inv-loop μ-loop

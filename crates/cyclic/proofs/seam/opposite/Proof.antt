@@ -1,4 +1,4 @@
--- `cyclic::seam::opposite` meets its contract.
+-- `cyclic::seam::opposite` meets its contract: its branches are those of `cond`, and j ≤ steps lets it subtract.
 use borrow.Author.Needs.{needs}
 use Rattle.cyclic.proofs.seam.opposite.Statement.{statement}
 use Rattle.cyclic.proofs.seam.opposite.Tie as tie

@@ -1,4 +1,4 @@
--- `cyclic::seam::points_close` meets its contract, by those of the calls.
+-- `cyclic::seam::points_close` meets its contract: it is `all_close` of the two points that it reads.
 use borrow.Author.Needs.{needs}
 use Rattle.cyclic.proofs.seam.points_close.Statement.{statement}
 use Rattle.cyclic.proofs.seam.points_close.Tie as tie

@@ -17,7 +17,8 @@ returns c =
     let q = d .before in
     let p = q .before in
     let s = p .before .before .before .args in
-    λ h. close-within (pointAt (now (s .a)) (s .i)) (pointAt (now (s .b)) (s .k)) (d .sub .result) eps (d .sub .ensures ∙ ap₂ minus (p .point-at .ensures) (q .point-at2 .ensures)) h
+    λ h. close-within (pointAt (now (s .a)) (s .i)) (pointAt (now (s .b)) (s .k)) (d .sub .result) eps
+    (d .sub .ensures ∙ ap₂ minus (p .point-at .ensures) (q .point-at2 .ensures)) h
 
 pub points-near-spec : {M : Type 1} → statement M
 points-near-spec = tie.close (tie.spec (λ c κs. search needs) (λ c κs. search needs) (λ c κs. search needs) returns)

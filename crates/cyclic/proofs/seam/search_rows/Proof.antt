@@ -1,6 +1,7 @@
--- `cyclic::seam::search_rows` meets its contract. The outer loop's invariant: the whole search is the search of the offsets that are left, after the
--- comparisons so far. The inner loops': all points tried at an offset are the points that are left, after one comparison for each before, and k is the image of j.
--- At most 131,072 comparisons are made at an offset, so that their sum fits.
+-- `cyclic::seam::search_rows` meets its contract. The outer loop's invariant: the whole search is the search of the
+-- offsets that are left, after the comparisons so far. The inner loops': all points tried at an offset are the points
+-- that are left, after one comparison for each before, and k is the image of j. At most 131,072 comparisons are made at
+-- an offset, so that their sum fits.
 use Prim.Native.Nat.{_+_, _-_, _*_, _<_}
 use native.Mathlib.Omega.{arith}
 use mathlib.Core.Path.{sym, _∙_}
@@ -10,7 +11,8 @@ use denote.Ref.{now}
 use Rattle.float.specs.Consts.{eps}
 use Rattle.cyclic.specs.declared.mapping.CyclicMapping.the-variants.{Forward, Reverse}
 use Rattle.cyclic.specs.Search.{rowOf, closeAt}
-use Rattle.cyclic.proofs.Remains.{Trying, Searching, point-after-run, first-point, next-point, last-point, far-point, first-offset, forward-fits, reverse-fits, next-offset, no-offset}
+use Rattle.cyclic.proofs.Remains.{Trying, Searching, point-after-run, first-point, next-point, last-point}
+use Rattle.cyclic.proofs.Remains.{far-point, first-offset, forward-fits, reverse-fits, next-offset, no-offset}
 use Rattle.cyclic.proofs.Rows.{Stand, inside}
 use Rattle.cyclic.proofs.seam.search_rows.Statement.{statement}
 use Rattle.cyclic.proofs.seam.search_rows.Tie as tie
@@ -37,10 +39,12 @@ abbrev μ-offsets : tie.MeasureT-offsets
 μ-offsets a a-start b b-start stride steps end comparisons₀ offset₀ comparisons offset = end - offset
 
 -- the start of the call behind the forward loop, and the forward loop behind the reverse one
-abbrev start : tie.At-loop Inv-loop μ-loop Inv-loop2 μ-loop2 Inv-offsets μ-offsets → tie.Start Inv-loop μ-loop Inv-loop2 μ-loop2 Inv-offsets μ-offsets
+abbrev start : tie.At-loop Inv-loop μ-loop Inv-loop2 μ-loop2 Inv-offsets μ-offsets →
+    tie.Start Inv-loop μ-loop Inv-loop2 μ-loop2 Inv-offsets μ-offsets
 start l = l .before .before .before .before .before .before .before .before
 
-abbrev forward : tie.At-loop2 Inv-loop μ-loop Inv-loop2 μ-loop2 Inv-offsets μ-offsets → tie.At-loop Inv-loop μ-loop Inv-loop2 μ-loop2 Inv-offsets μ-offsets
+abbrev forward : tie.At-loop2 Inv-loop μ-loop Inv-loop2 μ-loop2 Inv-offsets μ-offsets →
+    tie.At-loop Inv-loop μ-loop Inv-loop2 μ-loop2 Inv-offsets μ-offsets
 forward r = r .before .before .before .before .before
 
 -- points j and k stand in the lists of their rows
@@ -52,12 +56,14 @@ stand-forward l = inside (start l .pre) (l .loop .j) (l .loop .k) (l .loop .inv 
 stand-reverse : (r : tie.At-loop2 Inv-loop μ-loop Inv-loop2 μ-loop2 Inv-offsets μ-offsets) →
     let s = start (forward r) .args in
     Stand (now (s .a)) (s .a-start + r .loop2 .j * s .stride) (now (s .b)) (s .b-start + r .loop2 .k * s .stride)
-stand-reverse r = inside (start (forward r) .pre) (r .loop2 .j) (r .loop2 .k) (r .loop2 .inv .index .2) (r .loop2 .inv .other)
+stand-reverse r =
+    inside (start (forward r) .pre) (r .loop2 .j) (r .loop2 .k) (r .loop2 .inv .index .2) (r .loop2 .inv .other)
 
 offsets-holds : tie.Need-offsets-holds Inv-loop μ-loop Inv-loop2 μ-loop2 Inv-offsets μ-offsets
 offsets-holds c =
     let s = c .before .before .before .before in
-    first-offset (s .pre .steps-least) (c .before .rows-closed .ensures) (⊎-elim (λ w. rw (w .0 .taken) (w .1)) (λ w. rw (w .0 .left) (w .1)) (c .if1 .came))
+    first-offset (s .pre .steps-least) (c .before .rows-closed .ensures)
+    (⊎-elim (λ w. rw (w .0 .taken) (w .1)) (λ w. rw (w .0 .left) (w .1)) (c .if1 .came))
 
 close-run-requires : tie.Need-close-run-requires Inv-loop μ-loop Inv-loop2 μ-loop2 Inv-offsets μ-offsets
 close-run-requires c κs = c .before .before .before .before .before .before .before .pre
@@ -71,7 +77,8 @@ loop-holds c =
     let o = e .before in
     let s = o .before .before .before .before .before in
     let below : o .offsets .offset < s .args .steps = omega (arith, o .offsets .inv, e .if2 .left) in
-    ⊎-elim (λ w. point-after-run (w .0 .taken) (s .pre .steps-most, below, w .1 .ensures .0) (w .1 .ensures .1) (w .3) (w .4 ∙ w .2 .ensures))
+    ⊎-elim (λ w. point-after-run (w .0 .taken) (s .pre .steps-most, below, w .1 .ensures .0) (w .1 .ensures .1) (w .3)
+    (w .4 ∙ w .2 .ensures))
     (λ w. first-point (w .0 .left) (s .pre .steps-most, below, omega arith) (w .1) (w .2))
     (c .if3 .came)
 
@@ -81,7 +88,8 @@ loop-again c =
     let i = h .before in
     let p = i .before .before in
     let l = p .before in
-    next-point (l .loop .inv) (p .points-close .ensures) (i .before .if4 .left) (i .if5 .left) (h .ahead .ensures (l .loop .j) (omega arith) (l .loop .inv .mapped))
+    next-point (l .loop .inv) (p .points-close .ensures) (i .before .if4 .left) (i .if5 .left)
+    (h .ahead .ensures (l .loop .j) (omega arith) (l .loop .inv .mapped))
 
 close-run-requires-2 : tie.Need-close-run-requires-2 Inv-loop μ-loop Inv-loop2 μ-loop2 Inv-offsets μ-offsets
 close-run-requires-2 c κs = start (c .before .before .before .before) .pre
@@ -96,7 +104,8 @@ loop2-holds c =
     let o = e .before in
     let s = start l in
     let below : o .offsets .offset < s .args .steps = omega (arith, o .offsets .inv, e .if2 .left) in
-    ⊎-elim (λ w. point-after-run (w .0 .taken) (s .pre .steps-most, below, w .1 .ensures .0) (w .1 .ensures .1) (w .3) (w .4 ∙ w .2 .ensures))
+    ⊎-elim (λ w. point-after-run (w .0 .taken) (s .pre .steps-most, below, w .1 .ensures .0) (w .1 .ensures .1) (w .3)
+    (w .4 ∙ w .2 .ensures))
     (λ w. first-point (w .0 .left) (s .pre .steps-most, below, omega arith) (w .1) (w .2))
     (c .if6 .came)
 
@@ -106,7 +115,8 @@ loop2-again c =
     let i = h .before in
     let q = i .before .before in
     let r = q .before in
-    next-point (r .loop2 .inv) (q .points-close2 .ensures) (i .before .if7 .left) (i .if8 .left) (h .back .ensures (r .loop2 .j) (omega arith) (r .loop2 .inv .mapped))
+    next-point (r .loop2 .inv) (q .points-close2 .ensures) (i .before .if7 .left) (i .if8 .left)
+    (h .back .ensures (r .loop2 .j) (omega arith) (r .loop2 .inv .mapped))
 
 offsets-again : tie.Need-offsets-again Inv-loop μ-loop Inv-loop2 μ-loop2 Inv-offsets μ-offsets
 offsets-again c =

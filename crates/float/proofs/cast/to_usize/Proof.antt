@@ -1,4 +1,5 @@
--- `float::cast::to_usize` meets its contract: below 1 it is 0, from 2^64 on the largest usize, and between std truncates (proofs/Casts.antt).
+-- `float::cast::to_usize` meets its contract: below 1 it is 0, from 2^64 on the largest usize, and between std
+-- truncates (proofs/Casts.antt).
 use lib.Ieee.{ofBits}
 use Rattle.std.proofs.num.Truncating.{below-one, under-one}
 use Rattle.float.proofs.Casts.{asked, above-minus, from-p64}
@@ -7,7 +8,8 @@ use Rattle.float.proofs.cast.to_usize.Tie as tie
 
 truncating-f64-to-u64-requires : tie.Need-truncating-f64-to-u64-requires
 unfolding ofBits
-truncating-f64-to-u64-requires c κs = let x = c .before .before .args .x in asked x (above-minus x (c .before .if1 .taken)) (c .if2 .taken)
+truncating-f64-to-u64-requires c κs =
+    let x = c .before .before .args .x in asked x (above-minus x (c .before .if1 .taken)) (c .if2 .taken)
 
 returns : tie.Need-returns
 returns c = c .truncating-f64-to-u64 .ensures

@@ -1,4 +1,5 @@
--- `float::order::max` meets its contract: each branch rewrites `larger` by the tests that led there (proofs/Larger.antt).
+-- `float::order::max` meets its contract: each branch rewrites `larger` by the tests that led
+-- there (proofs/Larger.antt).
 use Rattle.float.proofs.Larger.{larger-tests}
 use Rattle.float.proofs.order.max.Statement.{statement}
 use Rattle.float.proofs.order.max.Tie as tie

@@ -1,5 +1,5 @@
--- `float::order::total_cmp` meets its contract: each branch rewrites `totalOrder` by the tests that led there, the last two of which decide by the signs
--- (proofs/Orders.antt).
+-- `float::order::total_cmp` meets its contract: each branch rewrites `totalOrder` by the tests that led there, the last
+-- two of which decide by the signs (proofs/Orders.antt).
 use borrow.Author.Needs.{needs}
 use Rattle.float.specs.Order.{totalOrder}
 use Rattle.float.proofs.Orders.{sign-is}
@@ -19,21 +19,45 @@ unfolding totalOrder
 returns-3 c =
     let y = c .before in
     let x = y .before in
-    simp (x .before .before .if1 .left, x .before .if2 .left, ← x .is-negative .ensures, ← y .is-negative2 .ensures, sign-is, c .if3 .taken)
+    simp (
+      x .before .before .if1 .left,
+      x .before .if2 .left,
+      ← x .is-negative .ensures,
+      ← y .is-negative2 .ensures,
+      sign-is,
+      c .if3 .taken,
+    )
 
 returns-4 : tie.Need-returns-4
 unfolding totalOrder
 returns-4 c =
     let y = c .before .before in
     let x = y .before in
-    simp (x .before .before .if1 .left, x .before .if2 .left, ← x .is-negative .ensures, ← y .is-negative2 .ensures, sign-is, c .before .if3 .left, c .if4 .taken)
+    simp (
+      x .before .before .if1 .left,
+      x .before .if2 .left,
+      ← x .is-negative .ensures,
+      ← y .is-negative2 .ensures,
+      sign-is,
+      c .before .if3 .left,
+      c .if4 .taken,
+    )
 
 returns-5 : tie.Need-returns-5
 unfolding totalOrder
 returns-5 c =
     let y = c .before .before in
     let x = y .before in
-    simp (x .before .before .if1 .left, x .before .if2 .left, ← x .is-negative .ensures, ← y .is-negative2 .ensures, sign-is, c .before .if3 .left, c .if4 .left)
+    simp (
+      x .before .before .if1 .left,
+      x .before .if2 .left,
+      ← x .is-negative .ensures,
+      ← y .is-negative2 .ensures,
+      sign-is,
+      c .before .if3 .left,
+      c .if4 .left,
+    )
 
 pub total-cmp-spec : {M : Type 1} → statement M
-total-cmp-spec = tie.close (tie.spec returns returns-2 (λ c κs. search needs) (λ c κs. search needs) returns-3 returns-4 returns-5)
+total-cmp-spec =
+    tie.close (tie.spec returns returns-2 (λ c κs. search needs) (λ c κs. search needs) returns-3 returns-4 returns-5)

@@ -1,4 +1,5 @@
--- `float::sign::at_most` meets its contract: the law is in proofs/Between.antt.
+-- `float::sign::at_most` meets its contract: a magnitude is at most top exactly if the value lies between
+-- -top and top (proofs/Between.antt).
 use Rattle.float.proofs.Between.{between-is}
 use Rattle.float.proofs.sign.at_most.Statement.{statement}
 use Rattle.float.proofs.sign.at_most.Tie as tie

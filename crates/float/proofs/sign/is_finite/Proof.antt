@@ -1,4 +1,5 @@
--- `float::sign::is_finite` meets its contract: a magnitude is below the infinity where the value is finite (proofs/Signs.antt).
+-- `float::sign::is_finite` meets its contract: a magnitude is below the infinity where the value is
+-- finite (proofs/Signs.antt).
 use borrow.Author.Needs.{needs}
 use Rattle.float.proofs.Signs.{finite-is}
 use Rattle.float.proofs.sign.is_finite.Statement.{statement}

@@ -1,5 +1,5 @@
--- `float::sign::is_negative` meets its contract: below 0 the sign is negative, of a zero the quotient tells it, and otherwise it is not (proofs/Signs.antt).
---
+-- `float::sign::is_negative` meets its contract: below 0 the sign is negative, of a zero the quotient tells it, and
+-- otherwise it is not (proofs/Signs.antt).
 use mathlib.Core.Path.{sym}
 use Rattle.float.proofs.Signs.{below-zero, zero-sign, not-below}
 use Rattle.float.proofs.sign.is_negative.Statement.{statement}

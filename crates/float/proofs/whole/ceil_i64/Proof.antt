@@ -1,5 +1,5 @@
--- `float::whole::ceil_i64` meets its contract: in the range it is the cut toward zero or one above it, and out of it the end of the range (proofs/Cut.antt).
---
+-- `float::whole::ceil_i64` meets its contract: in the range it is the cut toward zero or one above it, and out of it
+-- the end of the range (proofs/Cut.antt).
 use lib.Ieee.{ofBits, neg}
 use borrow.Author.Needs.{needs}
 use Rattle.float.proofs.Cut.{Cut, kept, kept-is, cut-of, high-end, low-end, nan-end}
@@ -10,12 +10,15 @@ truncating-f64-to-i64-requires : tie.Need-truncating-f64-to-i64-requires
 unfolding ofBits neg
 truncating-f64-to-i64-requires c κs = (rw (c .before .if1 .taken) tt, rw (c .if2 .taken) tt)
 
-cut : (c : tie.After-nearest-i64-to-f64) → Cut (c .before .before .before .before .args .x) (kept (c .before .truncating-f64-to-i64 .result)) (c .nearest-i64-to-f64 .result)
+cut : (c : tie.After-nearest-i64-to-f64) →
+    Cut (c .before .before .before .before .args .x) (kept (c .before .truncating-f64-to-i64 .result))
+    (c .nearest-i64-to-f64 .result)
 unfolding ofBits neg
 cut c =
     let t = c .before .before in
     let s = t .before .before in
-    cut-of (s .args .x) (s .good .0 .1) (t .before .if1 .taken) (t .if2 .taken) (c .before .truncating-f64-to-i64 .ensures) (c .nearest-i64-to-f64 .ensures)
+    cut-of (s .args .x) (s .good .0 .1) (t .before .if1 .taken) (t .if2 .taken)
+    (c .before .truncating-f64-to-i64 .ensures) (c .nearest-i64-to-f64 .ensures)
 
 add-result : tie.Need-add-result
 add-result c = cut (c .before) .above (c .if3 .taken) .0
@@ -38,4 +41,7 @@ unfolding ofBits neg
 returns-5 c = low-end (c .before .before .args .x) (c .before .if1 .left) (c .if4 .left) .1
 
 pub ceil-i64-spec : {M : Type 1} → statement M
-ceil-i64-spec = tie.close (tie.spec truncating-f64-to-i64-requires (λ c κs. search needs) add-result returns returns-2 returns-3 returns-4 returns-5)
+ceil-i64-spec =
+    tie.close
+    (tie.spec truncating-f64-to-i64-requires (λ c κs. search needs)
+    add-result returns returns-2 returns-3 returns-4 returns-5)

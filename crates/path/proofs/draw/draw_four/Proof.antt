@@ -1,4 +1,5 @@
--- `path::draw::draw_four` meets its contract: the stores that are left in each of the four runs make what all of them make.
+-- `path::draw::draw_four` meets its contract: the stores that are left in each of the four runs
+-- make what all of them make.
 use Prim.Native.Nat.{_+_, _*_, _≤_}
 use mathlib.Core.Path.{_≡_, refl, sym, _∙_}
 use native.Mathlib.Omega.{arith}
@@ -9,8 +10,10 @@ use Rattle.path.proofs.draw.draw_four.Tie as tie
 
 abbrev Inv-loop : tie.InvT-loop
 Inv-loop grid first apart step count points₀ at width number₀ place₀ left₀ points number place left =
-    (length points ≡ length points₀) × (number + left * step ≡ first + count * step) × (place + 3 * left ≡ at + 3 * count) × (left ≤ count)
-    × (lanes grid apart step (3 * count) count 4 points₀ at first ≡ lanes grid apart step (3 * count) left 4 points place number)
+    (length points ≡ length points₀) × (number + left * step ≡ first + count * step)
+    × (place + 3 * left ≡ at + 3 * count) × (left ≤ count)
+    × (lanes grid apart step (3 * count) count 4 points₀ at first
+    ≡ lanes grid apart step (3 * count) left 4 points place number)
 
 abbrev μ-loop : tie.MeasureT-loop
 μ-loop grid first apart step count points₀ at width number₀ place₀ left₀ points number place left = left
@@ -19,7 +22,8 @@ loop-holds : tie.Need-loop-holds Inv-loop μ-loop
 loop-holds c = (refl, refl, refl, omega arith, refl)
 
 -- in a turn of the loop
-less : (t : tie.In-loop Inv-loop μ-loop) → Fewer 1 (t .before .loop .left) (t .before .before .before .before .args .step)
+less : (t : tie.In-loop Inv-loop μ-loop) →
+    Fewer 1 (t .before .loop .left) (t .before .before .before .before .args .step)
 less t = fewer 1 _ _ (t .loop-test .taken)
 
 -- the turn, seen from before the second, the third and the fourth point, and from after the last
@@ -49,7 +53,8 @@ loop-again c =
       omega (arith, t),
       omega (arith, t),
       omega (arith, t),
-      l .inv .4 ∙ four-turn (a .grid .now) (a .apart) (a .step) (3 * a .count) (l .left) (l .points) (l .place) (l .number) (t .loop-test .taken) (omega (arith, t))
+      l .inv .4 ∙ four-turn (a .grid .now) (a .apart) (a .step) (3 * a .count) (l .left) (l .points) (l .place)
+          (l .number) (t .loop-test .taken) (omega (arith, t))
           (u1 .before .point-at .ensures) (u1 .put .ensures) (u2 .before .point-at2 .ensures) (u2 .put2 .ensures)
           (u3 .before .point-at3 .ensures) (u3 .put3 .ensures) (u4 .before .point-at4 .ensures) (u4 .put4 .ensures),
     )
@@ -58,8 +63,11 @@ returns : tie.Need-returns Inv-loop μ-loop
 returns c =
     let l = c .before .loop in
     let a = c .before .before .before .before .args in
-    sym (sym (lanes-runs (a .grid .now) (a .apart) (a .step) (3 * a .count) (a .count) 4 (a .points .now) (a .at) (a .first) refl)
-    ∙ l .inv .4 ∙ lanes-done (a .grid .now) (a .apart) (a .step) (3 * a .count) (l .left) 4 (l .points) (l .place) (l .number) (c .loop-test .left))
+    sym (sym
+    (lanes-runs (a .grid .now) (a .apart) (a .step) (3 * a .count) (a .count) 4 (a .points .now) (a .at)
+    (a .first) refl)
+    ∙ l .inv .4 ∙ lanes-done (a .grid .now) (a .apart) (a .step) (3 * a .count) (l .left) 4 (l .points) (l .place)
+    (l .number) (c .loop-test .left))
 
 pub draw-four-spec : {M : Type 1} → statement M
 draw-four-spec =

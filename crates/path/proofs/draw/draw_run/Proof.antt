@@ -12,8 +12,10 @@ use Rattle.path.proofs.draw.draw_run.Tie as tie
 
 abbrev Inv-loop : tie.InvT-loop
 Inv-loop grid first step count points₀ at number₀ place₀ left₀ points number place left =
-    (length points ≡ length points₀) × (number + left * step ≡ first + count * step) × (place + 3 * left ≡ at + 3 * count)
-    × (sets points₀ at (coordinates (run grid first step count)) ≡ sets points place (coordinates (run grid number step left)))
+    (length points ≡ length points₀) × (number + left * step ≡ first + count * step)
+    × (place + 3 * left ≡ at + 3 * count)
+    × (sets points₀ at (coordinates (run grid first step count))
+    ≡ sets points place (coordinates (run grid number step left)))
 
 abbrev μ-loop : tie.MeasureT-loop
 μ-loop grid first step count points₀ at number₀ place₀ left₀ points number place left = left
@@ -22,7 +24,8 @@ loop-holds : tie.Need-loop-holds Inv-loop μ-loop
 loop-holds c = (refl, refl, refl, refl)
 
 -- in a turn of the loop
-less : (t : tie.In-loop Inv-loop μ-loop) → Fewer 1 (t .before .loop .left) (t .before .before .before .before .args .step)
+less : (t : tie.In-loop Inv-loop μ-loop) →
+    Fewer 1 (t .before .loop .left) (t .before .before .before .before .args .step)
 less t = fewer 1 _ _ (t .loop-test .taken)
 
 loop-again : tie.Need-loop-again Inv-loop μ-loop

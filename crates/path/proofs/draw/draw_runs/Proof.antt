@@ -13,16 +13,20 @@ use Rattle.path.proofs.draw.draw_runs.Tie as tie
 
 abbrev Inv-loop : tie.InvT-loop
 Inv-loop grid lines apart step count points₀ at width first₀ place₀ left₀ points first place left =
-    (length points ≡ length points₀) × (first + left * apart ≡ lines * apart) × (place + left * (3 * count) ≡ at + lines * (3 * count))
-    × (sets points₀ at (coordinates (flatten (runs grid 0 apart step count lines))) ≡ sets points place (coordinates (flatten (runs grid first apart step count left))))
+    (length points ≡ length points₀) × (first + left * apart ≡ lines * apart)
+    × (place + left * (3 * count) ≡ at + lines * (3 * count))
+    × (sets points₀ at (coordinates (flatten (runs grid 0 apart step count lines)))
+    ≡ sets points place (coordinates (flatten (runs grid first apart step count left))))
 
 abbrev μ-loop : tie.MeasureT-loop
 μ-loop grid lines apart step count points₀ at width first₀ place₀ left₀ points first place left = left
 
 abbrev Inv-loop2 : tie.InvT-loop2
 Inv-loop2 grid lines apart step count points₀ at width first₀ place₀ left₀ points first place left =
-    (length points ≡ length points₀) × (first + left * apart ≡ lines * apart) × (place + left * (3 * count) ≡ at + lines * (3 * count))
-    × (sets points₀ place₀ (coordinates (flatten (runs grid first₀ apart step count left₀))) ≡ sets points place (coordinates (flatten (runs grid first apart step count left))))
+    (length points ≡ length points₀) × (first + left * apart ≡ lines * apart)
+    × (place + left * (3 * count) ≡ at + lines * (3 * count))
+    × (sets points₀ place₀ (coordinates (flatten (runs grid first₀ apart step count left₀)))
+    ≡ sets points place (coordinates (flatten (runs grid first apart step count left))))
 
 abbrev μ-loop2 : tie.MeasureT-loop2
 μ-loop2 grid lines apart step count points₀ at width first₀ place₀ left₀ points first place left = left
@@ -32,11 +36,13 @@ loop-holds c = (refl, omega arith, refl, refl)
 
 -- in a turn of the first loop, and of the second
 four-less : (t : tie.In-loop Inv-loop μ-loop Inv-loop2 μ-loop2) →
-    let a = t .before .before .before .before .args in let left = t .before .loop .left in Fewer 4 left (a .apart) × Fewer 4 left (3 * a .count)
+    let a = t .before .before .before .before .args in
+    let left = t .before .loop .left in Fewer 4 left (a .apart) × Fewer 4 left (3 * a .count)
 four-less t = (fewer 4 _ _ (t .loop-test .taken), fewer 4 _ _ (t .loop-test .taken))
 
 one-less : (t : tie.In-loop2 Inv-loop μ-loop Inv-loop2 μ-loop2) →
-    let a = t .before .before .before .before .before .before .args in let left = t .before .loop2 .left in Fewer 1 left (a .apart) × Fewer 1 left (3 * a .count)
+    let a = t .before .before .before .before .before .before .args in
+    let left = t .before .loop2 .left in Fewer 1 left (a .apart) × Fewer 1 left (3 * a .count)
 one-less t = (fewer 1 _ _ (t .loop2-test .taken), fewer 1 _ _ (t .loop2-test .taken))
 
 loop-again : tie.Need-loop-again Inv-loop μ-loop Inv-loop2 μ-loop2

@@ -1,4 +1,5 @@
--- `path::draw::points` meets its contract: the runs along u, then those along v, are the lines of the grid, and the rest is zeroed.
+-- `path::draw::points` meets its contract: the runs along u, then those along v, are the lines of the
+-- grid, and the rest is zeroed.
 use Rattle.path.proofs.Lines.{points-drawn}
 use borrow.Author.Needs.{needs}
 use Rattle.path.proofs.draw.points.Statement.{statement}

@@ -1,4 +1,5 @@
--- `path::draw::starts` meets its contract: the lines along u have M+1 points each, those along v N+1, and the rest is zeroed.
+-- `path::draw::starts` meets its contract: the lines along u have M+1 points each, those along v
+-- N+1, and the rest is zeroed.
 use Prim.Native.Nat.{_+_, _*_, _≤_}
 use native.Mathlib.Omega.{arith}
 use Rattle.grid.proofs.Laws.{points-most}

@@ -1,7 +1,9 @@
--- `vector::Vector::all_close` meets its contract: the laws are in proofs/Close.antt.
+-- `vector::Vector::all_close` meets its contract: the largest of the three is below EPS where none is EPS or more, and
+-- a NaN is passed over unless all three are (proofs/Close.antt).
 use borrow.Author.Needs.{needs}
 use Rattle.float.specs.Consts.{eps}
-use Rattle.vector.proofs.Close.{eps-not-nan, apart-fails, near-passes, apart-first, apart-second, apart-third, none-apart}
+use Rattle.vector.proofs.Close.{eps-not-nan, apart-fails, near-passes, apart-first, apart-second, apart-third}
+use Rattle.vector.proofs.Close.{none-apart}
 use Rattle.vector.proofs.Vector.all_close.Statement.{statement}
 use Rattle.vector.proofs.Vector.all_close.Tie as tie
 
@@ -11,7 +13,8 @@ returns c =
     let s = c .before .before in
     let a = s .before .args in
     let d = s .sub .result in
-    apart-first (a .self) (a .other) d eps (s .sub .ensures) (apart-fails (d .x) eps eps-not-nan (c .before .apart .ensures) (c .if1 .taken))
+    apart-first (a .self) (a .other) d eps (s .sub .ensures)
+    (apart-fails (d .x) eps eps-not-nan (c .before .apart .ensures) (c .if1 .taken))
 
 returns-2 : tie.Need-returns-2
 unfolding eps
@@ -19,7 +22,8 @@ returns-2 c =
     let s = c .before .before .before .before in
     let a = s .before .args in
     let d = s .sub .result in
-    apart-second (a .self) (a .other) d eps (s .sub .ensures) (apart-fails (d .y) eps eps-not-nan (c .before .apart2 .ensures) (c .if2 .taken))
+    apart-second (a .self) (a .other) d eps (s .sub .ensures)
+    (apart-fails (d .y) eps eps-not-nan (c .before .apart2 .ensures) (c .if2 .taken))
 
 returns-3 : tie.Need-returns-3
 unfolding eps
@@ -27,7 +31,8 @@ returns-3 c =
     let s = c .before .before .before .before .before .before in
     let a = s .before .args in
     let d = s .sub .result in
-    apart-third (a .self) (a .other) d eps (s .sub .ensures) (apart-fails (d .z) eps eps-not-nan (c .before .apart3 .ensures) (c .if3 .taken))
+    apart-third (a .self) (a .other) d eps (s .sub .ensures)
+    (apart-fails (d .z) eps eps-not-nan (c .before .apart3 .ensures) (c .if3 .taken))
 
 returns-4 : tie.Need-returns-4
 unfolding eps

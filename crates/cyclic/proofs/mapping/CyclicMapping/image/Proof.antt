@@ -1,4 +1,5 @@
--- `cyclic::mapping::CyclicMapping::image` meets its contract: the cases are those of `image`, at the variant that the match found.
+-- `cyclic::mapping::CyclicMapping::image` meets its contract: the cases are those of `image`, at the
+-- variant that the match found.
 use native.Mathlib.Omega.{arith}
 use mathlib.Core.Path.{sym}
 use borrow.Author.Needs.{needs}
@@ -9,14 +10,17 @@ use Rattle.cyclic.proofs.mapping.CyclicMapping.image.Statement.{stateme
 use Rattle.cyclic.proofs.mapping.CyclicMapping.image.Tie as tie
 
 -- forward, at an offset other than 0
-there : (c : tie.Else1) → HasIndex (Forward (c .before .before .self .given .0 .0) (c .before .before .self .given .0 .1 .0)) (c .before .before .before .before .args .a-idx)
+there : (c : tie.Else1) →
+    HasIndex (Forward (c .before .before .self .given .0 .0) (c .before .before .self .given .0 .1 .0))
+    (c .before .before .before .before .args .a-idx)
 there c = let s = c .before .before in has-index-as _ (s .self .given .1) (s .before .before .pre)
 
 returns : tie.Need-returns
 returns c = rw (c .before .before .self .given .1) (sym (forward-zero _ _ _ (c .if1 .taken)))
 
 reversed-requires : tie.Need-reversed-requires
-reversed-requires c κs = has-index-as (c .before .before .before .args .a-idx) (c .before .self2 .given .1) (c .before .before .before .pre)
+reversed-requires c κs =
+    has-index-as (c .before .before .before .args .a-idx) (c .before .self2 .given .1) (c .before .before .before .pre)
 
 returns-2 : tie.Need-returns-2
 returns-2 c = rw (c .before .before .self .given .1) (sym (forward-other _ _ _ (c .if1 .left)))

@@ -1,4 +1,5 @@
--- `cyclic::mapping::CyclicMapping::inverse` meets its contract: the cases are those of `inverse`, at the variant that the match found.
+-- `cyclic::mapping::CyclicMapping::inverse` meets its contract: the cases are those of `inverse`, at the
+-- variant that the match found.
 use native.Mathlib.Omega.{arith}
 use native.Mathlib.Nat.{mod-lt}
 use mathlib.Core.Path.{sym}
@@ -10,7 +11,9 @@ use Rattle.cyclic.proofs.mapping.CyclicMapping.inverse.Statement.{state
 use Rattle.cyclic.proofs.mapping.CyclicMapping.inverse.Tie as tie
 
 -- forward, at an offset other than 0
-there : (c : tie.Else1) → HasIndex (Forward (c .before .before .self .given .0 .0) (c .before .before .self .given .0 .1 .0)) (c .before .before .before .before .args .b-idx)
+there : (c : tie.Else1) →
+    HasIndex (Forward (c .before .before .self .given .0 .0) (c .before .before .self .given .0 .1 .0))
+    (c .before .before .before .before .args .b-idx)
 there c = let s = c .before .before in has-index-as _ (s .self .given .1) (s .before .before .pre)
 
 returns : tie.Need-returns
@@ -22,7 +25,8 @@ sub-result c =
     omega (arith, there c, mod-lt (s .0) {m = s .1 .0} (omega (arith, there c)))
 
 reversed-requires : tie.Need-reversed-requires
-reversed-requires c κs = has-index-as (c .before .before .before .args .b-idx) (c .before .self2 .given .1) (c .before .before .before .pre)
+reversed-requires c κs =
+    has-index-as (c .before .before .before .args .b-idx) (c .before .self2 .given .1) (c .before .before .before .pre)
 
 returns-2 : tie.Need-returns-2
 returns-2 c = rw (c .before .before .self .given .1) (sym (inverse-other _ _ _ (c .if1 .left)))

@@ -1,4 +1,5 @@
--- `cyclic::mapping::CyclicMapping::map_index` meets its contract: `mapIndex` is `image` where the test holds, and refusal 8 where it does not.
+-- `cyclic::mapping::CyclicMapping::map_index` meets its contract: `mapIndex` is `image` where the test holds, and
+-- refusal 8 where it does not.
 use mathlib.Core.Path.{sym, ap, _∙_}
 use borrow.Author.Needs.{needs}
 use Rattle.refusal.specs.Refusals.{ok}
@@ -8,7 +9,9 @@ use Rattle.cyclic.proofs.mapping.CyclicMapping.map_index.Statement.{sta
 use Rattle.cyclic.proofs.mapping.CyclicMapping.map_index.Tie as tie
 
 image-requires : tie.Need-image-requires
-image-requires c κs = usable-known (c .before .before .args .self) (c .before .before .args .a-idx) (sym (c .before .usable .ensures) ∙ c .if1 .taken)
+image-requires c κs =
+    usable-known (c .before .before .args .self) (c .before .before .args .a-idx)
+    (sym (c .before .usable .ensures) ∙ c .if1 .taken)
 
 returns : tie.Need-returns
 unfolding mapIndex

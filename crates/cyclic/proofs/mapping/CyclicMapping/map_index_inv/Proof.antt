@@ -1,4 +1,5 @@
--- `cyclic::mapping::CyclicMapping::map_index_inv` meets its contract: `mapIndexInv` is `inverse` where the test holds, and refusal 8 where it does not.
+-- `cyclic::mapping::CyclicMapping::map_index_inv` meets its contract: `mapIndexInv` is `inverse` where the test holds,
+-- and refusal 8 where it does not.
 use mathlib.Core.Path.{sym, ap, _∙_}
 use borrow.Author.Needs.{needs}
 use Rattle.refusal.specs.Refusals.{ok}
@@ -8,7 +9,9 @@ use Rattle.cyclic.proofs.mapping.CyclicMapping.map_index_inv.Statement.
 use Rattle.cyclic.proofs.mapping.CyclicMapping.map_index_inv.Tie as tie
 
 inverse-requires : tie.Need-inverse-requires
-inverse-requires c κs = usable-known (c .before .before .args .self) (c .before .before .args .b-idx) (sym (c .before .usable .ensures) ∙ c .if1 .taken)
+inverse-requires c κs =
+    usable-known (c .before .before .args .self) (c .before .before .args .b-idx)
+    (sym (c .before .usable .ensures) ∙ c .if1 .taken)
 
 returns : tie.Need-returns
 unfolding mapIndexInv

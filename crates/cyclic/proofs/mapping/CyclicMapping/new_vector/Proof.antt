@@ -1,4 +1,4 @@
--- `cyclic::CyclicMapping::new_vector` meets its contract: the refusal that applies, or what the search answers.
+-- `cyclic::mapping::CyclicMapping::new_vector` meets its contract: a refusal that applies, or what the search says.
 use mathlib.Core.Path.{_≡_, sym, ap, _∙_}
 use denote.Ref.{now}
 use Rattle.float.specs.Consts.{eps}
