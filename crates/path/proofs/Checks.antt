@@ -1,7 +1,6 @@
 -- What `gridPaths` says where its tests refuse, and where they pass.
 use Prim.Native.Nat.{ℕ, _+_, _*_, _≤_}
-use mathlib.Core.Path.{_≡_, sym, ap, _∙_}
-use mathlib.Core.Bool.{false}
+use mathlib.Core.Path.{_≡_}
 use mathlib.Core.List.{List, _++_, flatten}
 use lib.Ieee.{Float}
 use lib.ListN.{length}
@@ -12,12 +11,11 @@ use Rattle.basics.proofs.Tests.{and-both}
 use Rattle.refusal.specs.declared.Check.{Check}
 use Rattle.refusal.specs.declared.Check.the-variants.{Passed, Failed}
 use Rattle.refusal.specs.declared.Refusal.{Refusal}
-use Rattle.refusal.specs.declared.Refusal.the-variants.{Steps, Room}
+use Rattle.refusal.specs.declared.Refusal.the-variants.{Room}
 use Rattle.refusal.specs.Refusals.{unless}
 use Rattle.refusal.proofs.Laws.{unless-passed}
 use Rattle.lent.specs.Lent.{filled, afterwards}
-use Rattle.grid.specs.Grid.{stepsFit, gridCheck}
-use Rattle.grid.proofs.Laws.{Shaped, grid-passed, steps-refused}
+use Rattle.grid.proofs.Laws.{Shaped, grid-passed}
 use Rattle.path.specs.declared.GridPathsAnswer.{GridPathsAnswer}
 use Rattle.path.specs.declared.GridPathsAnswer.the-variants.{Drawn, Refused}
 use Rattle.path.specs.GridPaths.{gridLines, coordinates, roomFits, pathsCheck, gridPaths, pathLists, statedPaths}
@@ -25,15 +23,6 @@ use Rattle.path.specs.Runs.{spaced}
 use Rattle.path.proofs.Lines.{grid-starts}
 
 module _ (g : List Float) (m n : ℕ) (points : List Float) (starts : List ℕ) where
-  -- 1 applies; or the grid's tests, with the test of room between them, are those of `pathsCheck`
-  pub no-steps : stepsFit m n ≡ false → Failed Steps ≡ pathsCheck g m n points starts
-  unfolding pathsCheck
-  no-steps h = sym (steps-refused g m n (unless (roomFits m n points starts) Room Passed) h)
-
-  pub checked : {room c : Check} → room ≡ unless (roomFits m n points starts) Room Passed → c ≡ gridCheck g m n room → c ≡ pathsCheck g m n points starts
-  unfolding pathsCheck
-  checked er ec = ec ∙ ap (gridCheck g m n) er
-
   -- the answer a, with the lists ps and ss
   abbrev Leaves : GridPathsAnswer → List Float → List ℕ → Type 0
   Leaves a ps ss = afterwards (statedPaths a) (pathLists ps ss) ≡ gridPaths g m n (pathLists points starts)
