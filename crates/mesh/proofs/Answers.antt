@@ -1,7 +1,6 @@
 -- The open call's answer and lists: its refusals in order, what is known where none applies, and the lists that are handed over.
 use Prim.Native.Nat.{ℕ, _+_, _*_, _≤_}
 use mathlib.Core.Path.{_≡_, sym, ap, _∙_}
-use mathlib.Core.Bool.{false}
 use mathlib.Core.List.{List, []}
 use native.Mathlib.Omega.{arith}
 use lib.Dec.{leb}
@@ -13,14 +12,14 @@ use Rattle.basics.proofs.Tests.{and-both}
 use Rattle.refusal.specs.declared.Check.{Check}
 use Rattle.refusal.specs.declared.Check.the-variants.{Passed, Failed}
 use Rattle.refusal.specs.declared.Refusal.{Refusal}
-use Rattle.refusal.specs.declared.Refusal.the-variants.{Steps, Room}
+use Rattle.refusal.specs.declared.Refusal.the-variants.{Room}
 use Rattle.refusal.specs.Refusals.{unless}
 use Rattle.refusal.proofs.Laws.{unless-passed}
 use Rattle.lent.specs.Lent.{filled, zeroedFrom, afterwards}
 use Rattle.lent.proofs.Laws.{zeroed-filled, answered-in}
 use Rattle.param.specs.declared.Axis.the-variants.{AxisU, AxisV}
-use Rattle.grid.specs.Grid.{stepsFit, gridCheck, Accepted}
-use Rattle.grid.proofs.Laws.{grid-passed, grid-accepted, accepted-known, steps-refused}
+use Rattle.grid.specs.Grid.{Accepted}
+use Rattle.grid.proofs.Laws.{grid-passed, grid-accepted, accepted-known}
 use Rattle.cyclic.specs.declared.seam.SeamSearch.{SeamSearch}
 use Rattle.surface.specs.Surface.{Shape, Triangle, kept, slots, triangles, flipped}
 use Rattle.surface.specs.Found.{uSearch, vSearch, surfaceWith}
@@ -37,15 +36,6 @@ use Rattle.mesh.proofs.Cells.{held-most}
 use Rattle.mesh.proofs.Flips.{seam-most, held-pairs, flipped-is}
 
 -- Refusals
-
--- 1 applies; or the grid's tests, with the test of room between them, are those of `meshCheck`
-pub no-steps : (g : List Float) (m n : ℕ) (t f : List ℕ) → stepsFit m n ≡ false → Failed Steps ≡ meshCheck g m n t f
-unfolding meshCheck
-no-steps g m n t f h = sym (steps-refused g m n (unless (roomFits m n t f) Room Passed) h)
-
-pub mesh-checked : (g : List Float) (m n : ℕ) (t f : List ℕ) {room c : Check} → room ≡ unless (roomFits m n t f) Room Passed → c ≡ gridCheck g m n room → c ≡ meshCheck g m n t f
-unfolding meshCheck
-mesh-checked g m n t f er ec = ec ∙ ap (gridCheck g m n) er
 
 -- what is known where no refusal applies
 pub record Admitted (g : List Float) (m n : ℕ) (t f : List ℕ) : Type 0 where

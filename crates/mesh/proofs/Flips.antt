@@ -17,7 +17,7 @@ use Rattle.cyclic.specs.declared.seam.Seam.{Seam as Found}
 use Rattle.cyclic.specs.declared.seam.Seam.the-variants.{Joined}
 use Rattle.cyclic.specs.Mapping as cyclic
 use Rattle.surface.specs.Surface.{Seam, Shape, Pair, ordered, insert, proper, slot, triangleNumber, stepOn, reversed, process, flipped, pair}
-use Rattle.surface.specs.Found.{ofMapping, seamOf}
+use Rattle.surface.specs.Found.{ofMapping, seamOf, Maps}
 use Rattle.surface.specs.Rims.{stepsOf, lowOf, highOf}
 use Rattle.mesh.specs.declared.corner.Surface.{Surface}
 use Rattle.mesh.specs.Corners.{shapeOf, Bounded}
@@ -101,6 +101,10 @@ pub held-pairs : (count : ℕ) (l : List ℕ) {ps : List Pair} → pairsIn count
 held-pairs count l e = sym (length-firsts (pairAt l) count) ∙ ap length e
 
 -- One seam
+
+-- a found seam's mapping fits where the seam does
+pub maps-told : {seam : Found} {m : CyclicMapping} {steps : ℕ} → seam ≡ Joined m → Maps seam steps → Maps (Joined m) steps
+maps-told e h = rw e at h
 
 -- what a found seam's test says of it
 pub seam-told : {seam : Found} {m : CyclicMapping} {r t : Bool} → seam ≡ Joined m → r ≡ cyclic.isReverse m → r ≡ t → reversed (seamOf seam) ≡ t

@@ -1,10 +1,12 @@
--- Where tests pass one after the other, each of them passes: a test that fails answers by itself.
-use mathlib.Core.Path.{_≡_, refl}
+-- Where tests pass one after the other, each of them passes: a test that fails answers by itself. And an answer behind tests.
+use mathlib.Core.Path.{_≡_, refl, sym}
 use mathlib.Core.Bool.{Bool, true, false, true≢false}
+use Prim.Native.Nat.{ℕ}
+use native.Mathlib.Omega.{arith}
 use Rattle.refusal.specs.declared.Check.{Check}
 use Rattle.refusal.specs.declared.Check.the-variants.{Passed, Failed}
 use Rattle.refusal.specs.declared.Refusal.{Refusal}
-use Rattle.refusal.specs.Refusals.{unless, andThen}
+use Rattle.refusal.specs.Refusals.{ok, refused, unless, andThen, passing}
 
 pub unless-passed : (t : Bool) (k : Refusal) (after : Check) → unless t k after ≡ Passed → (t ≡ true) × (after ≡ Passed)
 unless-passed true k after h = (refl, h)
@@ -13,3 +15,12 @@ unless-passed false k after h = absurd (true≢false (cc))
 pub then-passed : (c after : Check) → andThen c after ≡ Passed → (c ≡ Passed) × (after ≡ Passed)
 then-passed Passed after h = (refl, h)
 then-passed (Failed k) after h = absurd (true≢false (cc))
+
+-- an answer is not a refusal
+pub never : {A B : Type 0} {x : A} {k : ℕ} → ok x ≡ refused k → B
+never e = let z : _≡_ {A = ℕ} 0 1 = cc in absurd (omega arith)
+
+-- where a call answers, its tests are passed
+pub answered : {A : Type 0} (k : Check) {a b : A} → passing k (ok a) ≡ ok b → (k ≡ Passed) × (b ≡ a)
+answered Passed e = (refl, cc)
+answered (Failed r) e = never (sym e)

@@ -22,7 +22,7 @@ use Rattle.float.proofs.Differences.{sub-self}
 use Rattle.refusal.specs.declared.Check.the-variants.{Passed}
 use Rattle.refusal.specs.declared.Refusal.the-variants.{Direction, NotThere}
 use Rattle.refusal.specs.Refusals.{ok, unless}
-use Rattle.refusal.proofs.Laws.{unless-passed}
+use Rattle.refusal.proofs.Laws.{unless-passed, answered}
 use Rattle.grid.proofs.Laws.{Stepped, steps-known}
 use Rattle.param.specs.Param.{param}
 use Rattle.param.specs.declared.ParamPoint.{ParamPoint}
@@ -30,7 +30,7 @@ use Rattle.texture.specs.declared.plan.ParametricSurfaceTexture.{Paramet
 use Rattle.texture.specs.declared.plan.ParametricSurfaceTexture.the-variants.{Swirl, Spiral}
 use Rattle.texture.specs.Plan.{centre, textureRadius, planCheck, Plan, planOf, plan}
 use Rattle.texture.specs.Sample.{distanceOf, directionFits, pointOf, isThere, samplePoint}
-use Rattle.texture.proofs.Plans.{answered, checks, plan-passed, plan-ok}
+use Rattle.texture.proofs.Plans.{checks, plan-passed, plan-ok}
 use Rattle.texture.proofs.Laws.{swirl-counts, spiral-counts}
 use Rattle.texture.proofs.Zeros.{times-zero, positive-times-zero, zero-over, over-self, plus-zero}
 

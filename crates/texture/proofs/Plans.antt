@@ -1,16 +1,15 @@
 -- `raysOf`, `samplesPerRay` and `plan` by the cases of the code, from what the calls gave.
-use mathlib.Core.Path.{_≡_, refl, sym}
+use mathlib.Core.Path.{_≡_, sym}
 use mathlib.Core.Bool.{Bool, true, false, _&&_}
 use Prim.Native.Nat.{ℕ, max}
-use native.Mathlib.Omega.{arith}
 use lib.Ieee.{Float, le, toUnsigned}
 use Rattle.float.specs.Cast.{natFloat}
 use Rattle.refusal.specs.declared.Check.{Check}
-use Rattle.refusal.specs.declared.Check.the-variants.{Passed, Failed}
+use Rattle.refusal.specs.declared.Check.the-variants.{Passed}
 use Rattle.refusal.specs.Refusals.{Answer, ok, refused, unless, passing}
 use Rattle.refusal.specs.declared.Refusal.the-variants.{Steps, Texture, Count}
 use Rattle.grid.specs.Grid.{stepsFit}
-use Rattle.refusal.proofs.Laws.{unless-passed}
+use Rattle.refusal.proofs.Laws.{unless-passed, never, answered}
 use Rattle.texture.specs.declared.plan.ParametricSurfaceTexture.{ParametricSurfaceTexture}
 use Rattle.texture.specs.declared.plan.ParametricSurfaceTexture.the-variants.{Swirl, Spiral}
 use Rattle.texture.specs.Plan.{textureSpacing, swirlRays, radialSampleCount, spiralSampleCount, raysOf, samplesPerRay, textureFits, maxCount, countsFit, planCheck, Plan, planOf, plan}
@@ -49,15 +48,6 @@ module _ (t : ParametricSurfaceTexture) (m n : ℕ) {b : Bool} (eb : b ≡ steps
       plan-ok l ei ej = rw (← eb, h, ← ef, k, ← er, ← es, l, ei, ej)
 
 -- ---- what follows a plan's own tests
-
--- an answer is not a refusal
-never : {A B : Type 0} {x : A} {k : ℕ} → ok x ≡ refused k → B
-never e = let z : _≡_ {A = ℕ} 0 1 = cc in absurd (omega arith)
-
--- where a call answers, its tests are passed
-pub answered : {A : Type 0} (k : Check) {a b : A} → passing k (ok a) ≡ ok b → (k ≡ Passed) × (b ≡ a)
-answered Passed e = (refl, cc)
-answered (Failed r) e = never (sym e)
 
 -- what is known where all tests are passed
 pub checks : (t : ParametricSurfaceTexture) (m n : ℕ) (after : Check) → planCheck t m n after ≡ Passed

@@ -1,9 +1,11 @@
 -- `mesh::check_mesh` meets its contract: 1 is refused at once, and past it M and N are at most 255, so that the room is a number that fits.
+use mathlib.Core.Path.{sym, ap, _∙_}
 use native.Mathlib.Omega.{arith}
 use borrow.Author.Needs.{needs}
 use Rattle.basics.proofs.Tests.{held, failed}
-use Rattle.grid.proofs.Laws.{Stepped, steps-known}
-use Rattle.mesh.proofs.Answers.{no-steps, mesh-checked}
+use Rattle.grid.specs.Grid.{gridCheck}
+use Rattle.grid.proofs.Laws.{Stepped, steps-known, steps-refused}
+use Rattle.mesh.specs.Mesh.{meshCheck}
 use Rattle.mesh.proofs.check_mesh.Statement.{statement}
 use Rattle.mesh.proofs.check_mesh.Tie as tie
 
@@ -11,16 +13,14 @@ use Rattle.mesh.proofs.check_mesh.Tie as tie
 stepped : (e : tie.Else1) → let a = e .before .before .before .before .before .args in Stepped (a .m) (a .n)
 stepped e = steps-known _ _ (held (e .before .steps-fit .ensures) (e .if1 .left))
 
+-- the grid's tests, with the test of room between them, are those of `meshCheck`
 returns : tie.Need-returns
-returns c =
-    let a = c .before .before .before .before .before .args in
-    no-steps (a .grid .now) (a .m) (a .n) (a .triangles .now) (a .flipped .now) (failed (c .before .steps-fit .ensures) (c .if1 .taken))
+unfolding meshCheck
+returns c = sym (steps-refused _ _ _ _ (failed (c .before .steps-fit .ensures) (c .if1 .taken)))
 
 returns-2 : tie.Need-returns-2
-returns-2 c =
-    let r = c .before in
-    let a = r .before .before .before .before .before .before .args in
-    mesh-checked (a .grid .now) (a .m) (a .n) (a .triangles .now) (a .flipped .now) (r .check-room .ensures) (c .check-grid .ensures)
+unfolding meshCheck
+returns-2 c = c .check-grid .ensures ∙ ap (gridCheck _ _ _) (c .before .check-room .ensures)
 
 pub check-mesh-spec : {M : Type 1} → statement M
 check-mesh-spec =

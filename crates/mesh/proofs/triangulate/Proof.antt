@@ -12,16 +12,22 @@ use Rattle.mesh.proofs.Answers.{all-kept, triangles-most, triangles-fil
 use Rattle.mesh.proofs.triangulate.Statement.{statement}
 use Rattle.mesh.proofs.triangulate.Tie as tie
 
--- the start, from where the triangles are built
+-- ---- places: the start, the triangles, the pairs, and zero past the triangles, each from the next
+
 abbrev started : tie.After-build-triangles → tie.Start
 started e = e .before .before .before .before .before
 
-triangles-fit : (e : tie.After-build-triangles) → let s = started e .args .surface in 3 * e .build-triangles .result ≤ 6 * (s .m * s .n)
-triangles-fit e = triangles-most (shapeOf (started e .args .surface)) (e .build-triangles .result) (e .build-triangles .last .1 .0) (e .build-triangles .ensures .0)
-
--- where the triangles are built, from where the pairs are found
 abbrev built : tie.After-find-flipped → tie.After-build-triangles
 built e = e .before .before .before .before .before .before
+
+abbrev found : tie.After-zero-numbers → tie.After-find-flipped
+found e = e .before .before .before .before
+
+abbrev triangles-done : tie.After-zero-numbers2 → tie.After-zero-numbers
+triangles-done e = e .before .before .before .before
+
+triangles-fit : (e : tie.After-build-triangles) → let s = started e .args .surface in 3 * e .build-triangles .result ≤ 6 * (s .m * s .n)
+triangles-fit e = triangles-most (shapeOf (started e .args .surface)) (e .build-triangles .result) (e .build-triangles .last .1 .0) (e .build-triangles .ensures .0)
 
 pairs-fit : (e : tie.After-find-flipped) → let s = started (built e) .args .surface in 2 * e .find-flipped .result ≤ 2 * (s .m + s .n)
 pairs-fit e = pairs-most (shapeOf (started (built e) .args .surface)) (e .find-flipped .result) (e .find-flipped .last .1 .1 .0) (e .find-flipped .ensures)
@@ -32,27 +38,27 @@ build-triangles-requires c κs =
     ((t .pre .0, omega arith), t .pre .1 .0)
 
 mul-zero-numbers : tie.Need-mul-zero-numbers
-mul-zero-numbers c =
-    omega (arith, triangles-fit (built (c .before .before .before)))
+mul-zero-numbers c = omega (arith, triangles-fit (built (c .before .before .before)))
 
 mul-zero-numbers-2 : tie.Need-mul-zero-numbers-2
-mul-zero-numbers-2 c =
-    omega (arith, pairs-fit (c .before .before .before .before .before .before .before))
+mul-zero-numbers-2 c = omega (arith, pairs-fit (found (c .before .before .before)))
 
 returns : tie.Need-returns
 returns c =
-    let found = c .before .before .before .before .before .before .before .before .before .before in
-    let t = started (built found) in
+    let z = c .before .before in
+    let y = triangles-done z in
+    let e = found y in
+    let t = started (built e) in
     let a = t .args in
     let s = shapeOf (a .surface) in
-    let b = built found .build-triangles in
-    let p = found .find-flipped in
+    let b = built e .build-triangles in
+    let p = e .find-flipped in
     let all : trianglesIn (b .result) (b .last .1 .0) ≡ triangles s = all-kept s (b .ensures .0) in
     lists-written s (a .triangles .now) (a .flipped .now)
-    (c .before .before .before .before .before .before .zero-numbers .ensures
-    ∙ triangles-filled s (b .result) (b .last .1 .0) (a .triangles .now) all (omega (arith, triangles-fit (built found))) (b .kept .1 .0))
-    (c .before .before .zero-numbers2 .ensures
-    ∙ pairs-filled s (p .result) (p .last .1 .1 .0) (a .flipped .now) (p .ensures) (omega (arith, pairs-fit found)) (p .kept .1 .1 .0))
+    (y .zero-numbers .ensures
+    ∙ triangles-filled s (b .result) (b .last .1 .0) (a .triangles .now) all (omega (arith, triangles-fit (built e), b .kept .1 .0, t .pre .1 .0)) (b .kept .1 .0))
+    (z .zero-numbers2 .ensures
+    ∙ pairs-filled s (p .result) (p .last .1 .1 .0) (a .flipped .now) (p .ensures) (omega (arith, pairs-fit e, p .kept .1 .1 .0, t .pre .1 .1)) (p .kept .1 .1 .0))
     (held-triangles (b .result) (b .last .1 .0) all)
     (held-pairs (p .result) (p .last .1 .1 .0) (p .ensures))
 

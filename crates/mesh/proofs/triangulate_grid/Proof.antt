@@ -6,42 +6,52 @@ use Rattle.mesh.proofs.Answers.{Admitted, admitted, found-bounded, refu
 use Rattle.mesh.proofs.triangulate_grid.Statement.{statement}
 use Rattle.mesh.proofs.triangulate_grid.Tie as tie
 
--- the start, from where the match tells that no test failed
-abbrev start : tie.After-enum-told → tie.Start
-start e = e .before .before .before .before .before .before .before .before
+-- the start, from where the tests are done; and that place, from where the match tells that none failed
+abbrev started : tie.After-check-mesh → tie.Start
+started e = e .before .before .before .before .before .before
+
+abbrev tested : tie.After-enum-told → tie.After-check-mesh
+tested e = e .before .before
+
+-- where the seams are found, from where the lists are written
+abbrev found : tie.After-triangulate → tie.After-find-seams
+found e = e .before .before .before .before .before
 
 -- no refusal applies
-let-in : (e : tie.After-enum-told) → Admitted (start e .args .grid .now) (start e .args .m) (start e .args .n) (start e .args .triangles .now) (start e .args .flipped .now)
+let-in : (e : tie.After-enum-told) → let a = started (tested e) .args in Admitted (a .grid .now) (a .m) (a .n) (a .triangles .now) (a .flipped .now)
 let-in e =
-    let a = start e .args in
-    admitted (a .grid .now) (a .m) (a .n) (a .triangles .now) (a .flipped .now) (sym (e .before .before .check-mesh .ensures) ∙ e .enum-told .given .1)
+    let a = started (tested e) .args in
+    admitted (a .grid .now) (a .m) (a .n) (a .triangles .now) (a .flipped .now) (sym (tested e .check-mesh .ensures) ∙ e .enum-told .given .1)
 
 find-seams-requires : tie.Need-find-seams-requires
 find-seams-requires c κs = let-in c .accepted
 
 triangulate-requires : tie.Need-triangulate-requires
 triangulate-requires c κs =
-    let e = c .before .before .before .before .before in
-    let a = start e .args in
-    let f = c .before .before .before .before .find-seams in
-    let i = let-in e in
+    let s = c .before .before .before .before in
+    let a = started (tested (s .before)) .args in
+    let f = s .find-seams in
+    let i = let-in (s .before) in
     (found-bounded (a .grid .now) (a .m) (a .n) (i .accepted) (f .ensures .0) (f .ensures .1), (i .triangle-room, i .pair-room))
 
 returns : tie.Need-returns
 returns c =
-    let a = c .before .before .before .before .before .before .before .before .before .args in (
-      refused-hands (a .grid .now) (a .m) (a .n) (a .triangles .now) (a .flipped .now) (c .before .before .before .check-mesh .ensures) (c .before .k .given .1),
+    let e = c .before .before .before in
+    let a = started e .args in (
+      refused-hands (a .grid .now) (a .m) (a .n) (a .triangles .now) (a .flipped .now) (e .check-mesh .ensures) (c .before .k .given .1),
       surface-meets (a .grid .now) (a .m) (a .n),
     )
 
 returns-2 : tie.Need-returns-2
 returns-2 c =
-    let e = c .before .before .before .before .before .before .before .before .before .before in
-    let a = start e .args in
-    let f = c .before .before .before .before .before .before .before .before .before .find-seams in
-    let r = c .before .before .before .before .triangulate in (
+    let w = c .before .before .before .before in
+    let s = found w in
+    let e = s .before in
+    let a = started (tested e) .args in
+    let f = s .find-seams in
+    let r = w .triangulate in (
       passed-hands (a .grid .now) (a .m) (a .n) (a .triangles .now) (a .flipped .now) (r .last .1 .0) (r .last .1 .1 .0)
-          (e .before .before .check-mesh .ensures)
+          (tested e .check-mesh .ensures)
           (e .enum-told .given .1)
           (f .ensures .0)
           (f .ensures .1)

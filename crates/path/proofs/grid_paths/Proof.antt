@@ -9,15 +9,26 @@ use Rattle.path.proofs.Checks.{refused, drawn, passed-shape, passed-roo
 use Rattle.path.proofs.grid_paths.Statement.{statement}
 use Rattle.path.proofs.grid_paths.Tie as tie
 
+-- the start, from where the tests are done; and that place, from where the match tells that none failed
+abbrev started : tie.After-check-paths → tie.Start
+started e = e .before .before .before .before .before .before
+
+abbrev tested : tie.After-enum-told → tie.After-check-paths
+tested e = e .before .before
+
+-- where none failed, from where the points are drawn; and that place, from where the starts are
+abbrev told : tie.After-points → tie.After-enum-told
+told p = p .before .before
+
+abbrev points-drawn : tie.After-starts → tie.After-points
+points-drawn s = s .before .before .before .before
+
 -- no refusal applies
-passed : (e : tie.After-enum-told) →
-    let a = e .before .before .before .before .before .before .before .before .args in
-    pathsCheck (a .grid .now) (a .m) (a .n) (a .points .now) (a .starts .now) ≡ Passed
-passed e = sym (e .before .before .check-paths .ensures) ∙ e .enum-told .given .1
+passed : (e : tie.After-enum-told) → let a = started (tested e) .args in pathsCheck (a .grid .now) (a .m) (a .n) (a .points .now) (a .starts .now) ≡ Passed
+passed e = sym (tested e .check-paths .ensures) ∙ e .enum-told .given .1
 
 -- the grid that passed
-shape : (e : tie.After-enum-told) → let a =
-    e .before .before .before .before .before .before .before .before .args in Shaped (a .grid .now) (a .m) (a .n)
+shape : (e : tie.After-enum-told) → let a = started (tested e) .args in Shaped (a .grid .now) (a .m) (a .n)
 shape e = passed-shape _ _ _ _ _ (passed e)
 
 points-requires : tie.Need-points-requires
@@ -27,7 +38,7 @@ points-requires c κs =
 
 starts-requires : tie.Need-starts-requires
 starts-requires c κs =
-    let e = c .before .before .before .before .before in
+    let e = told (c .before .before .before) in
     let s = shape e .steps in
     (s .m-most, s .n-most, passed-room _ _ _ _ _ (passed e) .1)
 
@@ -37,8 +48,8 @@ returns c = refused _ _ _ _ _ (c .before .before .before .check-paths .ensures) 
 returns-2 : tie.Need-returns-2
 returns-2 c =
     let s = c .before .before in
-    let p = s .before .before .before .before in
-    drawn _ _ _ _ _ (passed (p .before .before)) (p .points .ensures) (s .starts .ensures)
+    let p = points-drawn s in
+    drawn _ _ _ _ _ (passed (told p)) (p .points .ensures) (s .starts .ensures)
 
 pub grid-paths-spec : {M : Type 1} → statement M
 grid-paths-spec =
@@ -54,7 +65,7 @@ grid-paths-spec =
     (λ c. omega (arith, shape c .steps))
     points-requires
     starts-requires
-    (λ c. omega (arith, shape (c .before .before .before .before .before .before .before .before) .steps))
+    (λ c. omega (arith, shape (told (points-drawn (c .before .before))) .steps))
     (λ c. search needs)
     (λ c. search needs)
     returns

@@ -8,6 +8,14 @@ use borrow.Author.Needs.{needs}
 use Rattle.records.proofs.trace_flattened.Statement.{statement}
 use Rattle.records.proofs.trace_flattened.Tie as tie
 
+-- where the samples are few enough, from where they are traced
+abbrev few : tie.After-trace-flat → tie.Else1
+few t = t .before .before .before .before .before .before .before .before .before
+
+-- where they are traced, from the end
+abbrev traced : tie.After-slice-known8 → tie.After-trace-flat
+traced c = c .before .before .before .before .before .before .before .before
+
 returns : tie.Need-returns
 returns c ss e _ = length-refused _ _ _ _ _ _ (c .before .steps-fit .ensures) (c .if2 .taken) (rw (marks-count ss, e) (c .before .before .if1 .taken))
 
@@ -16,8 +24,8 @@ returns-2 c ss _ _ = steps-refused _ _ _ _ _ _ (c .before .steps-fit .ensures) (
 
 returns-3 : tie.Need-returns-3
 returns-3 c ss e h =
-    let t = c .before .before .before .before .before .before .before .before in
-    let k = h (rw e (t .before .before .before .before .before .before .before .before .before .if1 .left)) in
+    let t = traced c in
+    let k = h (rw e (few t .if1 .left)) in
     rw (← k .0, ← k .1, e) (t .trace-flat .ensures .0)
 
 pub trace-flattened-spec : {M : Type 1} → statement M

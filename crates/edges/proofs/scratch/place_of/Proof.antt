@@ -20,6 +20,13 @@ Inv-loop lambdas count lambda low₀ high₀ low high =
 abbrev μ-loop : tie.MeasureT-loop
 μ-loop lambdas count lambda low₀ high₀ low high = high - low
 
+-- the start, from where the last lambda is compared; and that place, from the loop
+abbrev started : tie.After-precedes Inv-loop μ-loop → tie.Start Inv-loop μ-loop
+started e = e .before .before .before .before
+
+abbrev compared : tie.At-loop Inv-loop μ-loop → tie.After-precedes Inv-loop μ-loop
+compared l = l .before .before
+
 returns : tie.Need-returns Inv-loop μ-loop
 returns c =
     let a = c .before .before .args in
@@ -27,7 +34,7 @@ returns c =
 
 returns-2 : tie.Need-returns-2 Inv-loop μ-loop
 returns-2 c =
-    let a = c .before .before .before .before .before .args in
+    let a = started (c .before) .args in
     record {
       most = search needs;
       after = after-this (a .lambda) (a .lambdas .now) (a .count - 1) (a .count) (omega arith) (failed (c .before .precedes .ensures) (c .if2 .taken));
@@ -36,7 +43,7 @@ returns-2 c =
 
 loop-holds : tie.Need-loop-holds Inv-loop μ-loop
 loop-holds c =
-    let a = c .before .before .before .before .before .args in
+    let a = started (c .before) .args in
     (search needs, search needs, after-none (a .lambda) (a .lambdas .now), held (c .before .precedes .ensures) (c .if2 .left))
 
 loop-again : tie.Need-loop-again Inv-loop μ-loop
@@ -44,8 +51,9 @@ loop-again c = (search needs, search needs, c .before .before .before .before .l
 
 loop-again-2 : tie.Need-loop-again-2 Inv-loop μ-loop
 loop-again-2 c =
-    let a = c .before .before .before .before .before .before .before .before .before .before .args in
-    (search needs, search needs, after-this (a .lambda) (a .lambdas .now) _ _ refl (sym (c .before .precedes2 .ensures) ∙ c .if3 .left), c .before .before .before .before .loop .inv .3)
+    let l = c .before .before .before .before in
+    let a = started (compared l) .args in
+    (search needs, search needs, after-this (a .lambda) (a .lambdas .now) _ _ refl (sym (c .before .precedes2 .ensures) ∙ c .if3 .left), l .loop .inv .3)
 
 returns-3 : tie.Need-returns-3 Inv-loop μ-loop
 returns-3 c =

@@ -6,11 +6,15 @@ use Rattle.edges.specs.Events.{unique, sortedEdgeEvents}
 use Rattle.edges.proofs.sorted.sorted_edge_events.Statement.{statement}
 use Rattle.edges.proofs.sorted.sorted_edge_events.Tie as tie
 
+-- where all candidates are pushed, from where the close ones are dropped
+abbrev pushed : tie.After-unique → tie.After-push-candidates
+pushed e = e .before .before .before .before .before .before .before
+
 returns : tie.Need-returns
 unfolding sortedEdgeEvents
 returns c =
-    let kept : tie.After-unique = c .before .before .before .before in
-    let all : tie.After-push-candidates = kept .before .before .before .before .before .before .before in
+    let kept = c .before .before .before .before in
+    let all = pushed kept in
     (omega (arith, kept .unique .ensures .0, all .push-candidates .ensures .0), kept .unique .ensures .1 ∙ ap unique (all .push-candidates .ensures .1))
 
 pub sorted-edge-events-spec : {M : Type 1} → statement M

@@ -5,9 +5,13 @@ use Rattle.merlontrispa.specs.Lines.{pathsAnswer}
 use Rattle.merlontrispa.proofs.traces.mt_trace_flat.Statement.{statement}
 use Rattle.merlontrispa.proofs.traces.mt_trace_flat.Tie as tie
 
+-- where the lines are traced, from where their answer takes C's form
+abbrev traced : tie.After-trace-to-c → tie.After-trace-flat
+traced c = c .before .before .before .before .before .before .before .before .before
+
 returns : tie.Need-returns
 returns c =
-    let e = c .before .before .before .before .before .before .before .before .before .trace-flat .ensures in
+    let e = traced c .trace-flat .ensures in
     (answered-in pathsAnswer (c .trace-to-c .ensures) (e .0), e .1)
 
 pub mt-trace-flat-spec : {M : Type 1} → statement M

@@ -6,6 +6,13 @@ use Rattle.mesh.proofs.Flips.{rims-u}
 use Rattle.mesh.proofs.flipped.count_rims.Statement.{statement}
 use Rattle.mesh.proofs.flipped.count_rims.Tie as tie
 
+-- where the low row is counted, from where the high one is; and the start behind it
+abbrev low-counted : tie.After-count-row2 → tie.After-count-row
+low-counted h = h .before .before .before .before .before
+
+abbrev started : tie.After-count-row → tie.Start
+started l = l .before .before .before .before .before .before .before
+
 count-row-requires : tie.Need-count-row-requires
 count-row-requires c κs =
     let t = c .before .before .before .before .before .before in
@@ -13,13 +20,14 @@ count-row-requires c κs =
 
 count-row-requires-2 : tie.Need-count-row-requires-2
 count-row-requires-2 c κs =
-    let t = c .before .before .before .before .before .before .before .before .before .before .before in
+    let t = started (c .before .before .before .before) in
     ((t .pre .0 .0, omega arith, t .pre .0 .2), t .pre .1 .at (t .args .surface .m - 1) (omega arith))
 
 returns : tie.Need-returns
 returns c =
-    let t = c .before .before .before .before .before .before .before .before .before .before .before .before .before .before in
-    let l = c .before .before .before .before .before .before .before .count-row in
+    let low = low-counted (c .before .before) in
+    let t = started low in
+    let l = low .count-row in
     let h = c .before .before .count-row2 in
     rims-u (t .args .surface) (l .last .1 .1 .1 .0) (h .last .1 .1 .1 .0) (omega arith) (omega arith) (l .ensures) (h .ensures)
 

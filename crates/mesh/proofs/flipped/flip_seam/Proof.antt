@@ -1,17 +1,25 @@
 -- `mesh::flipped::flip_seam` meets its contract: nothing, or all steps of a reversed seam.
-use Rattle.mesh.proofs.Flips.{seam-told}
+use Rattle.mesh.proofs.Flips.{maps-told, seam-told}
 use borrow.Author.Needs.{needs}
 use Rattle.mesh.proofs.flipped.flip_seam.Statement.{statement}
 use Rattle.mesh.proofs.flipped.flip_seam.Tie as tie
 
+-- the start, from where the seam's mapping is known; and that place, from where its steps are done
+abbrev started : tie.After-seam → tie.Start
+started s = s .before .before .before .before .before
+
+abbrev told : tie.After-process-flipped → tie.After-seam
+told p = p .before .before .before .before .before
+
 process-flipped-requires : tie.Need-process-flipped-requires
 process-flipped-requires c κs =
-    let t = c .before .before .before .before .before .before .before .before .before in
-    ((t .pre .0 .0, rw (c .before .before .before .before .seam .given .1) at (t .pre .0 .1)), t .pre .1)
+    let s = c .before .before .before .before in
+    let t = started s in
+    ((t .pre .0 .0, maps-told (s .seam .given .1) (t .pre .0 .1)), t .pre .1)
 
 returns : tie.Need-returns
 returns c =
-    let seam = c .before .before .before .before .before .before .before .seam .given .1 in
+    let seam = told (c .before .before) .seam .given .1 in
     let reversed = seam-told seam (c .before .before .before .before .before .is-reverse .ensures) (c .before .before .before .before .if1 .taken) in
     rw (reversed, seam) (c .before .before .process-flipped .ensures)
 

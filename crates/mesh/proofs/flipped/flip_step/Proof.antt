@@ -18,6 +18,17 @@ use Rattle.mesh.proofs.Flips.{steps-most, number-before, ordered-up, or
 use Rattle.mesh.proofs.flipped.flip_step.Statement.{statement}
 use Rattle.mesh.proofs.flipped.flip_step.Tie as tie
 
+-- the start, from where the step of the low rim is known, and from where it is known which of the two triangles are there
+abbrev started : tie.After-step-on → tie.Start
+started e = e .before .before .before .before .before
+
+abbrev start : tie.After-high-differs → tie.Start
+start e = started (e .before .before .before)
+
+-- where both are there, from where their numbers are read
+abbrev paired : tie.After-shared-slice-known4 → tie.Else2
+paired c = c .before .before
+
 abbrev shape : tie.Start → Shape
 shape t = shapeOf (t .args .surface)
 
@@ -29,10 +40,10 @@ abbrev pairs-after : tie.Start → List Pair
 pairs-after t = flipStep (t .args .axis) (shape t) (ofMapping (t .args .mapping)) (t .args .i) (pairs t)
 
 -- the step of the low rim
-on-is : (e : tie.After-step-on) → let t = e .before .before .before .before .before in e .step-on .result ≡ stepOn (ofMapping (t .args .mapping)) (stepsOf (t .args .axis) (shape t)) (t .args .i)
+on-is : (e : tie.After-step-on) → let t = started e in e .step-on .result ≡ stepOn (ofMapping (t .args .mapping)) (stepsOf (t .args .axis) (shape t)) (t .args .i)
 on-is e = rw (← e .before .rim-steps .ensures) (e .step-on .ensures)
 
-on-there : (e : tie.Else1) → let t = e .before .before .before .before .before .before in e .before .step-on .result < stepsOf (t .args .axis) (shape t)
+on-there : (e : tie.Else1) → let t = started (e .before) in e .before .step-on .result < stepsOf (t .args .axis) (shape t)
 on-there e = omega arith
 
 step-on-requires : tie.Need-step-on-requires
@@ -43,14 +54,11 @@ step-on-requires c κs =
 
 returns : tie.Need-returns
 returns c =
-    let t = c .before .before .before .before .before .before in
+    let t = started (c .before) in
     let a = t .args in
     no-step (a .axis) (shape t) (ofMapping (a .mapping)) (a .i) (pairs t) (on-is (c .before)) (omega arith)
 
 -- Where a step of the low rim lies there
-
-abbrev start : tie.After-high-differs → tie.Start
-start e = e .before .before .before .before .before .before .before .before
 
 abbrev on : tie.After-high-differs → ℕ
 on e = e .before .before .before .step-on .result
@@ -101,19 +109,21 @@ both-there : (e : tie.Else2) → both (e .before) ≡ true
 both-there e = not-false (both (e .before)) (e .if2 .left)
 
 sub-b : tie.Need-sub-b
-sub-b c = omega (arith, high-number (c .before .before .before) (both-there (c .before .before)))
+sub-b c = omega (arith, high-number (paired c .before) (both-there (paired c)))
 
 returns-3 : tie.Need-returns-3
 returns-3 c =
-    let f = c .before .before .before .before .before .before .before in
+    let t = c .before .before .before .before in
+    let f = paired (t .before) in
     let e = f .before in
-    c .before .before .insert-pair .ensures ∙ rw (ordered-up (low e) (high e - 1) (c .before .before .before .before .if3 .taken)) (put e (both-there f))
+    c .before .before .insert-pair .ensures ∙ rw (ordered-up (low e) (high e - 1) (t .if3 .taken)) (put e (both-there f))
 
 returns-4 : tie.Need-returns-4
 returns-4 c =
-    let f = c .before .before .before .before .before .before .before in
+    let t = c .before .before .before .before in
+    let f = paired (t .before) in
     let e = f .before in
-    c .before .before .insert-pair2 .ensures ∙ rw (ordered-down (low e) (high e - 1) (c .before .before .before .before .if3 .left)) (put e (both-there f))
+    c .before .before .insert-pair2 .ensures ∙ rw (ordered-down (low e) (high e - 1) (t .if3 .left)) (put e (both-there f))
 
 pub flip-step-spec : {M : Type 1} → statement M
 flip-step-spec =

@@ -23,6 +23,10 @@ Inv-loop surface axis mapping low high flipped₀ start steps count₀ i₀ flip
 abbrev μ-loop : tie.MeasureT-loop
 μ-loop surface axis mapping low high flipped₀ start steps count₀ i₀ flipped count i = steps - i
 
+-- the start, from the loop
+abbrev started : tie.At-loop Inv-loop μ-loop → tie.Start Inv-loop μ-loop
+started l = l .before .before .before .before .before
+
 loop-holds : tie.Need-loop-holds Inv-loop μ-loop
 loop-holds c =
     let a = c .before .before .before .before .args in
@@ -30,8 +34,9 @@ loop-holds c =
 
 flip-step-requires : tie.Need-flip-step-requires Inv-loop μ-loop
 flip-step-requires c κs =
-    let w = c .before .before .loop in
-    let t = c .before .before .before .before .before .before .before in
+    let l = c .before .before in
+    let w = l .loop in
+    let t = started l in
     let a = t .args in
     let s = shapeOf (a .surface) in
     let ps = pairsIn (a .start) (a .flipped .now) in
@@ -46,8 +51,9 @@ flip-step-requires c κs =
 loop-again : tie.Need-loop-again Inv-loop μ-loop
 loop-again c =
     let f = c .before .before .flip-step in
-    let w = c .before .before .before .before .before .loop in
-    let a = c .before .before .before .before .before .before .before .before .before .before .args in
+    let l = c .before .before .before .before .before in
+    let w = l .loop in
+    let a = started l .args in
     let s = shapeOf (a .surface) in
     let m = ofMapping (a .mapping) in (
       omega arith,
@@ -58,7 +64,7 @@ loop-again c =
 returns : tie.Need-returns Inv-loop μ-loop
 returns c =
     let w = c .before .loop in
-    let a = c .before .before .before .before .before .before .args in
+    let a = started (c .before) .args in
     let e : w .i ≡ stepsOf (a .axis) (shapeOf (a .surface)) = omega arith in
     rw e at (w .inv .1)
 

@@ -23,6 +23,10 @@ Inv-loop surface triangles₀ starts₀ m count₀ u₀ triangles starts count u
 abbrev μ-loop : tie.MeasureT-loop
 μ-loop surface triangles₀ starts₀ m count₀ u₀ triangles starts count u = surface .m - u
 
+-- the start, from the loop
+abbrev started : tie.At-loop Inv-loop μ-loop → tie.Start Inv-loop μ-loop
+started l = l .before .before .before
+
 loop-holds : tie.Need-loop-holds Inv-loop μ-loop
 loop-holds c =
     let t = c .before .before in
@@ -33,14 +37,14 @@ loop-holds c =
     (omega arith, none, refl, refl, value-first (λ (i : ℕ). triangleNumber s (2 * (i * a .surface .n))) (a .starts .now) 0 (omega arith) zero-first)
 
 slice-write-starts-2 : tie.Need-slice-write-starts-2 Inv-loop μ-loop
-slice-write-starts-2 c =
-    omega (arith, length-set (c .before .before .before .before .before .before .before .before .args .starts .now) 0 0)
+slice-write-starts-2 c = omega (arith, length-set (started (c .before .before .before .before .before) .args .starts .now) 0 0)
 
 loop-again : tie.Need-loop-again Inv-loop μ-loop
 loop-again c =
     let b = c .before .before .build-row in
-    let w = c .before .before .before .before .before .loop in
-    let a = c .before .before .before .before .before .before .before .before .args in
+    let l = c .before .before .before .before .before in
+    let w = l .loop in
+    let a = started l .args in
     let s = shapeOf (a .surface) in (
       omega arith,
       b .ensures,
@@ -53,12 +57,12 @@ loop-again c =
     )
 
 same-length-2 : tie.Need-same-length-2 Inv-loop μ-loop
-same-length-2 c = omega (arith, length-set (c .before .before .before .before .args .starts .now) 0 0)
+same-length-2 c = omega (arith, length-set (started (c .before) .args .starts .now) 0 0)
 
 returns : tie.Need-returns Inv-loop μ-loop
 returns c =
     let w = c .before .loop in
-    let a = c .before .before .before .before .args in
+    let a = started (c .before) .args in
     let e : w .u ≡ a .surface .m = omega arith in
     (rw e at (w .inv .1), record { room = omega (arith, length-set (a .starts .now) 0 0); at = λ i h. w .inv .4 i (omega arith) })
 
