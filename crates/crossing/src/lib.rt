@@ -1,4 +1,4 @@
-// Where an event's point lies on its side: the two grid points, the fraction between them, and the point.
+// The point of an event (Rules 7.2): the two grid points that it is made from, the fraction between them, and itself.
 use edges::event::ParamEdge;
 use float::cast::to_f64;
 use float::consts::EPS;
@@ -29,6 +29,7 @@ pub struct Crossing {
     pub point: Vector,
 }
 
+// The point of an event, or none where `step_index` has no answer.
 pub enum EdgePoint {
     On(Crossing),
     NoStep,

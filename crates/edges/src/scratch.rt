@@ -30,6 +30,7 @@ fn code_of(edge: ParamEdge) -> u32
     }
 }
 
+// The side of a code.
 fn edge_of(code: u32) -> ParamEdge
     ensures { λ r. ⌜ r ≡ edgeOf code ⌝ }
 {
@@ -43,6 +44,7 @@ fn edge_of(code: u32) -> ParamEdge
     ParamEdge::Diagonal((d / 256) as usize, (d % 256) as usize)
 }
 
+// Event i.
 pub fn event_at(lambdas: &[f64], codes: &[u32], i: usize) -> EdgeEvent
     requires { ⌜ (i < length (now lambdas)) × (i < length (now codes)) ⌝ }
     ensures { λ r. ⌜ r ≡ eventOf (getD (now (lambdas .entry)) i nan) (getD (now (codes .entry)) i 0) ⌝ }
@@ -105,6 +107,7 @@ fn insert_lambda(lambdas: &mut [f64], count: usize, place: usize, lambda: f64)
     lambdas[place] = lambda;
 }
 
+// The same, of a code.
 fn insert_code(codes: &mut [u32], count: usize, place: usize, code: u32)
     requires { ⌜ (place ≤ count) × (count < length (now codes)) ⌝ }
     ensures { λ _. ⌜ take (count + 1) (now (codes .exit)) ≡ putAt place code (take count (now (codes .entry))) ⌝ }
@@ -152,7 +155,7 @@ pub fn push_candidate(
     }
 }
 
-// Keeps the first event and each that is not closer than EPS to the last one kept; answers how many.
+// Drops each event that is less than EPS from the one kept before it (Rules 6.4); answers how many are kept.
 pub fn unique(lambdas: &mut [f64], codes: &mut [u32], count: usize) -> usize
     requires { ⌜ (count ≤ length (now lambdas)) × (length (now lambdas) ≡ length (now codes)) ⌝ }
     ensures { λ r. ⌜ (r ≤ count) × (eventsIn (now (lambdas .exit)) (now (codes .exit)) r

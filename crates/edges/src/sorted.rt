@@ -1,5 +1,5 @@
-// The events of a leg, in order. Each push sorts its candidates into the lists and
-// answers the new count.
+// The events of a leg, in order (Rules 6.2 and 6.4). Each push sorts its candidates into the lists and answers the new
+// count.
 use crate::event::Candidate;
 use crate::event::diagonal_candidate;
 use crate::event::edge_at_point;
@@ -23,6 +23,7 @@ ghost use Rattle.param.specs.Param.{stepsOn};
 ghost use Rattle.edges.specs.Events.{lowSum, highSum, firstSum, pastSum, ends, lines, diagonals, candidates, sortInto, sortedEdgeEvents};
 ghost use Rattle.edges.specs.Scratch.{eventsIn, ScratchRoom, Sorted};
 
+// The two ends.
 fn push_ends(lambdas: &mut [f64], codes: &mut [u32], cells: Cells, leg: Leg) -> usize
     requires { ⌜ ScratchRoom cells (now lambdas) (now codes) 0 2 ⌝ }
     ensures { λ r. ⌜ (r ≤ 2) × (eventsIn (now (lambdas .exit)) (now (codes .exit)) r ≡ sortInto (ends cells leg) [])
@@ -79,6 +80,7 @@ fn low_sum(leg: Leg) -> f64
     if to < from { to } else { from }
 }
 
+// The larger of them.
 fn high_sum(leg: Leg) -> f64
     ensures { λ r. ⌜ r ≡ highSum leg ⌝ }
 {
@@ -105,6 +107,7 @@ fn past_sum(cells: Cells, leg: Leg) -> usize
     if past < end { past } else { end }
 }
 
+// The diagonals.
 fn push_diagonals(
     lambdas: &mut [f64],
     codes: &mut [u32],
@@ -139,8 +142,7 @@ fn push_candidates(lambdas: &mut [f64], codes: &mut [u32], cells: Cells, leg: Le
     push_diagonals(lambdas, codes, vs, cells, leg)
 }
 
-// The sides that a leg crosses, in order; one that is closer than EPS to the one kept before it is
-// dropped.
+// The events of a leg: its candidates sorted, without those that are less than EPS from the one kept before.
 pub fn sorted_edge_events(lambdas: &mut [f64], codes: &mut [u32], cells: Cells, leg: Leg) -> usize
     requires { ⌜ ScratchRoom cells (now lambdas) (now codes) 0 0 ⌝ }
     ensures { λ r. ⌜ (r ≤ 1023) × (eventsIn (now (lambdas .exit)) (now (codes .exit)) r ≡ sortedEdgeEvents cells leg) ⌝ }

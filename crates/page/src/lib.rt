@@ -1,4 +1,4 @@
-// The lent lists as the walk fills them: points in place, pending ones after the kept ones.
+// The lent lists as the walk fills them (Rules 7.3, 7.4): points in place, pending ones after the kept ones.
 use crossing::Crossing;
 use refusal::Refusal;
 ghost use mathlib.Core.Bool.{cond};
@@ -45,7 +45,7 @@ fn write_crossing(
     fractions[i] = c.t;
 }
 
-// The next pending point, unless it is close to the last one. The starts, which it leaves alone, are any.
+// One more pending point, unless it is close to the last one. The starts, which it leaves alone, are any.
 pub fn push_segment_point(
     points: &mut [f64],
     sides: &mut [usize],
@@ -80,7 +80,7 @@ pub fn push_segment_point(
     })
 }
 
-// The pending points become a line, or go where they are fewer than two. The lists that it leaves alone are any.
+// The pending line is kept, or goes if it has fewer than two points. The lists that it leaves alone are any.
 pub fn flush_segment(starts: &mut [usize], pen: Pen) -> Penned
     requires { ⌜ pen .start ≤ pen .count ⌝ }
     ensures { λ r. ⌜ ((points : List Float) (sides : List ℕ) (fractions : List Float) →

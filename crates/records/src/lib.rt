@@ -1,5 +1,5 @@
-// The trace of samples that are a list of records: they are flattened into pairs and marks, which the
-// flat trace takes.
+// The second entry of a trace (Rules 6.1): its samples are records, which are flattened into pairs and marks for the
+// flat trace.
 use param::ParamPoint;
 use refusal::Refusal;
 use trace::flat::Trace;
@@ -19,7 +19,7 @@ ghost use Rattle.records.specs.Flattened.{putPair, putMark, pairsUpTo, m
 // Two for each of MAX_MARKS.
 const MAX_NUMBERS: usize = 131074;
 
-// One sample: the mark 1 and a point, or the mark 0 of a break, whose point is not looked at.
+// A record: the mark 1 and a point, or the mark 0 of a break, whose point is not looked at.
 #[repr(C)]
 pub struct Sample {
     pub mark: u8,

@@ -1,4 +1,4 @@
-// The walk over all samples, which fills the lent lists.
+// The walk over all samples (Rules 7.1), which fills the lent lists.
 use page::Pen;
 use page::Penned;
 use page::flush_segment;
@@ -53,6 +53,7 @@ fn after_sample(mark: u8, point: ParamPoint) -> Previous
     Previous::At(point)
 }
 
+// What a sample is, by what stands before it.
 fn visit_of(previous: Previous, mark: u8, point: ParamPoint) -> Visit
     ensures { λ r. ⌜ r ≡ visitOf previous (sampleAt mark point) ⌝ }
 {
@@ -65,7 +66,7 @@ fn visit_of(previous: Previous, mark: u8, point: ParamPoint) -> Visit
     }
 }
 
-// One sample: a break ends the line, a leg is walked along.
+// One sample: a break flushes the pending line, a leg is walked along.
 fn trace_sample(
     lambdas: &mut [f64],
     codes: &mut [u32],
@@ -103,7 +104,7 @@ fn trace_sample(
     }
 }
 
-// All samples in order, from a pen at the start of the lists; what is pending after the last one is flushed.
+// All samples in order, from a pen at the start of the lists; after the last one the pending line is flushed.
 // The scratch lists for a leg's events are made once: clearing them for each leg would cost more than the walk.
 pub fn trace_parametric_edge_curve(
     grid: &[f64],
