@@ -1,4 +1,5 @@
--- Both points of a side stand in the grid's list, as each index is at most the axis's steps; and the cell that `step_index` gives is one of them.
+-- Both points of a side stand in the grid's list, as each index is at most the axis's steps; and the cell that
+-- `step_index` gives is one of them.
 use mathlib.Core.Path.{_≡_, sym, _∙_}
 use mathlib.Core.List.{List}
 use Prim.Native.Nat.{ℕ, _+_, _*_, _≤_, _<_}

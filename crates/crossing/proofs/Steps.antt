@@ -1,4 +1,5 @@
--- `stepIndex` by the tests of the code, and the law for its callers: the cell is one of the steps.
+-- `stepIndex` by the tests of the code, and the law for its callers: the cell is one of the steps, since it is the last
+-- one, or the floor of a value that is at most steps and not close to it.
 use mathlib.Core.Path.{_≡_, refl}
 use mathlib.Core.Bool.{Bool, true, false, _||_, cond}
 use Prim.Native.Nat.{ℕ, _-_, _^_, _≤_, _<_}

@@ -1,4 +1,4 @@
--- `edgeAtPoint` and the candidates by what the code found, each fact an argument.
+-- `edgeAtPoint` and the candidates, by what the tests and calls of the code found, each of which is an argument.
 use mathlib.Core.Path.{_≡_, sym, _∙_}
 use mathlib.Core.Bool.{true, false}
 use Prim.Native.Nat.{ℕ}

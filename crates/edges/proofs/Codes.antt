@@ -1,4 +1,5 @@
--- The code of a side of the grid says which side it is, and what the bound on a side says of its indices.
+-- The code of a side of the grid says which side it is, since indices are below 256; and what the bound on a side says
+-- of its indices.
 use mathlib.Core.Path.{_≡_}
 use Prim.Native.Nat.{ℕ, _+_, _*_, _-_, _/_, _%_, _≤_, _<_}
 use native.Mathlib.Omega.{arith}

@@ -1,4 +1,5 @@
--- What holds of every candidate holds of every event, and there are no more events than candidates: sorting keeps to the candidates, and dropping to what was sorted.
+-- What holds of every candidate holds of every event, and there are no more events than candidates: sorting keeps to
+-- the candidates, and dropping to what was sorted.
 use mathlib.Core.Path.{_≡_, refl}
 use mathlib.Core.Bool.{Bool, cond}
 use mathlib.Core.List.{List, [], _∷_, _++_}

@@ -40,7 +40,9 @@ unfolding sortInto
 sort-append [] ys acc = refl
 sort-append (x ∷ xs) ys acc = sort-append xs ys (insert x acc)
 
--- ---- a loop over the candidates of numbers from `first` up to, and without, `end`: so far those below i are sorted in, and with the others they give the whole
+-- ---- a loop over the candidates of numbers from `first` up to, and without, `end`
+
+-- so far those below i are sorted in, and with the others they give the whole
 pub record Gathering (f : ℕ → Candidate) (first end : ℕ) (whole : List EdgeEvent) (count : ℕ) (ls : List Float) (cs : List ℕ) (total i : ℕ) : Type 0 where
   pub from : first ≤ i
   pub to : i ≤ max first end

@@ -1,4 +1,5 @@
--- Every candidate is on the grid: a whole step is at most the last, a diagonal's cell is in the grid, and lines are tried up to the last.
+-- Every candidate is on the grid: a whole step is at most the last, a diagonal's cell is in the grid, and lines are
+-- tried up to the last.
 use Prim.Native.Nat.{ℕ, _^_, _≤_}
 use lib.Ieee.{Float}
 use Rattle.float.specs.Cast.{natFloat}

@@ -1,4 +1,5 @@
--- `indexOf` by the tests of the code, on signed numbers; `tryCell` and `diagonalCellAt` by what the code found; and a diagonal's cell is in the grid.
+-- `indexOf` by the tests of the code, on signed numbers; `tryCell` and `diagonalCellAt` by what the code found; and a
+-- diagonal's cell is in the grid.
 use mathlib.Core.Path.{_≡_, refl, sym, _∙_}
 use Prim.Native.Nat.{ℕ, zero, suc, _≤_, _<_}
 use native.Mathlib.Nat.{lt-of-le-of-lt, le-suc}

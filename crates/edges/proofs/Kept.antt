@@ -1,4 +1,5 @@
--- Dropping close events in place: what is kept so far, and the events that are left, make the answer. A store below the place that is read does not touch what is left.
+-- Dropping close events in place: what is kept so far, and the events that are left, make the answer. A store below
+-- the place that is read does not touch what is left.
 use mathlib.Core.Path.{_≡_, refl, _∙_}
 use mathlib.Core.Bool.{Bool, true, false, cond}
 use mathlib.Core.List.{List, [], _∷_, _++_, append-assoc, append-nil}
@@ -19,7 +20,9 @@ pub next-event : (ls : List Float) (cs : List ℕ) (count i : ℕ) → length ls
 next-event ls cs count i e h k =
     rw (add-one, drop-cons (eventsIn ls cs count) i (eventOf nan 0) (omega (arith, events-length ls cs count e h)), ← event-in ls cs count i (eventOf nan 0) e h k)
 
--- ---- in lists that held `count` events, so far `kept` are kept, the last at `last`, and i looked at: with what is left from i on they make the answer
+-- ---- in lists that held `count` events, so far i are looked at and `kept` of them kept, the last at `last`
+
+-- with what is left from i on, those kept make the answer
 pub record Keeping (ls₀ : List Float) (cs₀ : List ℕ) (count : ℕ) (ls : List Float) (cs : List ℕ) (kept : ℕ) (last : Float) (i : ℕ) : Type 0 where
   pub behind : kept ≤ i
   pub to : i ≤ count

@@ -1,4 +1,5 @@
--- What holds of the events of every leg: each is on a side of the grid, lambdas are from 0 to 1 and ascend in the total order, neighbours are at least EPS apart, and there are at most 1,023.
+-- What holds of the events of every leg: each is on a side of the grid, lambdas are from 0 to 1 and ascend in the
+-- total order, neighbours are at least EPS apart, and there are at most 1,023.
 use mathlib.Core.Path.{_≡_, refl, ap}
 use mathlib.Core.Bool.{true, false}
 use mathlib.Core.List.{List, [], _∷_}
@@ -119,7 +120,8 @@ NotNan e = isNan (e .lambda) ≡ false
 abbrev KeptFrom : Float → List EdgeEvent → Type 0
 KeptFrom x es = AscendFrom x es × ApartFrom x es
 
--- what is kept ascends, and is apart: an event that was dropped, as x was, stands between the one kept before it and the next
+-- what is kept ascends, and is apart: an event that was dropped, as x was, stands between the one kept before it and
+-- the next
 kept-after : (kept x : Float) (es : List EdgeEvent) → isNan kept ≡ false → isNan x ≡ false → Each NotNan es → precedes (totalOrder x kept) ≡ false → AscendFrom x es → KeptFrom kept (uniqueAfter kept es)
 unfolding uniqueAfter
 kept-after kept x [] l m n h k = (tt, tt)

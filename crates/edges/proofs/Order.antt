@@ -1,4 +1,5 @@
--- Events in order: an insertion keeps them so, and an event goes to the place that is after what it does not precede and before what it precedes.
+-- Events in order: an insertion keeps them so, and an event goes to the place that is after what it does not precede
+-- and before what it precedes.
 use mathlib.Core.Path.{_≡_, refl, sym, ap, _∙_}
 use mathlib.Core.Bool.{Bool, true, false, true≢false}
 use mathlib.Core.List.{List, [], _∷_}
@@ -18,7 +19,7 @@ use Rattle.edges.specs.Scratch.{eventOf, eventsIn, PlaceOf, AscendFrom, 
 use Rattle.edges.proofs.Places.{event-in, events-length}
 use Rattle.edges.proofs.Each.{each-insert}
 
--- ---- "precedes" is an order of lambdas
+-- ---- `precedes` is an order of lambdas
 is-less : (o : Ordering) → precedes o ≡ true → o ≡ Less
 is-less Less h = refl
 is-less Equal h = absurd (true≢false (sym h))

@@ -1,4 +1,5 @@
--- Events as one list: a store to both lists is a store of an event. Room for a value is made by moving up what stands from its place on; and a value put at a place of both lists is an event put there.
+-- Events as one list: a store to both lists is a store of an event. Room for a value is made by moving up what stands
+-- from its place on; and a value put at a place of both lists is an event put there.
 use mathlib.Core.Path.{_≡_, refl, ap, sym, _∙_}
 use mathlib.Core.List.{List, [], _∷_}
 use Prim.Native.Nat.{ℕ, zero, suc, _+_, _-_, _<_, _≤_}
@@ -40,7 +41,9 @@ event-in ls cs count i d e h k = sym (getD-take count (held ls cs) i d k ∙ hel
 pub events-length : (ls : List Float) (cs : List ℕ) (count : ℕ) → length ls ≡ length cs → count ≤ length ls → length (eventsIn ls cs count) ≡ count
 events-length ls cs count e h = length-take-le count (held ls cs) (omega (arith, held-length ls cs e))
 
--- ---- room is made at `place` among the first `count`: from the back, each is moved up by one. So far those from i on are
+-- ---- room is made at `place` among the first `count`: from the back, each is moved up by one
+
+-- so far those from i on are moved
 pub record Moving {A : Type 0} (xs : List A) (count place : ℕ) (ys : List A) (i : ℕ) : Type 0 where
   pub from : place ≤ i
   pub to : i ≤ count

@@ -1,4 +1,4 @@
--- What lies on an axis of whole steps: a whole step that a value is close to is at most the last.
+-- A whole step that a value is close to is at most the last, since `integerStep` tests it.
 use mathlib.Core.Bool.{_&&_}
 use Prim.Native.Nat.{ℕ, _^_, _≤_}
 use lib.Ieee.{Float, binary64, lt, le, sub}

@@ -1,4 +1,5 @@
--- Every candidate that the code finds, on a grid of at most 255 steps, is an event that the lists take.
+-- Every candidate that the code finds, on a grid of at most 255 steps, is an event that the lists take: its side is on
+-- the grid, so that it has a code, and its lambda is from 0 to 1, so no NaN.
 use mathlib.Core.Path.{_≡_, ap, _∙_}
 use Prim.Native.Nat.{ℕ, _+_, _≤_, _<_}
 use native.Mathlib.Omega.{arith}

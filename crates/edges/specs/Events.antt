@@ -1,5 +1,5 @@
--- Rules 6.2 and 6.4: the events of a leg: the candidates in their order, sorted, and without those that are too near the
--- one kept before. Original: `sorted_edge_events` and what it calls.
+-- Rules 6.2 and 6.4: the events of a leg: the candidates in their order, sorted, and without those that are too near
+-- the one kept before. Original: `sorted_edge_events` and what it calls.
 use mathlib.Core.Bool.{Bool, true, false, cond}
 use mathlib.Core.List.{List, [], _∷_, _++_}
 use Prim.Native.Nat.{ℕ, zero, suc, _+_, _-_, _≤_, _<_, min, max}

@@ -1,4 +1,5 @@
--- `PenFits` holds after a push, which has room for its point, and after a flush, which only moves counts; and so after any moves.
+-- `PenFits` holds after a push, which has room for its point, and after a flush, which only moves counts; and so
+-- after any moves.
 use Prim.Native.Nat.{ℕ, _+_, _*_, _/_, _≤_}
 use native.Mathlib.Omega.{arith}
 use mathlib.Core.Path.{_≡_, refl}

@@ -1,4 +1,5 @@
--- Moves are run one list after another. What a run keeps: an invariant of one state, and a relation of two, each by one induction over the moves.
+-- Moves are run one list after another. What a run keeps: an invariant of one state, and a relation of two, each by
+-- one induction over the moves.
 use mathlib.Core.Path.{_≡_, refl, sym}
 use mathlib.Core.Bool.{Bool, true, false, true≢false, cond}
 use mathlib.Core.List.{List, [], _∷_, _++_}

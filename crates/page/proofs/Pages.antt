@@ -1,4 +1,5 @@
--- `pushPage` and `flushPage` by the tests of the code, from what its calls gave.
+-- `pushPage` and `flushPage` by the tests of the code, from what its calls gave: each way through it is one case of
+-- them.
 use mathlib.Core.Path.{_≡_, refl}
 use mathlib.Core.Bool.{Bool, true, false}
 use mathlib.Core.List.{List}

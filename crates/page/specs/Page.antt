@@ -1,6 +1,7 @@
--- Rules 8.1, 7.3 and 7.4: the lent lists of a trace; then, for inner contracts only, pushes and flushes as the code does
--- them: points are written in place, pending ones after the kept ones, and a flush moves a count. Drawing.antt and
--- Trace.antt of `trace` say the same without lists, for the open call; proofs/Agree.antt there shows that they agree.
+-- Rules 8.1, 7.3 and 7.4: the lent lists of a trace; then, for inner contracts only, pushes and flushes as the code
+-- does them: points are written in place, pending ones after the kept ones, and a flush moves a count. Drawing.antt
+-- and Trace.antt of `trace` say the same without lists, for the open call; proofs/Agree.antt there shows that they
+-- agree.
 use mathlib.Core.Bool.{Bool, _&&_, cond}
 use mathlib.Core.List.{List}
 use Prim.Native.Nat.{ℕ, _+_, _-_, _*_, _/_, _≤_, min}

@@ -1,7 +1,7 @@
 -- A local that is an array, as what lies in memory, and as room again; and that 0.0 is a float of its format.
 --     in-mem       a local's cell and what the array owns are the array in memory, which can be lent
 --     out-room     the array in memory is room for the local
--- Assumes `Given`.
+-- Both take `Given` as an argument.
 use mathlib.Core.Path.{_≡_, refl}
 use Prim.Native.Nat.{ℕ}
 use mathlib.Core.Bool.{true}

@@ -1,4 +1,5 @@
--- Records put one after another into lists that are long enough stand flattened at their start.
+-- Records put one after another into lists that are long enough stand flattened at their start: each is put after those
+-- before it, and moves none of them.
 use mathlib.Core.Path.{_≡_, refl, sym, _∙_, ap}
 use Prim.Native.Nat.{ℕ, zero, suc, _+_, _*_, _<_, _≤_}
 use native.Mathlib.Nat.{le-refl}

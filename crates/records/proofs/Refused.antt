@@ -1,4 +1,5 @@
--- More than 65,537 marks are refused whatever they are: 1 where M or N is wrong, else 2.
+-- More than 65,537 marks are refused whatever they are: by 1 if M or N does not fit, else by 2, since their length is
+-- tested before anything else of them.
 use mathlib.Core.Path.{_≡_, refl, sym}
 use mathlib.Core.Bool.{Bool, true, false, _&&_}
 use mathlib.Core.List.{List}

@@ -1,4 +1,5 @@
--- Two steps of a walk: where a contract has two clauses, both are shown at the exit; and a local that is passed or read whole. Assumes `Given`.
+-- Two rules for going through MIR: where a contract has two clauses, both are shown at the exit; and a local that is
+-- passed or read whole. Both take `Given` as an argument.
 use mathlib.Core.Path.{_≡_}
 use mathlib.Core.List.{List, []}
 use Prim.Native.Nat.{ℕ}

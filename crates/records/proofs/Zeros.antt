@@ -1,10 +1,11 @@
--- The two lists of zeros that `trace_samples` makes: their types, their elements and machine values, and what they own. They stay shut, so that no proof spells 131,074 elements out.
+-- The two lists of zeros that `trace_samples` makes: their types, their elements and machine values, and what they own.
+-- They stay shut, so that no proof spells 131,074 elements out.
 --     F, B, AF, AB     the types of the list of floats and of the list of bytes, and their MIR types
 --     xF, xB, vF, vB   their elements, and their machine values
 --     lF, lB           how many elements they have
---     fills            the step `a = [x; n]` of a walk, at an n that is not looked into
+--     fills            the statement `a = [x; n]`, at an n that is not looked into
 --     owned-F, owned-B what they own is had for nothing
--- `fills` and what follows it assume `Given`. The rest assumes nothing.
+-- `fills` and what follows it take `Given` as an argument.
 use mathlib.Core.Path.{_≡_, refl, subst}
 use Prim.Native.Nat.{ℕ, zero, suc}
 use mathlib.Core.List.{List, [], _∷_}

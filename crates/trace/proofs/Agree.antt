@@ -1,5 +1,6 @@
--- The lists filled in place and the moves drawn agree: the page shows the drawing from the first move to the last, since each push and each flush leaves it
--- so. A trace ends with a flush, so nothing is pending, and the lists, zeroed past the counts, are those of `finished`.
+-- The lists filled in place and the moves drawn agree: the page shows the drawing from the first move to the last,
+-- since each push and each flush leaves it so. A trace ends with a flush, so nothing is pending, and the lists,
+-- zeroed past the counts, are those of `finished`.
 use mathlib.Core.Path.{_≡_, refl, ap, _∙_}
 use mathlib.Core.Bool.{Bool, true, false, cond}
 use mathlib.Core.List.{List, [], _∷_, _++_, append-nil}

@@ -1,4 +1,4 @@
--- `traceCheck` by the tests of the code, and what a trace that passes it is known by.
+-- `traceCheck` by the tests of the code, which come in its order; and what a trace that passes it is known by.
 use mathlib.Core.Path.{_≡_, refl}
 use mathlib.Core.Bool.{Bool, true, false, _&&_, _||_}
 use mathlib.Core.List.{List}

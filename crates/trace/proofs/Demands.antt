@@ -1,5 +1,6 @@
--- Demand 3, whole. The sides and the flipped pairs are the surface's theorem. A traced point was made from the ends of a grid edge (each event's side is one,
--- and Drawn.antt has that no other point is drawn), and the surface's theorem says that J takes the ends of a grid edge to the ends of a side.
+-- Demand 3, whole. The sides and the flipped pairs are the surface's theorem. A traced point was made from the ends
+-- of a grid edge (each event's side is one, and Drawn.antt has that no other point is drawn), and the surface's
+-- theorem says that J takes the ends of a grid edge to the ends of a side.
 use mathlib.Core.Path.{_≡_, refl, _∙_}
 use mathlib.Core.List.{List}
 use Prim.Native.Nat.{ℕ, _+_, _*_, _≤_, _<_}
@@ -144,7 +145,7 @@ module _ (g : List Float) (m n : ℕ) (hm : m ≤ 255) (hn : n ≤ 255) where
   pub points-on-sides : Meets s → StepsAround 2 s → (pairs : List Float) (marks : List ℕ) (l : Lists) → EachPoint (OnSide s) (traceFlat g m n pairs marks l)
   points-on-sides meets around = each-point (OnSide s) (λ c from l i p q t x. rw (p, q) (surface.traced s meets around (c .p) (c .q) (from .edge)))
 
--- DEMAND 3
+-- Rules 5.1: demand 3
 pub demand3 : (g : List Float) (m n : ℕ) → Demand3 g m n
 demand3 g m n accepted =
     let steps = accepted-known g m n accepted .steps in

@@ -1,5 +1,5 @@
--- `traceFlat` by what the open call did: it refused before the walk and left the lists alone, or walked and zeroed them past the counts, which are 0 where
--- the walk was refused.
+-- `traceFlat` by what the open call did: it refused before the walk and left the lists alone, or walked and zeroed
+-- them past the counts, which are 0 where the walk was refused.
 use mathlib.Core.Path.{_≡_, refl, sym, _∙_}
 use mathlib.Core.List.{List}
 use Prim.Native.Nat.{ℕ, _*_, _≤_}

@@ -1,4 +1,5 @@
--- What moves keep true of a drawing: a property that holds of nothing drawn, and that a pushed point, a kept line and a dropped line each leave true.
+-- What moves keep true of a drawing: a property that holds of nothing drawn, and that a pushed point, a kept line and
+-- a dropped line each leave true.
 use mathlib.Core.Path.{_≡_, refl}
 use mathlib.Core.Bool.{Bool, true, false, cond}
 use mathlib.Core.List.{List, [], _∷_, _++_}

@@ -9,7 +9,7 @@ use Rattle.page.proofs.Moves.{Any, any-pushed}
 use Rattle.trace.specs.Drawing.{Drawing, nothingDrawn, Room, draw}
 use Rattle.trace.proofs.Keeps.{Holding, draw-keeps}
 
--- each line has at least two points: between two starts, and between the last start and the count of points
+-- no line has fewer than two points: neither between two starts, nor between the last start and the count of points
 abbrev pub TwoOrMore : List ℕ → ℕ → Type 0
 TwoOrMore [] count = Unit {0}
 TwoOrMore (s ∷ []) count = s + 2 ≤ count

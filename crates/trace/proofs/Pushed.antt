@@ -1,4 +1,5 @@
--- What a trace pushes are points of its events' sides, so they are good where `edge_point` makes only good points of these.
+-- What a trace pushes are points of its events' sides, so they are good where `edge_point` makes only good points of
+-- these.
 use mathlib.Core.Path.{_≡_, refl}
 use mathlib.Core.Bool.{Bool, true, false, _||_, cond}
 use mathlib.Core.List.{List, [], _∷_}

@@ -1,4 +1,5 @@
--- One sample by the tests of the code, and one turn of the trace over the samples: those from i on are the one at i and those after it.
+-- One sample by the tests of the code, and one turn of the trace over the samples: those from i on are the one at i
+-- and those after it.
 use mathlib.Core.Path.{_≡_, refl, ap, _∙_}
 use mathlib.Core.List.{List, [], _∷_}
 use Prim.Native.Nat.{ℕ, zero, suc, _+_, _*_, _≤_, _<_}

@@ -1,5 +1,6 @@
--- A page shows a drawing where the front of each lent list holds the drawing's points, the pending ones last, and the pen has its counts. Each push and each flush leaves it so: a push writes
--- one point after them, and a flush moves the count where the drawing moves its pending points.
+-- A page shows a drawing where the front of each lent list holds the drawing's points, the pending ones last, and the
+-- pen has its counts. Each push and each flush leaves it so: a push writes one point after them, and a flush moves
+-- the count where the drawing moves its pending points.
 use mathlib.Core.Path.{_≡_, refl, sym, ap, _∙_}
 use mathlib.Core.Logic.{_⊎_, inl, inr}
 use mathlib.Core.Bool.{Bool, true, false, _&&_}

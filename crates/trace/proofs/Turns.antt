@@ -1,4 +1,5 @@
--- Points one after another in a list, w places each: the front of the list is unmoved by a drop, and grows by one point with a write. Over the width w.
+-- Points one after another in a list, w places each: the front of the list is unmoved by a drop, and grows by one
+-- point with a write. Over the width w.
 use mathlib.Core.Path.{_≡_, refl, sym, ap, _∙_}
 use mathlib.Core.List.{List, [], _∷_, _++_, append-assoc, append-nil}
 use Prim.Native.Nat.{ℕ, zero, suc, _+_, _*_, _≤_, _<_}

@@ -33,7 +33,8 @@ room = lists (one64 ∷ one64 ∷ one64 ∷ one64 ∷ one64 ∷ one64 ∷ []) (7
 abbrev pub traced : Float → Float → Float → Float → Afterwards (Answer Counts) Lists
 traced u v u′ v′ = traceFlat square 1 1 (u ∷ v ∷ u′ ∷ v′ ∷ []) (1 ∷ 1 ∷ []) room
 
--- from (0, 0.25) to (0.75, 0.25): one line of two points, the first made from 0 and 1, the second from 2 and 1, both by 0.25
+-- from (0, 0.25) to (0.75, 0.25): one line of two points, the first made from 0 and 1, the second from 2 and 1, both
+-- by 0.25
 pub along-u : traced zero64 quarter three-quarters quarter
     ≡ afterwards (ok (counts 2 1))
     (lists (zero64 ∷ quarter ∷ zero64 ∷ three-quarters ∷ quarter ∷ zero64 ∷ []) (0 ∷ []) (0 ∷ 1 ∷ 2 ∷ 1 ∷ []) (quarter ∷ quarter ∷ []))

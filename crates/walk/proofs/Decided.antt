@@ -1,4 +1,4 @@
--- What is decided of one event, by the tests of the code and from what its calls gave.
+-- What is decided of one event, by the tests of the code and from what its calls gave: each way through it is one case.
 use mathlib.Core.Path.{_≡_, refl}
 use mathlib.Core.Bool.{Bool, true, false, _||_, cond}
 use mathlib.Core.List.{List}

@@ -1,5 +1,5 @@
--- One turn of the walk along a leg: the events from i on are the one at i and those after it. What is left of the leg after i events are the moves of the
--- others, and its end.
+-- One turn of the walk along a leg: the events from i on are the one at i and those after it. What is left of the leg
+-- after i events are the moves of the others, and its end.
 use mathlib.Core.Path.{_≡_, refl, sym, ap, _∙_}
 use mathlib.Core.Bool.{Bool, true, false, cond}
 use mathlib.Core.List.{List, [], _∷_}

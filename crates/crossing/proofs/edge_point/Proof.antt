@@ -1,5 +1,5 @@
--- `crossing::edge_point` meets its contract: its cases are those of `edgePoint`, at the variants that the matches found. The side stands in the grid by the
--- requires, and the cell that `step_index` gives is one of the steps.
+-- `crossing::edge_point` meets its contract: its cases are those of `edgePoint`, at the variants that the matches
+-- found. The side stands in the grid by the requires, and the cell that `step_index` gives is one of the steps.
 use Prim.Native.Nat.{_≤_, _<_}
 use native.Mathlib.Omega.{arith}
 use denote.Ref.{now}
@@ -10,7 +10,8 @@ use borrow.Author.Needs.{needs}
 use Rattle.crossing.proofs.edge_point.Statement.{statement}
 use Rattle.crossing.proofs.edge_point.Tie as tie
 
--- the start, from where the match finds a U line, a V line, a diagonal; and that line, from where the cell on it is found
+-- the start, from where the match finds a U line, a V line, a diagonal; and that line, from where the cell on it is
+-- found
 abbrev start-u : tie.After-edge → tie.Start
 start-u e = e .before .before .before
 

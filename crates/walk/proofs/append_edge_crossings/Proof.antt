@@ -1,4 +1,5 @@
--- `walk::append_edge_crossings` meets its contract. The invariant says what is left of the leg: the events from i on, and its end, from the page so far.
+-- `walk::append_edge_crossings` meets its contract. The invariant says what is left of the leg: the events from i on,
+-- and its end, from the page so far.
 use Prim.Native.Nat.{_≤_, _-_}
 use mathlib.Core.Path.{_≡_, _∙_}
 use native.Mathlib.Omega.{arith}

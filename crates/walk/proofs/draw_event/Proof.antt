@@ -1,4 +1,5 @@
--- `walk::draw_event` meets its contract: proofs/Drawn.antt has what is done by what was decided, and after a push the pen still fits.
+-- `walk::draw_event` meets its contract: proofs/Drawn.antt has what is done by what was decided, and after a push the
+-- pen still fits.
 use denote.Ref.{now}
 use Rattle.float.specs.Consts.{eps}
 use Rattle.page.specs.Page.{lists, Page, page, pushPage}

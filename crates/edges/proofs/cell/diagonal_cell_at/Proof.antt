@@ -1,4 +1,5 @@
--- `edges::cell::diagonal_cell_at` meets its contract: the cells are those of the definition, at the floors, and one that is not tried has no fit.
+-- `edges::cell::diagonal_cell_at` meets its contract: the cells are those of the definition, at the floors, and one
+-- that is not tried has no fit.
 use mathlib.Core.Path.{_≡_, sym, _∙_}
 use mathlib.Core.Logic.{⊎-elim}
 use mir.Syntax.{w64}

@@ -1,4 +1,5 @@
--- `edges::cell::index_before` meets its contract: z − 1 fits where z is not the least i64, and what is before that is no index.
+-- `edges::cell::index_before` meets its contract: z − 1 fits where z is not the least i64, and what is before that is
+-- no index.
 use mathlib.Core.Path.{_≡_}
 use lib.IntN.{pos, _-ℤ_}
 use mir.Syntax.{w64}

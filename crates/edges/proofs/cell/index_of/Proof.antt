@@ -1,4 +1,5 @@
--- `edges::cell::index_of` meets its contract: the number that the code reads back from z's bits is z, and the laws are in proofs/Index.antt.
+-- `edges::cell::index_of` meets its contract: the number that the code reads back from z's bits is z, and the laws
+-- are in proofs/Index.antt.
 use mathlib.Core.Path.{_≡_}
 use mathlib.Core.Bool.{true}
 use lib.IntN.{pos}

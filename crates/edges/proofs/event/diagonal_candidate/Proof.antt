@@ -1,4 +1,5 @@
--- `edges::event::diagonal_candidate` meets its contract: where there is a lambda, the point there is in bounds and on a cell's diagonal, or there is no event.
+-- `edges::event::diagonal_candidate` meets its contract: where there is a lambda, the point there is in bounds and on
+-- a cell's diagonal, or there is no event.
 use mathlib.Core.Path.{_≡_, ap, sym, _∙_}
 use Rattle.basics.proofs.Tests.{held, failed}
 use Rattle.edges.specs.Cell.{diagonalCellAt}

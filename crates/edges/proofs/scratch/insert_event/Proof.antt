@@ -1,4 +1,5 @@
--- `edges::scratch::insert_event` meets its contract: its lambda and its code are put at the place that the search found, which is the event's.
+-- `edges::scratch::insert_event` meets its contract: its lambda and its code are put at the place that the search
+-- found, which is the event's.
 use Prim.Native.Nat.{_≤_}
 use native.Mathlib.Omega.{arith}
 use lib.ListN.{length}

@@ -1,4 +1,5 @@
--- `edges::scratch::insert_lambda` meets its contract: from the back what stands after the place is moved up, one at a turn.
+-- `edges::scratch::insert_lambda` meets its contract: from the back what stands after the place is moved up, one at a
+-- turn.
 use lib.Ieee.{nan}
 use Rattle.edges.proofs.Places.{Moving, moving-starts, moving-turn, moving-ends}
 use borrow.Author.Needs.{needs}

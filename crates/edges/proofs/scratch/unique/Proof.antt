@@ -1,4 +1,5 @@
--- `edges::scratch::unique` meets its contract: at each turn what is kept, with what is left from i on, makes the answer.
+-- `edges::scratch::unique` meets its contract: at each turn what is kept, with what is left from i on, makes the
+-- answer.
 use Prim.Native.Nat.{_-_}
 use Rattle.float.specs.Consts.{eps}
 use Rattle.edges.proofs.Kept.{Keeping, keeping-starts, keeping-none, keeping-dropped, keeping-kept, keeping-ends}

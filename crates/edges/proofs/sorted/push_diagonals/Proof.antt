@@ -1,4 +1,5 @@
--- `edges::sorted::push_diagonals` meets its contract: the diagonals from sum on, sorted into the events so far, give what is asked.
+-- `edges::sorted::push_diagonals` meets its contract: the diagonals from sum on, sorted into the events so far, give
+-- what is asked.
 use mathlib.Core.Path.{ap}
 use Prim.Native.Nat.{_≤_, _+_, _-_}
 use native.Mathlib.Omega.{arith}

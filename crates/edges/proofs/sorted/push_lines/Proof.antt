@@ -1,4 +1,5 @@
--- `edges::sorted::push_lines` meets its contract: the lines from `step` on, sorted into the events so far, give what is asked.
+-- `edges::sorted::push_lines` meets its contract: the lines from `step` on, sorted into the events so far, give what
+-- is asked.
 use mathlib.Core.Path.{_≡_}
 use Prim.Native.Nat.{_-_}
 use lib.Ieee.{lt}

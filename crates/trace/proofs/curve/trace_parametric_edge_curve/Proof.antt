@@ -1,5 +1,5 @@
--- `trace::curve::trace_parametric_edge_curve` meets its contract. The invariant says what is left: the moves of all samples are, from the page so far, those of
--- the samples from i on.
+-- `trace::curve::trace_parametric_edge_curve` meets its contract. The invariant says what is left: the moves of all
+-- samples are, from the page so far, those of the samples from i on.
 use Prim.Native.Nat.{_≤_, _-_}
 use mathlib.Core.Path.{_≡_, _∙_}
 use native.Mathlib.Omega.{arith}

@@ -1,4 +1,5 @@
--- `trace::flat::trace_flat` meets its contract: proofs/Ended.antt has `traceFlat` by what the call did, and demand 3 holds of every grid.
+-- `trace::flat::trace_flat` meets its contract: proofs/Ended.antt has `traceFlat` by what the call did, and demand 3
+-- holds of every grid.
 use Prim.Native.Nat.{_*_, _<_}
 use native.Mathlib.Omega.{arith}
 use denote.Ref.{now}
