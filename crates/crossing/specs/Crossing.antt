@@ -70,7 +70,8 @@ onV g n v Nothing = NoStep
 -- on the diagonal of cell (u, v): from the corner (u+1, v) to (u, v+1), t from the leg's v there, y
 abbrev pub onDiagonal : List Float → ℕ → ℕ → ℕ → Float → EdgePoint
 onDiagonal g n u v y =
-    On (crossing g (pointNumber n (u + 1) v) (pointNumber n u (v + 1)) (clamped (sub binary64 y (natFloat v)) zero64 one64))
+    On (crossing g (pointNumber n (u + 1) v) (pointNumber n u (v + 1))
+    (clamped (sub binary64 y (natFloat v)) zero64 one64))
 
 -- `edge_point`: the point of an event, from its side and the leg's point x at its lambda
 unfoldable pub edgePoint : List Float → Cells → ParamEdge → ParamPoint → EdgePoint

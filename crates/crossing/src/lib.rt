@@ -65,7 +65,8 @@ fn blend(p: Vector, q: Vector, t: f64) -> Vector
 // The point between grid points (u0, v0) and (u1, v1).
 fn between(grid: &[f64], n: usize, u0: usize, v0: usize, u1: usize, v1: usize, t: f64) -> Crossing
     requires { ⌜ (n ≤ 255) × (u0 ≤ 256) × (v0 ≤ 256) × (u1 ≤ 256) × (v1 ≤ 256) ⌝ }
-    requires { ⌜ (3 * pointNumber n u0 v0 + 3 ≤ length (now grid)) × (3 * pointNumber n u1 v1 + 3 ≤ length (now grid)) ⌝ }
+    requires { ⌜ (3 * pointNumber n u0 v0 + 3 ≤ length (now grid))
+        × (3 * pointNumber n u1 v1 + 3 ≤ length (now grid)) ⌝ }
     ensures { λ r. ⌜ r ≡ crossing (now (grid .entry)) (pointNumber n u0 v0) (pointNumber n u1 v1) t ⌝ }
 {
     let p = grid::point_number(n, u0, v0);

@@ -24,5 +24,6 @@ step-within x n h =
     let low = le zero64 (rounded x) in
     let high = le (rounded x) (natFloat n) in
     cond-case (StepWithin n) (near && (low && high)) _ Between
-    (λ t. let inside = and-both low high (and-both near (low && high) t .1) in counted (rounded x) n h (inside .0) (inside .1) .1)
+    (λ t. let inside = and-both low high (and-both near (low && high) t .1) in
+    counted (rounded x) n h (inside .0) (inside .1) .1)
     (λ t. tt)

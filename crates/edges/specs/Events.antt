@@ -144,7 +144,8 @@ pastSum k leg = min (k .m + k .n) (count (floorZ (highSum leg)) + 1)
 
 -- 1: a, then b
 unfoldable pub ends : Cells → Leg → List EdgeEvent
-ends k leg = listed (endCandidate zero64 (edgeAtPoint k (leg .a))) (listed (endCandidate one64 (edgeAtPoint k (leg .b))) [])
+ends k leg =
+    listed (endCandidate zero64 (edgeAtPoint k (leg .a))) (listed (endCandidate one64 (edgeAtPoint k (leg .b))) [])
 
 -- 2 and 3: the lines of an axis, from its first to its last
 unfoldable pub lines : Axis → Cells → Leg → List EdgeEvent

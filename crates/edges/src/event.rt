@@ -13,7 +13,8 @@ use param::is_within;
 use param::param_in_bounds;
 ghost use mathlib.Core.Path.{_≡_};
 ghost use Rattle.edges.specs.Near.{normalizeLambda};
-ghost use Rattle.edges.specs.Events.{edgeAtPoint, endCandidate, lambdaAt, onLine, lineAt, lineCandidate, diagonalCandidate};
+ghost use Rattle.edges.specs.Events.{edgeAtPoint, endCandidate, lambdaAt, onLine, lineAt, lineCandidate};
+ghost use Rattle.edges.specs.Events.{diagonalCandidate};
 
 // A side: the line U(u) or V(v), or the diagonal of the cell (u, v).
 pub enum ParamEdge {

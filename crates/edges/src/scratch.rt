@@ -122,7 +122,8 @@ fn insert_code(codes: &mut [u32], count: usize, place: usize, code: u32)
 
 // Puts an event in its place among `count` sorted events, after its equals.
 pub fn insert_event(lambdas: &mut [f64], codes: &mut [u32], count: usize, event: EdgeEvent)
-    requires { ⌜ (count < length (now lambdas)) × (length (now lambdas) ≡ length (now codes)) × Storable event × Sorted (eventsIn (now lambdas) (now codes) count) ⌝ }
+    requires { ⌜ (count < length (now lambdas)) × (length (now lambdas) ≡ length (now codes)) × Storable event
+        × Sorted (eventsIn (now lambdas) (now codes) count) ⌝ }
     ensures { λ _. ⌜ (eventsIn (now (lambdas .exit)) (now (codes .exit)) (count + 1)
         ≡ insert event (eventsIn (now (lambdas .entry)) (now (codes .entry)) count))
         × Sorted (eventsIn (now (lambdas .exit)) (now (codes .exit)) (count + 1)) ⌝ }
@@ -141,7 +142,8 @@ pub fn push_candidate(
     count: usize,
     candidate: Candidate,
 ) -> usize
-    requires { ⌜ (count < length (now lambdas)) × (length (now lambdas) ≡ length (now codes)) × IfEvent Storable candidate × Sorted (eventsIn (now lambdas) (now codes) count) ⌝ }
+    requires { ⌜ (count < length (now lambdas)) × (length (now lambdas) ≡ length (now codes))
+        × IfEvent Storable candidate × Sorted (eventsIn (now lambdas) (now codes) count) ⌝ }
     ensures { λ r. ⌜ (r ≤ count + 1) × (eventsIn (now (lambdas .exit)) (now (codes .exit)) r
         ≡ pushed candidate (eventsIn (now (lambdas .entry)) (now (codes .entry)) count))
         × Sorted (eventsIn (now (lambdas .exit)) (now (codes .exit)) r) ⌝ }

@@ -20,7 +20,8 @@ ghost use mathlib.Core.List.{[]};
 ghost use Prim.Native.Nat.{_+_, _-_, _<_, _≤_};
 ghost use Rattle.float.specs.Cast.{count};
 ghost use Rattle.param.specs.Param.{stepsOn};
-ghost use Rattle.edges.specs.Events.{lowSum, highSum, firstSum, pastSum, ends, lines, diagonals, candidates, sortInto, sortedEdgeEvents};
+ghost use Rattle.edges.specs.Events.{lowSum, highSum, firstSum, pastSum, ends, lines, diagonals, candidates};
+ghost use Rattle.edges.specs.Events.{sortInto, sortedEdgeEvents};
 ghost use Rattle.edges.specs.Scratch.{eventsIn, ScratchRoom, Sorted};
 
 // The two ends.
@@ -44,7 +45,8 @@ fn push_lines(
     cells: Cells,
     leg: Leg,
 ) -> usize
-    requires { ⌜ ScratchRoom cells (now lambdas) (now codes) count (stepsOn axis cells + 1) × Sorted (eventsIn (now lambdas) (now codes) count) ⌝ }
+    requires { ⌜ ScratchRoom cells (now lambdas) (now codes) count (stepsOn axis cells + 1)
+        × Sorted (eventsIn (now lambdas) (now codes) count) ⌝ }
     ensures { λ r. ⌜ (r ≤ count + (stepsOn axis cells + 1)) × (eventsIn (now (lambdas .exit)) (now (codes .exit)) r
         ≡ sortInto (lines axis cells leg) (eventsIn (now (lambdas .entry)) (now (codes .entry)) count))
         × Sorted (eventsIn (now (lambdas .exit)) (now (codes .exit)) r) ⌝ }
@@ -115,7 +117,8 @@ fn push_diagonals(
     cells: Cells,
     leg: Leg,
 ) -> usize
-    requires { ⌜ ScratchRoom cells (now lambdas) (now codes) count (cells .m + cells .n - 1) × Sorted (eventsIn (now lambdas) (now codes) count) ⌝ }
+    requires { ⌜ ScratchRoom cells (now lambdas) (now codes) count (cells .m + cells .n - 1)
+        × Sorted (eventsIn (now lambdas) (now codes) count) ⌝ }
     ensures { λ r. ⌜ (r ≤ count + (cells .m + cells .n - 1)) × (eventsIn (now (lambdas .exit)) (now (codes .exit)) r
         ≡ sortInto (diagonals cells leg) (eventsIn (now (lambdas .entry)) (now (codes .entry)) count)) ⌝ }
 {
@@ -134,7 +137,8 @@ fn push_diagonals(
 // End events, then U lines, V lines and diagonals: at most 2 + (m + 1) + (n + 1) + (m + n - 1).
 fn push_candidates(lambdas: &mut [f64], codes: &mut [u32], cells: Cells, leg: Leg) -> usize
     requires { ⌜ ScratchRoom cells (now lambdas) (now codes) 0 0 ⌝ }
-    ensures { λ r. ⌜ (r ≤ 1023) × (eventsIn (now (lambdas .exit)) (now (codes .exit)) r ≡ sortInto (candidates cells leg) []) ⌝ }
+    ensures { λ r. ⌜ (r ≤ 1023)
+        × (eventsIn (now (lambdas .exit)) (now (codes .exit)) r ≡ sortInto (candidates cells leg) []) ⌝ }
 {
     let ends = push_ends(lambdas, codes, cells, leg);
     let us = push_lines(lambdas, codes, ends, Axis::AxisU, cells, leg);
@@ -145,7 +149,8 @@ fn push_candidates(lambdas: &mut [f64], codes: &mut [u32], cells: Cells, leg: Le
 // The events of a leg: its candidates sorted, without those that are less than EPS from the one kept before.
 pub fn sorted_edge_events(lambdas: &mut [f64], codes: &mut [u32], cells: Cells, leg: Leg) -> usize
     requires { ⌜ ScratchRoom cells (now lambdas) (now codes) 0 0 ⌝ }
-    ensures { λ r. ⌜ (r ≤ 1023) × (eventsIn (now (lambdas .exit)) (now (codes .exit)) r ≡ sortedEdgeEvents cells leg) ⌝ }
+    ensures { λ r. ⌜ (r ≤ 1023)
+        × (eventsIn (now (lambdas .exit)) (now (codes .exit)) r ≡ sortedEdgeEvents cells leg) ⌝ }
 {
     let count = push_candidates(lambdas, codes, cells, leg);
     unique(lambdas, codes, count)

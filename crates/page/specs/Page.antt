@@ -69,7 +69,9 @@ hasRoom g = ltb (g .pen .count) (pointRoom (g .lists))
 
 -- there is a pending point, and the last one is close to c by a tolerance
 abbrev pub closeToPending : Float → Crossing → Page → Bool
-closeToPending tolerance c g = ltb (g .pen .start) (g .pen .count) && allClose (pointAt (g .lists .points) (g .pen .count - 1)) (c .point) tolerance
+closeToPending tolerance c g =
+    ltb (g .pen .start) (g .pen .count)
+    && allClose (pointAt (g .lists .points) (g .pen .count - 1)) (c .point) tolerance
 
 -- c as one more pending point
 unfoldable pub written : Crossing → Page → Page
@@ -81,7 +83,9 @@ pushPage tolerance c g = cond (closeToPending tolerance c g) (on g) (cond (hasRo
 
 -- the pending line is kept
 unfoldable pub kept : Page → Page
-kept g = page (writeStart (g .pen .lines) (g .pen .start) (g .lists)) (penAt (g .pen .count) (g .pen .count) (g .pen .lines + 1))
+kept g =
+    page (writeStart (g .pen .lines) (g .pen .start) (g .lists))
+    (penAt (g .pen .count) (g .pen .count) (g .pen .lines + 1))
 
 -- the pending line goes
 unfoldable pub dropped : Page → Page

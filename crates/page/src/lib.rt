@@ -33,7 +33,8 @@ fn write_crossing(
     i: usize,
     c: Crossing,
 )
-    requires { ⌜ (3 * i + 3 ≤ length (now points)) × (2 * i + 2 ≤ length (now sides)) × (i + 1 ≤ length (now fractions)) ⌝ }
+    requires { ⌜ (3 * i + 3 ≤ length (now points)) × (2 * i + 2 ≤ length (now sides))
+        × (i + 1 ≤ length (now fractions)) ⌝ }
     ensures { λ _. ⌜ ((starts : List ℕ) → lists (now (points .exit)) starts (now (sides .exit)) (now (fractions .exit))
         ≡ writeAt i c (lists (now (points .entry)) starts (now (sides .entry)) (now (fractions .entry)))) ⌝ }
 {
@@ -54,8 +55,10 @@ pub fn push_segment_point(
     c: Crossing,
 ) -> Penned
     requires { ⌜ PenFits (now points) pen ⌝ }
-    ensures { λ r. ⌜ ((starts : List ℕ) → afterwards r (lists (now (points .exit)) starts (now (sides .exit)) (now (fractions .exit)))
-        ≡ pageAfter (pushPage eps c (page (lists (now (points .entry)) starts (now (sides .entry)) (now (fractions .entry))) pen))) ⌝ }
+    ensures { λ r. ⌜ ((starts : List ℕ) →
+        afterwards r (lists (now (points .exit)) starts (now (sides .exit)) (now (fractions .exit)))
+        ≡ pageAfter (pushPage eps c
+        (page (lists (now (points .entry)) starts (now (sides .entry)) (now (fractions .entry))) pen))) ⌝ }
 {
     let count = pen.count;
     if pen.start < count {
@@ -84,7 +87,8 @@ pub fn push_segment_point(
 pub fn flush_segment(starts: &mut [usize], pen: Pen) -> Penned
     requires { ⌜ pen .start ≤ pen .count ⌝ }
     ensures { λ r. ⌜ ((points : List Float) (sides : List ℕ) (fractions : List Float) →
-        afterwards r (lists points (now (starts .exit)) sides fractions) ≡ pageAfter (flushPage (page (lists points (now (starts .entry)) sides fractions) pen))) ⌝ }
+        afterwards r (lists points (now (starts .exit)) sides fractions)
+        ≡ pageAfter (flushPage (page (lists points (now (starts .entry)) sides fractions) pen))) ⌝ }
 {
     let count = pen.count;
     let start = pen.start;
@@ -112,7 +116,9 @@ pub fn flush_unless(inside: bool, starts: &mut [usize], pen: Pen) -> Penned
     requires { ⌜ pen .start ≤ pen .count ⌝ }
     ensures { λ r. ⌜ ((points : List Float) (sides : List ℕ) (fractions : List Float) →
         afterwards r (lists points (now (starts .exit)) sides fractions)
-        ≡ pageAfter (cond inside (on (page (lists points (now (starts .entry)) sides fractions) pen)) (flushPage (page (lists points (now (starts .entry)) sides fractions) pen)))) ⌝ }
+        ≡ pageAfter (cond inside
+        (on (page (lists points (now (starts .entry)) sides fractions) pen))
+        (flushPage (page (lists points (now (starts .entry)) sides fractions) pen)))) ⌝ }
 {
     if inside {
         return Penned::Down(pen);

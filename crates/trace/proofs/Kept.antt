@@ -29,6 +29,7 @@ pub lines-long : (room : Room) (ms : List (Move Crossing)) → Holding Long (dra
 lines-long room ms =
     draw-keeps Long Any tt
     (λ c good d h. h)
-    (λ d h l. rw length-append (one-more (d .starts) (length (d .drawn)) (length (d .drawn) + length (d .segment)) h (omega arith)))
+    (λ d h l. rw length-append (one-more (d .starts) (length (d .drawn)) (length (d .drawn) + length (d .segment)) h
+    (omega arith)))
     (λ d h. h)
     room (any-pushed ms)

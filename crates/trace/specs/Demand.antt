@@ -51,7 +51,8 @@ OnSide s l i = EndsOfSide s (Jₙ s (pOf l i)) (Jₙ s (qOf l i))
 -- samples and the lists lent; where a seam joins, 2 steps around are needed, for with 1 J can take p and q to one point
 pub record DemandMet (g : List Float) (m n : ℕ) : Type 0 where
   pub surface : Meets (surfaceOf g m n)
-  pub points : StepsAround 2 (surfaceOf g m n) → (pairs : List Float) (marks : List ℕ) (l : Lists) → EachPoint (OnSide (surfaceOf g m n)) (traceFlat g m n pairs marks l)
+  pub points : StepsAround 2 (surfaceOf g m n) → (pairs : List Float) (marks : List ℕ) (l : Lists) →
+      EachPoint (OnSide (surfaceOf g m n)) (traceFlat g m n pairs marks l)
 
 -- of an accepted grid: the points of every trace were made from their p and q; and the above, if the seams found are a
 -- covered joining

@@ -28,7 +28,8 @@ use Rattle.trace.specs.Table as traces
 use Rattle.trace.specs.Table.{traced}
 
 -- Rules 7.2, `step_index`: 4 of 4 steps is in cell 3 by 1, −EPS of 4 steps in cell 0 by 0; without steps no answer
-pub step-index : (stepIndex (ofBits binary64 0x4010000000000000) 4 ≡ At 3 one64) × (stepIndex (neg eps) 4 ≡ At 0 zero64) × (stepIndex zero64 0 ≡ Nothing)
+pub step-index : (stepIndex (ofBits binary64 0x4010000000000000) 4 ≡ At 3 one64)
+    × (stepIndex (neg eps) 4 ≡ At 0 zero64) × (stepIndex zero64 0 ≡ Nothing)
 step-index = (crossing.last-border, crossing.before-first, crossing.no-steps)
 
 -- Rules 3.4, Forward at offset 1 of 4 steps: 4 goes to 1, and 0 comes from 3
@@ -36,19 +37,23 @@ pub forward : (mapIndex (Forward 1 4) 4 ≡ ok 1) × (mapIndexInv (Forward 1 4) 
 forward = (seams.forward-image, seams.forward-inverse)
 
 -- Rules 3.4, Reverse of 4 steps: at offset 0, 1 comes from 3; at offset 1, 2 comes from 3, and 4 from 1
-pub reverse : (mapIndexInv (Reverse 0 4) 1 ≡ ok 3) × (mapIndexInv (Reverse 1 4) 2 ≡ ok 3) × (mapIndexInv (Reverse 1 4) 4 ≡ ok 1)
+pub reverse : (mapIndexInv (Reverse 0 4) 1 ≡ ok 3) × (mapIndexInv (Reverse 1 4) 2 ≡ ok 3)
+    × (mapIndexInv (Reverse 1 4) 4 ≡ ok 1)
 reverse = (seams.reverse-zero, seams.reverse-two, seams.reverse-four)
 
 -- Rules 3.3, rows by their x (`along`): one is the other backwards, found after 6 comparisons
-pub rows-reversed : newVector (along (zero64 ∷ one64 ∷ two64 ∷ three64 ∷ [])) (along (three64 ∷ two64 ∷ one64 ∷ zero64 ∷ [])) eps ≡ ok (searched (Joined (Reverse 0 3)) 6)
+pub rows-reversed : newVector (along (zero64 ∷ one64 ∷ two64 ∷ three64 ∷ []))
+    (along (three64 ∷ two64 ∷ one64 ∷ zero64 ∷ [])) eps ≡ ok (searched (Joined (Reverse 0 3)) 6)
 rows-reversed = seams.turned
 
 -- Rules 3.3: closed rows, one shifted by 2 of 3 steps, found after 10 comparisons
-pub rows-shifted : newVector (along (zero64 ∷ one64 ∷ two64 ∷ zero64 ∷ [])) (along (one64 ∷ two64 ∷ zero64 ∷ one64 ∷ [])) eps ≡ ok (searched (Joined (Forward 2 3)) 10)
+pub rows-shifted : newVector (along (zero64 ∷ one64 ∷ two64 ∷ zero64 ∷ []))
+    (along (one64 ∷ two64 ∷ zero64 ∷ one64 ∷ [])) eps ≡ ok (searched (Joined (Forward 2 3)) 10)
 rows-shifted = seams.shifted
 
 -- Rules 3.3: rows that are not closed and do not fit, after 3 comparisons
-pub rows-apart : newVector (along (zero64 ∷ one64 ∷ two64 ∷ [])) (along (one64 ∷ two64 ∷ three64 ∷ [])) eps ≡ ok (searched Unjoined 3)
+pub rows-apart : newVector (along (zero64 ∷ one64 ∷ two64 ∷ [])) (along (one64 ∷ two64 ∷ three64 ∷ [])) eps
+    ≡ ok (searched Unjoined 3)
 rows-apart = seams.apart
 
 -- Rules 4.3: the two triangles of one cell without seams
@@ -62,11 +67,17 @@ u-reversed = surfaces.reversed-u
 -- Rules 6 and 7: in one cell, the two events from (0, 0.25) to (0.75, 0.25), and p, q and t of their points. `traced`
 -- traces these two samples across a unit square, into lists with room for two points
 pub along-u :
-    (sortedEdgeEvents (cells 1 1) (leg (param zero64 quarter) (param three-quarters quarter)) ≡ event zero64 (U 0) ∷ event one64 (Diagonal 0 0) ∷ [])
+    (sortedEdgeEvents (cells 1 1) (leg (param zero64 quarter) (param three-quarters quarter))
+    ≡ event zero64 (U 0) ∷ event one64 (Diagonal 0 0) ∷ [])
     × (traced zero64 quarter three-quarters quarter .lists .sides ≡ 0 ∷ 1 ∷ 2 ∷ 1 ∷ [])
     × (traced zero64 quarter three-quarters quarter .lists .fractions ≡ quarter ∷ quarter ∷ [])
-along-u = (events.along-u, ap (λ (t : Afterwards (Answer Counts) Lists). t .lists .sides) traces.along-u, ap (λ (t : Afterwards (Answer Counts) Lists). t .lists .fractions) traces.along-u)
+along-u = (
+  events.along-u,
+  ap (λ (t : Afterwards (Answer Counts) Lists). t .lists .sides) traces.along-u,
+  ap (λ (t : Afterwards (Answer Counts) Lists). t .lists .fractions) traces.along-u,
+)
 
 -- Rules 6: in one cell, the only event from (0, 0) to (0.5, −0.5): U(0) at 0 comes after it, too near, and is dropped
-pub minus-zero-first : sortedEdgeEvents (cells 1 1) (leg (param zero64 zero64) (param half64 minus-half)) ≡ event minus-zero («V» 0) ∷ []
+pub minus-zero-first : sortedEdgeEvents (cells 1 1) (leg (param zero64 zero64) (param half64 minus-half))
+    ≡ event minus-zero («V» 0) ∷ []
 minus-zero-first = events.minus-zero-first

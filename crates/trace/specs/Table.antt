@@ -20,7 +20,9 @@ use Rattle.trace.specs.Trace.{marksFit, pairsFit, traceCheck, inTurn, tr
 
 -- `unfolding computed` opens every definition that a closed result needs
 unfoldable pub computed : Bool
-unfolding crossing.computed larger allClose coordinatesFit gridCheck samplesOf beforeInside afterInside decide eventsMoves legMoves traceMoves run pushSegmentPoint flushSegment marksFit pairsFit traceCheck inTurn traceFlat
+unfolding
+    crossing.computed larger allClose coordinatesFit gridCheck samplesOf beforeInside afterInside decide eventsMoves
+    legMoves traceMoves run pushSegmentPoint flushSegment marksFit pairsFit traceCheck inTurn traceFlat
 computed = true
 
 -- a unit square as a grid of M = N = 1, and the trace of two samples in lists with room for two points and one line
@@ -37,7 +39,8 @@ traced u v u′ v′ = traceFlat square 1 1 (u ∷ v ∷ u′ ∷ v′ ∷ []) (
 -- by 0.25
 pub along-u : traced zero64 quarter three-quarters quarter
     ≡ afterwards (ok (counts 2 1))
-    (lists (zero64 ∷ quarter ∷ zero64 ∷ three-quarters ∷ quarter ∷ zero64 ∷ []) (0 ∷ []) (0 ∷ 1 ∷ 2 ∷ 1 ∷ []) (quarter ∷ quarter ∷ []))
+    (lists (zero64 ∷ quarter ∷ zero64 ∷ three-quarters ∷ quarter ∷ zero64 ∷ []) (0 ∷ []) (0 ∷ 1 ∷ 2 ∷ 1 ∷ [])
+    (quarter ∷ quarter ∷ []))
 unfolding computed
 along-u = refl
 
@@ -49,6 +52,7 @@ no-line = refl
 -- from (1, 1048576) to (1, 1 + EPS): refused with 11, and every place is zero
 no-step : traced one64 (ofBits binary64 0x4130000000000000) one64 (add binary64 one64 eps)
     ≡ afterwards (refused 11)
-    (lists (zero64 ∷ zero64 ∷ zero64 ∷ zero64 ∷ zero64 ∷ zero64 ∷ []) (0 ∷ []) (0 ∷ 0 ∷ 0 ∷ 0 ∷ []) (zero64 ∷ zero64 ∷ []))
+    (lists (zero64 ∷ zero64 ∷ zero64 ∷ zero64 ∷ zero64 ∷ zero64 ∷ []) (0 ∷ []) (0 ∷ 0 ∷ 0 ∷ 0 ∷ [])
+    (zero64 ∷ zero64 ∷ []))
 unfolding computed
 no-step = refl

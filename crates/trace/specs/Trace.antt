@@ -80,7 +80,9 @@ inTurn f (c ∷ cs) = f c ++ inTurn f cs
 -- the lists after these points and starts: every place past them is zero
 abbrev pub listsWith : List Crossing → List ℕ → Lists → Lists
 listsWith cs ss l =
-    lists (filled zero64 (inTurn pointOf cs) (l .points)) (filled 0 ss (l .starts)) (filled 0 (inTurn sideOf cs) (l .sides))
+    lists (filled zero64 (inTurn pointOf cs) (l .points))
+    (filled 0 ss (l .starts))
+    (filled 0 (inTurn sideOf cs) (l .sides))
     (filled zero64 (inTurn fractionOf cs) (l .fractions))
 
 -- ---- the call
@@ -91,9 +93,11 @@ drawingOf g m n pairs marks room = draw room (traceMoves g (cells m n) (samplesO
 
 -- Rules 8.2, 8.3: the counts and the lists; 11 and 12 leave every place zero
 abbrev pub finished : Outcome Drawing → Lists → Afterwards (Answer Counts) Lists
-finished (on d) l = afterwards (ok (counts (length (d .drawn)) (length (d .starts)))) (listsWith (d .drawn) (d .starts) l)
+finished (on d) l =
+    afterwards (ok (counts (length (d .drawn)) (length (d .starts)))) (listsWith (d .drawn) (d .starts) l)
 finished (off k d) l = afterwards (refused (numberOf k)) (listsWith [] [] l)
 
 -- the open call: refusals 1 to 10 leave the lists as they were
 unfoldable pub traceFlat : List Float → ℕ → ℕ → List Float → List ℕ → Lists → Afterwards (Answer Counts) Lists
-traceFlat g m n pairs marks l = ifPassed (traceCheck g m n pairs marks) l (finished (drawingOf g m n pairs marks (roomIn l)) l)
+traceFlat g m n pairs marks l =
+    ifPassed (traceCheck g m n pairs marks) l (finished (drawingOf g m n pairs marks (roomIn l)) l)

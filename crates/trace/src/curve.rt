@@ -82,7 +82,8 @@ fn trace_sample(
     requires { ⌜ (length (now lambdas) ≡ 1023) × (length (now codes) ≡ 1023) ⌝ }
     requires { ⌜ GridFits (now grid) cells ⌝ }
     requires { ⌜ PenFits (now points) pen ⌝ }
-    ensures { λ r. ⌜ afterwards r (lists (now (points .exit)) (now (starts .exit)) (now (sides .exit)) (now (fractions .exit)))
+    ensures { λ r. ⌜ afterwards r
+        (lists (now (points .exit)) (now (starts .exit)) (now (sides .exit)) (now (fractions .exit)))
         ≡ pageAfter (onPage (visitMoves (now (grid .entry)) cells visit)
         (page (lists (now (points .entry)) (now (starts .entry)) (now (sides .entry)) (now (fractions .entry))) pen)) ⌝ }
 {
@@ -118,9 +119,12 @@ pub fn trace_parametric_edge_curve(
 ) -> Penned
     requires { ⌜ GridFits (now grid) cells ⌝ }
     requires { ⌜ (length (now pairs) ≡ 2 * length (now marks)) × (length (now marks) ≤ 65537) ⌝ }
-    ensures { λ r. ⌜ afterwards r (lists (now (points .exit)) (now (starts .exit)) (now (sides .exit)) (now (fractions .exit)))
-        ≡ pageAfter (onPage (traceMoves (now (grid .entry)) cells (samplesOf (now (marks .entry)) (now (pairs .entry))) Previous.Nowhere)
-        (page (lists (now (points .entry)) (now (starts .entry)) (now (sides .entry)) (now (fractions .entry))) (penAt 0 0 0))) ⌝ }
+    ensures { λ r. ⌜ afterwards r
+        (lists (now (points .exit)) (now (starts .exit)) (now (sides .exit)) (now (fractions .exit)))
+        ≡ pageAfter (onPage (traceMoves (now (grid .entry)) cells
+        (samplesOf (now (marks .entry)) (now (pairs .entry))) Previous.Nowhere)
+        (page (lists (now (points .entry)) (now (starts .entry)) (now (sides .entry)) (now (fractions .entry)))
+        (penAt 0 0 0))) ⌝ }
 {
     let mut lambdas = [0.0; MAX_EVENTS];
     let mut codes = [0u32; MAX_EVENTS];

@@ -64,7 +64,8 @@ pub fn trace_flat(
     sides: &mut [usize],
     fractions: &mut [f64],
 ) -> Trace
-    ensures answer { λ r. ⌜ afterwards (statedTrace r) (lists (now (points .exit)) (now (starts .exit)) (now (sides .exit)) (now (fractions .exit)))
+    ensures answer { λ r. ⌜ afterwards (statedTrace r)
+        (lists (now (points .exit)) (now (starts .exit)) (now (sides .exit)) (now (fractions .exit)))
         ≡ traceFlat (now (grid .entry)) m n (now (pairs .entry)) (now (marks .entry))
         (lists (now (points .entry)) (now (starts .entry)) (now (sides .entry)) (now (fractions .entry))) ⌝ }
     ensures demand { λ _. ⌜ Demand3 (now (grid .entry)) m n ⌝ }

@@ -26,12 +26,18 @@ middle x y = mul binary64 (add binary64 x y) half64
 -- the leg is inside before an event at x: its middle since `previous`, the lambda of the event before, is within EPS of
 -- the grid; where `previous` plus EPS is not below x, the leg's point at x is asked instead
 unfoldable pub beforeInside : Cells → Leg → Float → Float → Bool
-beforeInside k l previous x = cond (lt (add binary64 previous eps) x) (paramInBounds k (onLeg l (middle previous x))) (paramInBounds k (onLeg l x))
+beforeInside k l previous x =
+    cond (lt (add binary64 previous eps) x)
+    (paramInBounds k (onLeg l (middle previous x)))
+    (paramInBounds k (onLeg l x))
 
 -- it is inside after an event at x: its middle up to `next`, the lambda of the next event, is within EPS of the grid;
 -- where x plus EPS is not below `next`, b is asked instead
 unfoldable pub afterInside : Cells → Leg → Float → Float → Bool
-afterInside k l x next = cond (lt (add binary64 x eps) next) (paramInBounds k (onLeg l (middle x next))) (paramInBounds k (l .b))
+afterInside k l x next =
+    cond (lt (add binary64 x eps) next)
+    (paramInBounds k (onLeg l (middle x next)))
+    (paramInBounds k (l .b))
 
 -- what becomes of an event's point; Rules 7.4: 11 where `step_index` has no answer for it
 abbrev pub pushOf : EdgePoint → EventPoint
@@ -43,7 +49,10 @@ unfoldable pub decide : List Float → Cells → Leg → Float → EdgeEvent →
 decide g k l previous e next =
     let before = beforeInside k l previous (e .lambda) in
     let after = afterInside k l (e .lambda) next in
-    record { point = cond (before || after) (pushOf (edgePoint g k (e .edge) (onLeg l (e .lambda)))) Pass; inside = after }
+    record {
+      point = cond (before || after) (pushOf (edgePoint g k (e .edge) (onLeg l (e .lambda)))) Pass;
+      inside = after;
+    }
 
 -- ---- moves
 
@@ -69,7 +78,8 @@ nextLambda (e ∷ es) = e .lambda
 -- of events in order, after one at `previous`
 unfoldable pub eventsMoves : List Float → Cells → Leg → Float → List EdgeEvent → List (Move Crossing)
 eventsMoves g k l previous [] = []
-eventsMoves g k l previous (e ∷ es) = movesOf (decide g k l previous e (nextLambda es)) ++ eventsMoves g k l (e .lambda) es
+eventsMoves g k l previous (e ∷ es) =
+    movesOf (decide g k l previous e (nextLambda es)) ++ eventsMoves g k l (e .lambda) es
 
 -- of a leg: those of its events, from 0 on, and a flush if b is not within EPS of the grid
 unfoldable pub legMoves : List Float → Cells → Leg → List (Move Crossing)

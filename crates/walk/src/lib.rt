@@ -107,7 +107,8 @@ fn draw_event(
     decision: Decision,
 ) -> Penned
     requires { ⌜ PenFits (now points) pen ⌝ }
-    ensures { λ r. ⌜ afterwards r (lists (now (points .exit)) (now (starts .exit)) (now (sides .exit)) (now (fractions .exit)))
+    ensures { λ r. ⌜ afterwards r
+        (lists (now (points .exit)) (now (starts .exit)) (now (sides .exit)) (now (fractions .exit)))
         ≡ pageAfter (onPage (movesOf decision)
         (page (lists (now (points .entry)) (now (starts .entry)) (now (sides .entry)) (now (fractions .entry))) pen)) ⌝ }
 {
@@ -150,7 +151,8 @@ pub fn append_edge_crossings(
     requires { ⌜ (length (now lambdas) ≡ 1023) × (length (now codes) ≡ 1023) ⌝ }
     requires { ⌜ GridFits (now grid) cells ⌝ }
     requires { ⌜ PenFits (now points) pen ⌝ }
-    ensures { λ r. ⌜ afterwards r (lists (now (points .exit)) (now (starts .exit)) (now (sides .exit)) (now (fractions .exit)))
+    ensures { λ r. ⌜ afterwards r
+        (lists (now (points .exit)) (now (starts .exit)) (now (sides .exit)) (now (fractions .exit)))
         ≡ pageAfter (onPage (legMoves (now (grid .entry)) cells leg)
         (page (lists (now (points .entry)) (now (starts .entry)) (now (sides .entry)) (now (fractions .entry))) pen)) ⌝ }
 {

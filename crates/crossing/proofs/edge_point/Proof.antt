@@ -40,7 +40,8 @@ side-v c = inside-v (start-v c .args .cells) (c .edge2 .given .1) (start-v c .pr
 cell-v : (c : tie.After-u) → c .u .given .0 .0 < start-v (line-v c) .args .cells .m
 cell-v c = cell-inside _ _ (start-v (line-v c) .pre .0 .0) (c .before .before .step-index2 .ensures) (c .u .given .1)
 
-side-diagonal : (c : tie.After-edge3) → let k = start-d c .args .cells in (c .edge3 .given .0 .0 < k .m) × (c .edge3 .given .0 .1 .0 < k .n)
+side-diagonal : (c : tie.After-edge3) → let k = start-d c .args .cells in
+    (c .edge3 .given .0 .0 < k .m) × (c .edge3 .given .0 .1 .0 < k .n)
 side-diagonal c = inside-diagonal (start-d c .args .cells) (c .edge3 .given .1) (start-d c .pre .1)
 
 between-requires : tie.Need-between-requires

@@ -18,7 +18,11 @@ not-below : (c : tie.Then1) → leZ (pos 0) (c .before .args .z) ≡ true
 not-below c = rw (back (c .before)) at (c .if1 .taken)
 
 cast-k : tie.Need-cast-k
-cast-k c = rw (back (c .before)) (nonneg-of (c .before .args .z) (not-below c), abs-fits (c .before .args .z) (c .before .fits .z))
+cast-k c =
+    rw (back (c .before)) (
+      nonneg-of (c .before .args .z) (not-below c),
+      abs-fits (c .before .args .z) (c .before .fits .z),
+    )
 
 returns : tie.Need-returns
 returns c =
