@@ -23,7 +23,7 @@ pub before-first : stepIndex (neg eps) 4 ≡ At 0 zero64
 unfolding computed
 before-first = refl
 
--- no value has an answer where there are no steps
+-- the value 0 has no answer where there are no steps
 pub no-steps : stepIndex zero64 0 ≡ Nothing
 unfolding computed
 no-steps = refl

@@ -172,10 +172,12 @@ unfoldable pub insert : EdgeEvent → List EdgeEvent → List EdgeEvent
 insert e [] = e ∷ []
 insert e (x ∷ xs) = cond (precedes (totalOrder (e .lambda) (x .lambda))) (e ∷ (x ∷ xs)) (x ∷ insert e xs)
 
+-- a candidate, sorted in; for inner contracts
 abbrev pub pushed : Candidate → List EdgeEvent → List EdgeEvent
 pushed (Event e) sorted = insert e sorted
 pushed NoEvent sorted = sorted
 
+-- events sorted into those that are sorted
 unfoldable pub sortInto : List EdgeEvent → List EdgeEvent → List EdgeEvent
 sortInto [] sorted = sorted
 sortInto (e ∷ es) sorted = sortInto es (insert e sorted)

@@ -36,6 +36,8 @@ lists p s d f = record { points = p; starts = s; sides = d; fractions = f }
 abbrev pub pointRoom : Lists → ℕ
 pointRoom l = min (length (l .points) / 3) (min (length (l .sides) / 2) (length (l .fractions)))
 
+-- ---- for inner contracts: one point, and one start, put in place
+
 -- a point at the places of number i: in the points, in the sides, and in all three lists
 abbrev pub writePoint : List Float → ℕ → Crossing → List Float
 writePoint l i c = set (set (set l (3 * i) (c .point .x)) (3 * i + 1) (c .point .y)) (3 * i + 2) (c .point .z)

@@ -19,7 +19,7 @@ use Rattle.walk.specs.declared.EventPoint.{EventPoint}
 use Rattle.walk.specs.declared.EventPoint.the-variants.{Push, Pass, Stop}
 use Rattle.walk.specs.declared.Decision.{Decision}
 
--- the middle between two lambdas
+-- the middle between two lambdas, (x + y)·0.5
 abbrev pub middle : Float → Float → Float
 middle x y = mul binary64 (add binary64 x y) half64
 
