@@ -4,8 +4,8 @@
 
     tools/walks/walks.py
 
-Each proof is its `.in` file beside this one, with the walks (`@NAME` on a line of its own) put in. The steps are in the
-order of the MIR, which `rt mir` prints.
+Each proof is its `.in` file beside this one, with the walks (`@NAME` on a line of its own) put in. What is done is
+in the order of the MIR, which `rt mir` prints.
 """
 
 import os

@@ -1,4 +1,5 @@
--- `stepIndex` by the tests of the code, and the law for its callers: the cell is one of the steps.
+-- `stepIndex` by the tests of the code, and the law for its callers: the cell is one of the steps, since it is the last
+-- one, or the floor of a value that is at most steps and not close to it.
 use mathlib.Core.Path.{_≡_, refl}
 use mathlib.Core.Bool.{Bool, true, false, _||_, cond}
 use Prim.Native.Nat.{ℕ, _-_, _^_, _≤_, _<_}
@@ -34,17 +35,22 @@ module _ (x : Float) (n : ℕ) (z : n ≡ 0 → ⊥) where
   step-none h = simp (ne-eqb n 0 z, h)
 
   -- inside the axis, of what the calls gave
-  module _ {top y a : Float} (et : top ≡ natFloat n) (inside : (lt x (neg eps) || lt (add binary64 top eps) x) ≡ false) (ey : y ≡ clamped x zero64 top) (ea : a ≡ absolute (sub binary64 y top)) where
-    pub index-close : lt a eps ≡ true → {k : Float} → k ≡ natFloat (n - 1) → At (n - 1) (sub binary64 y k) ≡ stepIndex x n
+  module _ {top y a : Float} (et : top ≡ natFloat n)
+      (inside : (lt x (neg eps) || lt (add binary64 top eps) x) ≡ false) (ey : y ≡ clamped x zero64 top)
+      (ea : a ≡ absolute (sub binary64 y top)) where
+    pub index-close : lt a eps ≡ true → {k : Float} → k ≡ natFloat (n - 1) →
+        At (n - 1) (sub binary64 y k) ≡ stepIndex x n
     unfolding stepIndex offAxis inCell cellOf closeTo
     index-close h ek = simp (ne-eqb n 0 z, ← et, inside, ← ey, ← ea, h, ek)
 
-    pub index-far : lt a eps ≡ false → {i : ℕ} {k : Float} → i ≡ count (floorZ y) → k ≡ natFloat i → At i (sub binary64 y k) ≡ stepIndex x n
+    pub index-far : lt a eps ≡ false → {i : ℕ} {k : Float} → i ≡ count (floorZ y) → k ≡ natFloat i →
+        At i (sub binary64 y k) ≡ stepIndex x n
     unfolding stepIndex offAxis inCell cellOf closeTo
     index-far h ei ek = simp (ne-eqb n 0 z, ← et, inside, ← ey, ← ea, h, ek, ei)
 
 -- the floor that the code casts is a count
-module _ (x : Float) (n : ℕ) {top y : Float} {z : ℤ} (et : top ≡ natFloat n) (ey : y ≡ clamped x zero64 top) (ez : z ≡ floorZ y) (s : SFits w64 z) where
+module _ (x : Float) (n : ℕ) {top y : Float} {z : ℤ} (et : top ≡ natFloat n) (ey : y ≡ clamped x zero64 top)
+    (ez : z ≡ floorZ y) (s : SFits w64 z) where
   nonneg : T (nonNeg z)
   nonneg = rw (ez, ey, et) (floor-nonneg (clamped x zero64 (natFloat n)) (clamped-nonneg x n))
 
@@ -60,7 +66,8 @@ cell-below : (x : Float) (n : ℕ) → 0 < n → n ≤ 2 ^ 53 → cellOf (clampe
 unfolding cellOf closeTo
 cell-below x n N h = go (closeTo (clamped x zero64 (natFloat n)) n) refl
   where
-    go : (t : Bool) → closeTo (clamped x zero64 (natFloat n)) n ≡ t → cond t (n - 1) (count (floorZ (clamped x zero64 (natFloat n)))) < n
+    go : (t : Bool) → closeTo (clamped x zero64 (natFloat n)) n ≡ t →
+        cond t (n - 1) (count (floorZ (clamped x zero64 (natFloat n)))) < n
     go true p = omega arith
     go false p = floor-count x n N h p
 

@@ -1,4 +1,4 @@
--- 01's known results on `step_index`, by computation.
+-- Rules 7.2, known results: `step_index`, by computation.
 use mathlib.Core.Path.{_≡_, refl}
 use mathlib.Core.Bool.{Bool, true}
 use lib.Ieee.{binary64, ofBits, neg}
@@ -13,17 +13,17 @@ unfoldable pub computed : Bool
 unfolding events.computed pointAt closeTo cellOf offAxis inCell stepIndex blend edgePoint
 computed = true
 
--- "`step_index`(4, 4) = (3, 1)"
+-- the value 4 of 4 steps is in cell 3, by 1
 pub last-border : stepIndex (ofBits binary64 0x4010000000000000) 4 ≡ At 3 one64
 unfolding computed
 last-border = refl
 
--- "(−EPS, 4) = (0, 0)"
+-- the value −EPS of 4 steps is in cell 0, by 0
 pub before-first : stepIndex (neg eps) 4 ≡ At 0 zero64
 unfolding computed
 before-first = refl
 
--- "(0, 0) none"
+-- the value 0 has no answer where there are no steps
 pub no-steps : stepIndex zero64 0 ≡ Nothing
 unfolding computed
 no-steps = refl

@@ -1,4 +1,4 @@
-// Where an event's point lies on its side: the two grid points, the fraction between them, and the point.
+// The point of an event (Rules 7.2): the two grid points that it is made from, the fraction between them, and itself.
 use edges::event::ParamEdge;
 use float::cast::to_f64;
 use float::consts::EPS;
@@ -8,8 +8,8 @@ use float::whole::floor_i64;
 use param::Cells;
 use param::ParamPoint;
 use vector::Vector;
-ghost use mathlib.Core.Path.{_≡_};
 ghost use Prim.Native.Nat.{_+_, _*_, _≤_};
+ghost use mathlib.Core.Path.{_≡_};
 ghost use lib.ListN.{length};
 ghost use Rattle.grid.specs.Grid.{pointNumber};
 ghost use Rattle.edges.specs.Events.{Inside};
@@ -29,6 +29,7 @@ pub struct Crossing {
     pub point: Vector,
 }
 
+// The point of an event, or none where `step_index` has no answer.
 pub enum EdgePoint {
     On(Crossing),
     NoStep,
@@ -64,7 +65,8 @@ fn blend(p: Vector, q: Vector, t: f64) -> Vector
 // The point between grid points (u0, v0) and (u1, v1).
 fn between(grid: &[f64], n: usize, u0: usize, v0: usize, u1: usize, v1: usize, t: f64) -> Crossing
     requires { ⌜ (n ≤ 255) × (u0 ≤ 256) × (v0 ≤ 256) × (u1 ≤ 256) × (v1 ≤ 256) ⌝ }
-    requires { ⌜ (3 * pointNumber n u0 v0 + 3 ≤ length (now grid)) × (3 * pointNumber n u1 v1 + 3 ≤ length (now grid)) ⌝ }
+    requires { ⌜ (3 * pointNumber n u0 v0 + 3 ≤ length (now grid))
+        × (3 * pointNumber n u1 v1 + 3 ≤ length (now grid)) ⌝ }
     ensures { λ r. ⌜ r ≡ crossing (now (grid .entry)) (pointNumber n u0 v0) (pointNumber n u1 v1) t ⌝ }
 {
     let p = grid::point_number(n, u0, v0);

@@ -1,4 +1,4 @@
--- `edgeAtPoint` and the candidates by what the code found, each fact an argument.
+-- `edgeAtPoint` and the candidates, by what the tests and calls of the code found, each of which is an argument.
 use mathlib.Core.Path.{_≡_, sym, _∙_}
 use mathlib.Core.Bool.{true, false}
 use Prim.Native.Nat.{ℕ}
@@ -18,7 +18,8 @@ use Rattle.edges.specs.declared.event.Candidate.{Candidate}
 use Rattle.edges.specs.declared.event.Candidate.the-variants.{NoEvent}
 use Rattle.edges.specs.Near.{integerStep}
 use Rattle.edges.specs.Cell.{diagonalCellAt}
-use Rattle.edges.specs.Events.{event, diagonalAt, edgeAtPoint, onLine, lineAt, lineCrossing, diagonalEvent, diagonalCrossing}
+use Rattle.edges.specs.Events.{event, diagonalAt, edgeAtPoint, onLine, lineAt, lineCrossing, diagonalEvent}
+use Rattle.edges.specs.Events.{diagonalCrossing}
 
 -- ---- the side at a point
 module _ (k : Cells) (p : ParamPoint) where
@@ -52,7 +53,8 @@ module _ (k : Cells) (leg : Leg) {L r : NormalizedLambda} (e : r ≡ L) where
 
   module _ {l : Float} {q : ParamPoint} (h : r ≡ Lambda l) (there : q ≡ onLeg leg l) where
     pub line-on : (x : Axis) (step : ℕ) {y : Float} {n : ℕ} {s : ParamEdge} {c : Candidate} →
-        y ≡ across x q → n ≡ stepsOff x k → s ≡ lineAt x step → c ≡ onLine y n (event l s) → c ≡ lineCrossing x k leg step L
+        y ≡ across x q → n ≡ stepsOff x k → s ≡ lineAt x step → c ≡ onLine y n (event l s) →
+        c ≡ lineCrossing x k leg step L
     unfolding lineCrossing
     line-on x step hy hn hs t = rw (sym e ∙ h, ← there, ← hy, ← hn, ← hs) t
 

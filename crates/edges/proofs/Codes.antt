@@ -1,4 +1,5 @@
--- The code of a side of the grid says which side it is, and what the bound on a side says of its indices.
+-- The code of a side of the grid says which side it is, since indices are below 256; and what the bound on a side says
+-- of its indices.
 use mathlib.Core.Path.{_≡_}
 use Prim.Native.Nat.{ℕ, _+_, _*_, _-_, _/_, _%_, _≤_, _<_}
 use native.Mathlib.Omega.{arith}
@@ -26,7 +27,8 @@ code-back (Diagonal u v) h =
     let r : (512 + 256 * u + v - 512) % 256 ≡ v = omega arith in
     simp (le-ltb (512 + 256 * u + v) 256 t, le-ltb (512 + 256 * u + v) 512 s, q, r)
 
-pub event-back : (e : EdgeEvent) {code : ℕ} → code ≡ codeOf (e .edge) → Inside (cells 255 255) (e .edge) → eventOf (e .lambda) code ≡ e
+pub event-back : (e : EdgeEvent) {code : ℕ} → code ≡ codeOf (e .edge) → Inside (cells 255 255) (e .edge) →
+    eventOf (e .lambda) code ≡ e
 event-back e q h = rw (q, code-back (e .edge) h)
 
 -- what the grid's bound says of each kind

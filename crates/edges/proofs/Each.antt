@@ -1,4 +1,5 @@
--- What holds of every candidate holds of every event, and there are no more events than candidates: sorting keeps to the candidates, and dropping to what was sorted.
+-- What holds of every candidate holds of every event, and there are no more events than candidates: sorting keeps to
+-- the candidates, and dropping to what was sorted.
 use mathlib.Core.Path.{_≡_, refl}
 use mathlib.Core.Bool.{Bool, cond}
 use mathlib.Core.List.{List, [], _∷_, _++_}
@@ -19,7 +20,10 @@ use Rattle.param.specs.Param.{stepsOn}
 use Rattle.edges.specs.declared.event.EdgeEvent.{EdgeEvent}
 use Rattle.edges.specs.declared.event.Candidate.{Candidate}
 use Rattle.edges.specs.declared.event.Candidate.the-variants.{Event, NoEvent}
-use Rattle.edges.specs.Events.{edgeAtPoint, endCandidate, change, lineCandidate, changeOfSum, diagonalCandidate, moves, listed, listFrom, firstSum, pastSum, ends, lines, diagonals, candidates, precedes, insert, sortInto, closeBy, uniqueAfter, unique, sortedEdgeEvents, IfEvent}
+use Rattle.edges.specs.Events.{edgeAtPoint, endCandidate, change, lineCandidate, changeOfSum, diagonalCandidate}
+use Rattle.edges.specs.Events.{moves, listed, listFrom, firstSum, pastSum, ends, lines, diagonals, candidates}
+use Rattle.edges.specs.Events.{precedes, insert, sortInto, closeBy, uniqueAfter, unique, sortedEdgeEvents}
+use Rattle.edges.specs.Events.{IfEvent}
 
 module _ (P : EdgeEvent → Type 0) where
   each-listed : (c : Candidate) (es : List EdgeEvent) → IfEvent P c → Each P es → Each P (listed c es)
@@ -29,16 +33,19 @@ module _ (P : EdgeEvent → Type 0) where
   each-from : (f : ℕ → Candidate) (k i : ℕ) → ((j : ℕ) → j < i + k → IfEvent P (f j)) → Each P (listFrom f k i)
   unfolding listFrom
   each-from f zero i h = tt
-  each-from f (suc k) i h = each-listed (f i) (listFrom f k (i + 1)) (h i (omega arith)) (each-from f k (i + 1) (λ j l. h j (omega arith)))
+  each-from f (suc k) i h =
+      each-listed (f i) (listFrom f k (i + 1)) (h i (omega arith)) (each-from f k (i + 1) (λ j l. h j (omega arith)))
 
   -- candidates in a row, which are tried if an axis moves
-  each-tried : (moved : Bool) (f : ℕ → Candidate) (k i : ℕ) → ((j : ℕ) → j < i + k → IfEvent P (f j)) → Each P (cond moved (listFrom f k i) [])
+  each-tried : (moved : Bool) (f : ℕ → Candidate) (k i : ℕ) → ((j : ℕ) → j < i + k → IfEvent P (f j)) →
+      Each P (cond moved (listFrom f k i) [])
   each-tried moved f k i h = cond-keeps (Each P) moved _ [] (each-from f k i h) tt
 
   pub each-insert : (e : EdgeEvent) (es : List EdgeEvent) → P e → Each P es → Each P (insert e es)
   unfolding insert
   each-insert e [] h k = (h, tt)
-  each-insert e (x ∷ xs) h k = cond-keeps (Each P) (precedes (totalOrder (e .lambda) (x .lambda))) _ _ (h, k) (k .0, each-insert e xs h (k .1))
+  each-insert e (x ∷ xs) h k =
+      cond-keeps (Each P) (precedes (totalOrder (e .lambda) (x .lambda))) _ _ (h, k) (k .0, each-insert e xs h (k .1))
 
   pub each-sort : (es acc : List EdgeEvent) → Each P es → Each P acc → Each P (sortInto es acc)
   unfolding sortInto
@@ -48,27 +55,37 @@ module _ (P : EdgeEvent → Type 0) where
   each-after : (kept : Float) (es : List EdgeEvent) → Each P es → Each P (uniqueAfter kept es)
   unfolding uniqueAfter
   each-after kept [] h = tt
-  each-after kept (e ∷ es) h = cond-keeps (Each P) (closeBy kept (e .lambda)) _ _ (each-after kept es (h .1)) (h .0, each-after (e .lambda) es (h .1))
+  each-after kept (e ∷ es) h =
+      cond-keeps (Each P) (closeBy kept (e .lambda)) _ _ (each-after kept es (h .1))
+      (h .0, each-after (e .lambda) es (h .1))
 
   pub each-unique : (es : List EdgeEvent) → Each P es → Each P (unique es)
   unfolding unique
   each-unique [] h = tt
   each-unique (e ∷ es) h = (h .0, each-after (e .lambda) es (h .1))
 
-  each-lines : (x : Axis) (k : Cells) (leg : Leg) → ((j : ℕ) → j < stepsOn x k + 1 → IfEvent P (lineCandidate x k leg j)) → Each P (lines x k leg)
+  each-lines : (x : Axis) (k : Cells) (leg : Leg) →
+      ((j : ℕ) → j < stepsOn x k + 1 → IfEvent P (lineCandidate x k leg j)) → Each P (lines x k leg)
   unfolding lines
-  each-lines x k leg h = each-tried (moves (change x leg)) (lineCandidate x k leg) (stepsOn x k + 1) 0 (λ j l. h j (omega arith))
+  each-lines x k leg h =
+      each-tried (moves (change x leg)) (lineCandidate x k leg) (stepsOn x k + 1) 0 (λ j l. h j (omega arith))
 
   -- the candidates of a leg
-  module _ (k : Cells) (leg : Leg) (start : IfEvent P (endCandidate zero64 (edgeAtPoint k (leg .a)))) (end : IfEvent P (endCandidate one64 (edgeAtPoint k (leg .b))))
-      (line : (x : Axis) (j : ℕ) → j < stepsOn x k + 1 → IfEvent P (lineCandidate x k leg j)) (d : (j : ℕ) → IfEvent P (diagonalCandidate k leg j)) where
+  module _ (k : Cells) (leg : Leg) (start : IfEvent P (endCandidate zero64 (edgeAtPoint k (leg .a))))
+      (end : IfEvent P (endCandidate one64 (edgeAtPoint k (leg .b))))
+      (line : (x : Axis) (j : ℕ) → j < stepsOn x k + 1 → IfEvent P (lineCandidate x k leg j))
+      (d : (j : ℕ) → IfEvent P (diagonalCandidate k leg j)) where
     each-ends : Each P (ends k leg)
     unfolding ends
-    each-ends = each-listed (endCandidate zero64 (edgeAtPoint k (leg .a))) _ start (each-listed (endCandidate one64 (edgeAtPoint k (leg .b))) [] end tt)
+    each-ends =
+        each-listed (endCandidate zero64 (edgeAtPoint k (leg .a))) _ start
+        (each-listed (endCandidate one64 (edgeAtPoint k (leg .b))) [] end tt)
 
     each-diagonals : Each P (diagonals k leg)
     unfolding diagonals
-    each-diagonals = each-tried (moves (changeOfSum leg)) (diagonalCandidate k leg) (pastSum k leg - firstSum leg) (firstSum leg) (λ j h. d j)
+    each-diagonals =
+        each-tried (moves (changeOfSum leg)) (diagonalCandidate k leg) (pastSum k leg - firstSum leg) (firstSum leg)
+        (λ j h. d j)
 
     pub each-candidate : Each P (candidates k leg)
     unfolding candidates
@@ -76,7 +93,9 @@ module _ (P : EdgeEvent → Type 0) where
         let us = lines AxisU k leg in
         let vs = lines AxisV k leg in
         let ds = diagonals k leg in
-        each-append P (ends k leg) (us ++ (vs ++ ds)) each-ends (each-append P us (vs ++ ds) (each-lines AxisU k leg (line AxisU)) (each-append P vs ds (each-lines AxisV k leg (line AxisV)) each-diagonals))
+        each-append P (ends k leg) (us ++ (vs ++ ds)) each-ends
+        (each-append P us (vs ++ ds) (each-lines AxisU k leg (line AxisU))
+        (each-append P vs ds (each-lines AxisV k leg (line AxisV)) each-diagonals))
 
     pub each-event : Each P (sortedEdgeEvents k leg)
     unfolding sortedEdgeEvents
@@ -96,7 +115,8 @@ length-insert : (e : EdgeEvent) (es : List EdgeEvent) → length (insert e es) �
 unfolding insert
 length-insert e [] = refl
 length-insert e (x ∷ xs) =
-    cond-keeps (λ (r : List EdgeEvent). length r ≡ suc (length xs) + 1) (precedes (totalOrder (e .lambda) (x .lambda))) (e ∷ (x ∷ xs)) (x ∷ insert e xs)
+    cond-keeps (λ (r : List EdgeEvent). length r ≡ suc (length xs) + 1)
+    (precedes (totalOrder (e .lambda) (x .lambda))) (e ∷ (x ∷ xs)) (x ∷ insert e xs)
     (omega arith) (omega (arith, length-insert e xs))
 
 pub length-sort : (es acc : List EdgeEvent) → length (sortInto es acc) ≡ length es + length acc
@@ -108,7 +128,8 @@ length-after : (kept : Float) (es : List EdgeEvent) → length (uniqueAfter kept
 unfolding uniqueAfter
 length-after kept [] = omega arith
 length-after kept (e ∷ es) =
-    cond-keeps (λ (r : List EdgeEvent). length r ≤ suc (length es)) (closeBy kept (e .lambda)) (uniqueAfter kept es) (e ∷ uniqueAfter (e .lambda) es)
+    cond-keeps (λ (r : List EdgeEvent). length r ≤ suc (length es)) (closeBy kept (e .lambda)) (uniqueAfter kept es)
+    (e ∷ uniqueAfter (e .lambda) es)
     (omega (arith, length-after kept es)) (omega (arith, length-after (e .lambda) es))
 
 pub length-unique : (es : List EdgeEvent) → length (unique es) ≤ length es
@@ -117,7 +138,8 @@ length-unique [] = omega arith
 length-unique (e ∷ es) = omega (arith, length-after (e .lambda) es)
 
 length-tried : (moved : Bool) (f : ℕ → Candidate) (k i : ℕ) → length (cond moved (listFrom f k i) []) ≤ k
-length-tried moved f k i = cond-keeps (λ (r : List EdgeEvent). length r ≤ k) moved _ [] (length-from f k i) (omega arith)
+length-tried moved f k i =
+    cond-keeps (λ (r : List EdgeEvent). length r ≤ k) moved _ [] (length-from f k i) (omega arith)
 
 length-ends : (k : Cells) (leg : Leg) → length (ends k leg) ≤ 2
 unfolding ends
@@ -137,7 +159,14 @@ length-diagonals k leg =
     let past = pastSum k leg in
     omega (arith, length-tried (moves (changeOfSum leg)) (diagonalCandidate k leg) (past - first) first)
 
-pub length-candidates : (k : Cells) (leg : Leg) → length (candidates k leg) ≤ 2 + (k .m + 1) + (k .n + 1) + (k .m + k .n - 1)
+pub length-candidates : (k : Cells) (leg : Leg) →
+    length (candidates k leg) ≤ 2 + (k .m + 1) + (k .n + 1) + (k .m + k .n - 1)
 unfolding candidates
 length-candidates k leg =
-    simp length-append (omega (arith, length-ends k leg, length-lines AxisU k leg, length-lines AxisV k leg, length-diagonals k leg))
+    simp length-append (omega (
+      arith,
+      length-ends k leg,
+      length-lines AxisU k leg,
+      length-lines AxisV k leg,
+      length-diagonals k leg,
+    ))

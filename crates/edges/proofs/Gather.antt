@@ -16,14 +16,17 @@ use Rattle.edges.specs.declared.event.EdgeEvent.{EdgeEvent}
 use Rattle.edges.specs.declared.event.Candidate.{Candidate}
 use Rattle.edges.specs.declared.event.Candidate.the-variants.{Event, NoEvent}
 use Rattle.edges.specs.declared.event.EdgeAtPoint.{EdgeAtPoint}
-use Rattle.edges.specs.Events.{edgeAtPoint, endCandidate, change, lineCandidate, changeOfSum, diagonalCandidate, moves, listed, listFrom, firstSum, pastSum, ends, lines, diagonals, candidates, insert, pushed, sortInto, IfEvent}
+use Rattle.edges.specs.Events.{edgeAtPoint, endCandidate, change, lineCandidate, changeOfSum, diagonalCandidate}
+use Rattle.edges.specs.Events.{moves, listed, listFrom, firstSum, pastSum, ends, lines, diagonals, candidates}
+use Rattle.edges.specs.Events.{insert, pushed, sortInto, IfEvent}
 use Rattle.edges.specs.Scratch.{eventsIn, Sorted}
 
 -- ---- a candidate by what the code found
 pub if-event : (P : EdgeEvent → Type 0) {c : Candidate} {e : EdgeEvent} → c ≡ Event e → IfEvent P c → P e
 if-event P q h = rw q at h
 
-pub push-yes : {c : Candidate} {e : EdgeEvent} (acc : List EdgeEvent) {r : List EdgeEvent} → c ≡ Event e → r ≡ insert e acc → r ≡ pushed c acc
+pub push-yes : {c : Candidate} {e : EdgeEvent} (acc : List EdgeEvent) {r : List EdgeEvent} → c ≡ Event e →
+    r ≡ insert e acc → r ≡ pushed c acc
 push-yes acc q h = rw q h
 
 pub push-no : {c : Candidate} (acc : List EdgeEvent) → c ≡ NoEvent → acc ≡ pushed c acc
@@ -40,8 +43,11 @@ unfolding sortInto
 sort-append [] ys acc = refl
 sort-append (x ∷ xs) ys acc = sort-append xs ys (insert x acc)
 
--- ---- a loop over the candidates of numbers from `first` up to, and without, `end`: so far those below i are sorted in, and with the others they give the whole
-pub record Gathering (f : ℕ → Candidate) (first end : ℕ) (whole : List EdgeEvent) (count : ℕ) (ls : List Float) (cs : List ℕ) (total i : ℕ) : Type 0 where
+-- ---- a loop over the candidates of numbers from `first` up to, and without, `end`
+
+-- so far those below i are sorted in, and with the others they give the whole
+pub record Gathering (f : ℕ → Candidate) (first end : ℕ) (whole : List EdgeEvent) (count : ℕ) (ls : List Float)
+    (cs : List ℕ) (total i : ℕ) : Type 0 where
   pub from : first ≤ i
   pub to : i ≤ max first end
   pub few : total + first ≤ count + i
@@ -50,9 +56,12 @@ pub record Gathering (f : ℕ → Candidate) (first end : ℕ) (whole : List Edg
   pub left : whole ≡ sortInto (listFrom f (end - i) i) (eventsIn ls cs total)
   pub sorted : Sorted (eventsIn ls cs total)
 
-module _ {f : ℕ → Candidate} {first end : ℕ} {whole : List EdgeEvent} {count : ℕ} {ls : List Float} {cs : List ℕ} {total i : ℕ} (g : Gathering f first end whole count ls cs total i) where
-  pub gather-turn : i < end → {c : Candidate} {ms : List Float} {ds : List ℕ} {r : ℕ} → c ≡ f i → length ms ≡ 1023 → length ds ≡ 1023 →
-      (r ≤ total + 1) × (eventsIn ms ds r ≡ pushed c (eventsIn ls cs total)) × Sorted (eventsIn ms ds r) → Gathering f first end whole count ms ds r (i + 1)
+module _ {f : ℕ → Candidate} {first end : ℕ} {whole : List EdgeEvent} {count : ℕ} {ls : List Float} {cs : List ℕ}
+    {total i : ℕ} (g : Gathering f first end whole count ls cs total i) where
+  pub gather-turn : i < end → {c : Candidate} {ms : List Float} {ds : List ℕ} {r : ℕ} → c ≡ f i → length ms ≡ 1023 →
+      length ds ≡ 1023 →
+      (r ≤ total + 1) × (eventsIn ms ds r ≡ pushed c (eventsIn ls cs total)) × Sorted (eventsIn ms ds r) →
+      Gathering f first end whole count ms ds r (i + 1)
   unfolding listFrom
   gather-turn h p hl hc t =
       let s : end - i ≡ suc (end - (i + 1)) = omega arith in
@@ -76,12 +85,14 @@ module _ (x : Axis) (k : Cells) (leg : Leg) (acc : List EdgeEvent) where
   unfolding lines sortInto
   lines-none h = rw h
 
-  pub lines-start : moves (change x leg) ≡ true → {n : ℕ} → n ≡ stepsOn x k → sortInto (lines x k leg) acc ≡ sortInto (listFrom (lineCandidate x k leg) (n + 1 - 0) 0) acc
+  pub lines-start : moves (change x leg) ≡ true → {n : ℕ} → n ≡ stepsOn x k →
+      sortInto (lines x k leg) acc ≡ sortInto (listFrom (lineCandidate x k leg) (n + 1 - 0) 0) acc
   unfolding lines
   lines-start h {n} q = let all : n + 1 - 0 ≡ stepsOn x k + 1 = omega arith in rw (h, all)
 
 module _ (k : Cells) (leg : Leg) where
-  pub ends-pushed : {x y : EdgeAtPoint} {c d : Candidate} {r s : List EdgeEvent} → x ≡ edgeAtPoint k (leg .a) → y ≡ edgeAtPoint k (leg .b) → c ≡ endCandidate zero64 x → d ≡ endCandidate one64 y →
+  pub ends-pushed : {x y : EdgeAtPoint} {c d : Candidate} {r s : List EdgeEvent} → x ≡ edgeAtPoint k (leg .a) →
+      y ≡ edgeAtPoint k (leg .b) → c ≡ endCandidate zero64 x → d ≡ endCandidate one64 y →
       r ≡ pushed c [] → s ≡ pushed d r → s ≡ sortInto (ends k leg) []
   unfolding ends sortInto
   ends-pushed hx hy hc hd hr hs = rw (hs, hr, hd, hc, hy, hx, sort-listed, sort-listed)
@@ -91,12 +102,14 @@ module _ (k : Cells) (leg : Leg) where
     unfolding diagonals sortInto
     diagonals-none h = rw h
 
-    pub diagonals-start : moves (changeOfSum leg) ≡ true → {first past : ℕ} → first ≡ firstSum leg → past ≡ pastSum k leg →
+    pub diagonals-start : moves (changeOfSum leg) ≡ true → {first past : ℕ} → first ≡ firstSum leg →
+        past ≡ pastSum k leg →
         sortInto (diagonals k leg) acc ≡ sortInto (listFrom (diagonalCandidate k leg) (past - first) first) acc
     unfolding diagonals
     diagonals-start h p q = rw (h, p, q)
 
-  pub groups-sorted : {r s t w : List EdgeEvent} → r ≡ sortInto (ends k leg) [] → s ≡ sortInto (lines AxisU k leg) r → t ≡ sortInto (lines AxisV k leg) s → w ≡ sortInto (diagonals k leg) t →
+  pub groups-sorted : {r s t w : List EdgeEvent} → r ≡ sortInto (ends k leg) [] → s ≡ sortInto (lines AxisU k leg) r →
+      t ≡ sortInto (lines AxisV k leg) s → w ≡ sortInto (diagonals k leg) t →
       w ≡ sortInto (candidates k leg) []
   unfolding candidates
   groups-sorted hr hs ht hw = rw (hw, ht, hs, hr, sort-append, sort-append, sort-append)

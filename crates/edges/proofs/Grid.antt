@@ -1,4 +1,5 @@
--- Every candidate is on the grid: a whole step is at most the last, a diagonal's cell is in the grid, and lines are tried up to the last.
+-- Every candidate is on the grid: a whole step is at most the last, a diagonal's cell is in the grid, and lines are
+-- tried up to the last.
 use Prim.Native.Nat.{ℕ, _^_, _≤_}
 use lib.Ieee.{Float}
 use Rattle.float.specs.Cast.{natFloat}
@@ -21,7 +22,8 @@ use Rattle.edges.specs.declared.event.NormalizedLambda.the-variants.{Lam
 use Rattle.edges.specs.declared.event.Candidate.the-variants.{Event, NoEvent}
 use Rattle.edges.specs.Near.{integerStep}
 use Rattle.edges.specs.Cell.{diagonalCellAt}
-use Rattle.edges.specs.Events.{event, diagonalAt, orV, orU, edgeAtPoint, endCandidate, onLine, lineAt, lineCrossing, diagonalEvent, diagonalCrossing, Inside, IfEvent, OnGrid}
+use Rattle.edges.specs.Events.{event, diagonalAt, orV, orU, edgeAtPoint, endCandidate, onLine, lineAt}
+use Rattle.edges.specs.Events.{lineCrossing, diagonalEvent, diagonalCrossing, Inside, IfEvent, OnGrid}
 use Rattle.edges.proofs.Steps.{StepWithin, step-within}
 use Rattle.edges.proofs.Index.{CellInside, diagonal-inside}
 
@@ -52,7 +54,8 @@ edge-inside k p hm hn =
     tt
 
 -- ---- candidates
-pub end-on-grid : (k : Cells) (l : Float) (p : ParamPoint) → k .m ≤ 2 ^ 53 → k .n ≤ 2 ^ 53 → IfEvent (OnGrid k) (endCandidate l (edgeAtPoint k p))
+pub end-on-grid : (k : Cells) (l : Float) (p : ParamPoint) → k .m ≤ 2 ^ 53 → k .n ≤ 2 ^ 53 →
+    IfEvent (OnGrid k) (endCandidate l (edgeAtPoint k p))
 end-on-grid k l p hm hn = go (edgeAtPoint k p) (edge-inside k p hm hn)
   where
     go : (e : EdgeAtPoint) → EdgeInside k e → IfEvent (OnGrid k) (endCandidate l e)
@@ -67,10 +70,12 @@ line-inside AxisU k step h = h
 line-inside AxisV k step h = h
 
 module _ (k : Cells) (leg : Leg) where
-  pub line-on-grid : (x : Axis) (step : ℕ) (r : NormalizedLambda) → step ≤ stepsOn x k → IfEvent (OnGrid k) (lineCrossing x k leg step r)
+  pub line-on-grid : (x : Axis) (step : ℕ) (r : NormalizedLambda) → step ≤ stepsOn x k →
+      IfEvent (OnGrid k) (lineCrossing x k leg step r)
   unfolding lineCrossing
   line-on-grid x step Outside h = tt
-  line-on-grid x step (Lambda l) h = on-line (OnGrid k) (across x (onLeg leg l)) (stepsOff x k) (event l (lineAt x step)) (line-inside x k step h)
+  line-on-grid x step (Lambda l) h =
+      on-line (OnGrid k) (across x (onLeg leg l)) (stepsOff x k) (event l (lineAt x step)) (line-inside x k step h)
 
   pub diagonal-on-grid : (r : NormalizedLambda) → IfEvent (OnGrid k) (diagonalCrossing k leg r)
   unfolding diagonalCrossing

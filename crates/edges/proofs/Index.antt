@@ -1,4 +1,5 @@
--- `indexOf` by the tests of the code, on signed numbers; `tryCell` and `diagonalCellAt` by what the code found; and a diagonal's cell is in the grid.
+-- `indexOf` by the tests of the code, on signed numbers; `tryCell` and `diagonalCellAt` by what the code found; and a
+-- diagonal's cell is in the grid.
 use mathlib.Core.Path.{_≡_, refl, sym, _∙_}
 use Prim.Native.Nat.{ℕ, zero, suc, _≤_, _<_}
 use native.Mathlib.Nat.{lt-of-le-of-lt, le-suc}
@@ -79,11 +80,13 @@ before-fits z h s = rw -ℤ-one (go z h s)
     go (negsuc k) g t = record { sfits = omega (arith, ltb-true k 9223372036854775807 g) }
 
 -- ---- a cell by what was found: the facts are arguments, so that `cc` and `rw` have only these to look at
-pub try-decides : (p : ParamPoint) {i j : CellIndex} {u v : ℕ} {t : Bool} → i ≡ Index u → j ≡ Index v → onDiagonal p u v ≡ t → cond t (Cell u v) NoCell ≡ tryCell p i j
+pub try-decides : (p : ParamPoint) {i j : CellIndex} {u v : ℕ} {t : Bool} → i ≡ Index u → j ≡ Index v →
+    onDiagonal p u v ≡ t → cond t (Cell u v) NoCell ≡ tryCell p i j
 unfolding tryCell
 try-decides p d e h = rw (d, e, h)
 
-pub in-cell : (x : Float) {i : CellIndex} {k : ℕ} {y : Float} {b : Bool} → i ≡ Index k → y ≡ natFloat k → b ≡ within (sub binary64 x y) one64 → b ≡ inCell x i
+pub in-cell : (x : Float) {i : CellIndex} {k : ℕ} {y : Float} {b : Bool} → i ≡ Index k → y ≡ natFloat k →
+    b ≡ within (sub binary64 x y) one64 → b ≡ inCell x i
 unfolding inCell
 in-cell x d e h = rw (d, ← e) h
 
@@ -108,8 +111,10 @@ not-in-v p (Index u) (Index v) h = rw (h, and-false)
 pub record FirstOf (p : ParamPoint) (u0 u1 v0 v1 : CellIndex) (w : DiagonalCell) : Type 0 where
   pub in-order : w ≡ orCell (tryCell p u0 v0) (orCell (tryCell p u0 v1) (orCell (tryCell p u1 v0) (tryCell p u1 v1)))
 
-pub four-cells : (k : Cells) (p : ParamPoint) {x y : ℤ} {u0 u1 v0 v1 : CellIndex} → x ≡ floorZ (p .u) → y ≡ floorZ (p .v) →
-    u0 ≡ indexOf (x -ℤ pos 1) (k .m) → u1 ≡ indexOf x (k .m) → v0 ≡ indexOf (y -ℤ pos 1) (k .n) → v1 ≡ indexOf y (k .n) → FirstOf p u0 u1 v0 v1 (diagonalCellAt k p)
+pub four-cells : (k : Cells) (p : ParamPoint) {x y : ℤ} {u0 u1 v0 v1 : CellIndex} → x ≡ floorZ (p .u) →
+    y ≡ floorZ (p .v) →
+    u0 ≡ indexOf (x -ℤ pos 1) (k .m) → u1 ≡ indexOf x (k .m) → v0 ≡ indexOf (y -ℤ pos 1) (k .n) →
+    v1 ≡ indexOf y (k .n) → FirstOf p u0 u1 v0 v1 (diagonalCellAt k p)
 unfolding diagonalCellAt
 four-cells k p hx hy h0 h1 k0 k1 = record { in-order = cc }
 
@@ -141,13 +146,15 @@ unfolding indexOf
 index-below (pos k) n = cond-case (IndexBelow n) (ltb k n) _ Outside (ltb-true k n) (λ t. tt)
 index-below (negsuc k) n = tt
 
-try-inside : (p : ParamPoint) (i j : CellIndex) (k : Cells) → IndexBelow (k .m) i → IndexBelow (k .n) j → CellInside k (tryCell p i j)
+try-inside : (p : ParamPoint) (i j : CellIndex) (k : Cells) → IndexBelow (k .m) i → IndexBelow (k .n) j →
+    CellInside k (tryCell p i j)
 unfolding tryCell
 try-inside p Outside j k hu hv = tt
 try-inside p (Index u) Outside k hu hv = tt
 try-inside p (Index u) (Index v) k hu hv = cond-keeps (CellInside k) (onDiagonal p u v) _ NoCell (hu, hv) tt
 
-first-inside : (k : Cells) (a b c d : DiagonalCell) → CellInside k a → CellInside k b → CellInside k c → CellInside k d → CellInside k (orCell a (orCell b (orCell c d)))
+first-inside : (k : Cells) (a b c d : DiagonalCell) → CellInside k a → CellInside k b → CellInside k c →
+    CellInside k d → CellInside k (orCell a (orCell b (orCell c d)))
 first-inside k (Cell u v) b c d ha hb hc hd = ha
 first-inside k NoCell (Cell u v) c d ha hb hc hd = hb
 first-inside k NoCell NoCell (Cell u v) d ha hb hc hd = hc
@@ -160,7 +167,8 @@ diagonal-inside k p =
     let v = floorZ (p .v) in
     let before-u = u -ℤ pos 1 in
     let before-v = v -ℤ pos 1 in
-    first-inside k (cell before-u before-v) (cell before-u v) (cell u before-v) (cell u v) (inside before-u before-v) (inside before-u v) (inside u before-v) (inside u v)
+    first-inside k (cell before-u before-v) (cell before-u v) (cell u before-v) (cell u v) (inside before-u before-v)
+    (inside before-u v) (inside u before-v) (inside u v)
   where
     cell : ℤ → ℤ → DiagonalCell
     cell x y = tryCell p (indexOf x (k .m)) (indexOf y (k .n))

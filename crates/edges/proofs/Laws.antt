@@ -1,4 +1,5 @@
--- What holds of the events of every leg: each is on a side of the grid, lambdas are from 0 to 1 and ascend in the total order, neighbours are at least EPS apart, and there are at most 1,023.
+-- What holds of the events of every leg: each is on a side of the grid, lambdas are from 0 to 1 and ascend in the
+-- total order, neighbours are at least EPS apart, and there are at most 1,023.
 use mathlib.Core.Path.{_≡_, refl, ap}
 use mathlib.Core.Bool.{true, false}
 use mathlib.Core.List.{List, [], _∷_}
@@ -28,11 +29,14 @@ use Rattle.edges.specs.declared.event.NormalizedLambda.the-variants.{Lam
 use Rattle.edges.specs.declared.event.Candidate.the-variants.{NoEvent}
 use Rattle.edges.specs.Near.{normalizeLambda}
 use Rattle.edges.specs.Cell.{diagonalCellAt}
-use Rattle.edges.specs.Events.{event, edgeAtPoint, endCandidate, lambdaAt, lineAt, lineCrossing, change, diagonalEvent, diagonalCrossing, sumOf, changeOfSum, candidates, precedes, sortInto, closeBy, uniqueAfter, unique, sortedEdgeEvents, IfEvent, OnGrid}
+use Rattle.edges.specs.Events.{event, edgeAtPoint, endCandidate, lambdaAt, lineAt, lineCrossing, change}
+use Rattle.edges.specs.Events.{diagonalEvent, diagonalCrossing, sumOf, changeOfSum, candidates, precedes}
+use Rattle.edges.specs.Events.{sortInto, closeBy, uniqueAfter, unique, sortedEdgeEvents, IfEvent, OnGrid}
 use Rattle.edges.specs.Scratch.{AscendFrom, Ascend}
 use Rattle.edges.proofs.Order.{not-precedes-transitive, sort-ascends}
 use Rattle.edges.proofs.Grid.{on-line, end-on-grid, line-on-grid, diagonal-on-grid}
-use Rattle.edges.proofs.Each.{each-event, each-candidate, each-sort, each-unique, length-sort, length-unique, length-candidates}
+use Rattle.edges.proofs.Each.{each-event, each-candidate, each-sort, each-unique, length-sort, length-unique}
+use Rattle.edges.proofs.Each.{length-candidates}
 
 -- ---- each side is on the grid
 pub events-inside : (k : Cells) (leg : Leg) → k .m ≤ 2 ^ 53 → k .n ≤ 2 ^ 53 → Each (OnGrid k) (sortedEdgeEvents k leg)
@@ -68,7 +72,8 @@ pub normalized : (l : Float) → LambdaOnLeg (normalizeLambda l)
 unfolding normalizeLambda
 normalized l =
     cond-case LambdaOnLeg (within l one64) _ Outside
-    (λ p. let n = within-not-nan l one64 p in (clamp-above l zero64 one64 n (zero-on-leg .1), clamp-below l zero64 one64 n (zero-on-leg .1)))
+    (λ p. let n = within-not-nan l one64 p in
+    (clamp-above l zero64 one64 n (zero-on-leg .1), clamp-below l zero64 one64 n (zero-on-leg .1)))
     (λ p. tt)
 
 pub end-on-leg : (l : Float) (e : EdgeAtPoint) → ZeroToOne l → IfEvent OnLeg (endCandidate l e)
@@ -76,7 +81,8 @@ end-on-leg l (Edge e) h = h
 end-on-leg l NoEdge h = tt
 
 module _ (k : Cells) (leg : Leg) where
-  pub line-on-leg : (x : Axis) (step : ℕ) (r : NormalizedLambda) → LambdaOnLeg r → IfEvent OnLeg (lineCrossing x k leg step r)
+  pub line-on-leg : (x : Axis) (step : ℕ) (r : NormalizedLambda) → LambdaOnLeg r →
+      IfEvent OnLeg (lineCrossing x k leg step r)
   unfolding lineCrossing
   line-on-leg x step Outside h = tt
   line-on-leg x step (Lambda l) h = on-line OnLeg (across x (onLeg leg l)) (stepsOff x k) (event l (lineAt x step)) h
@@ -84,7 +90,8 @@ module _ (k : Cells) (leg : Leg) where
   pub diagonal-on-leg : (r : NormalizedLambda) → LambdaOnLeg r → IfEvent OnLeg (diagonalCrossing k leg r)
   unfolding diagonalCrossing
   diagonal-on-leg Outside h = tt
-  diagonal-on-leg (Lambda l) h = cond-keeps (IfEvent OnLeg) (paramInBounds k (onLeg leg l)) _ NoEvent (at (diagonalCellAt k (onLeg leg l))) tt
+  diagonal-on-leg (Lambda l) h =
+      cond-keeps (IfEvent OnLeg) (paramInBounds k (onLeg leg l)) _ NoEvent (at (diagonalCellAt k (onLeg leg l))) tt
     where
       at : (c : DiagonalCell) → IfEvent OnLeg (diagonalEvent l c)
       at (Cell u v) = h
@@ -92,7 +99,8 @@ module _ (k : Cells) (leg : Leg) where
 
   candidates-on-leg : Each OnLeg (candidates k leg)
   candidates-on-leg =
-      each-candidate OnLeg k leg (end-on-leg zero64 (edgeAtPoint k (leg .a)) zero-on-leg) (end-on-leg one64 (edgeAtPoint k (leg .b)) one-on-leg)
+      each-candidate OnLeg k leg (end-on-leg zero64 (edgeAtPoint k (leg .a)) zero-on-leg)
+      (end-on-leg one64 (edgeAtPoint k (leg .b)) one-on-leg)
       (λ x j h. line-on-leg x j (lambdaAt j (along x (leg .a)) (change x leg)) (normalized _))
       (λ j. diagonal-on-leg (lambdaAt j (sumOf (leg .a)) (changeOfSum leg)) (normalized _))
 
@@ -119,27 +127,33 @@ NotNan e = isNan (e .lambda) ≡ false
 abbrev KeptFrom : Float → List EdgeEvent → Type 0
 KeptFrom x es = AscendFrom x es × ApartFrom x es
 
--- what is kept ascends, and is apart: an event that was dropped, as x was, stands between the one kept before it and the next
-kept-after : (kept x : Float) (es : List EdgeEvent) → isNan kept ≡ false → isNan x ≡ false → Each NotNan es → precedes (totalOrder x kept) ≡ false → AscendFrom x es → KeptFrom kept (uniqueAfter kept es)
+-- what is kept ascends, and is apart: an event that was dropped, as x was, stands between the one kept before it and
+-- the next
+kept-after : (kept x : Float) (es : List EdgeEvent) → isNan kept ≡ false → isNan x ≡ false → Each NotNan es →
+    precedes (totalOrder x kept) ≡ false → AscendFrom x es → KeptFrom kept (uniqueAfter kept es)
 unfolding uniqueAfter
 kept-after kept x [] l m n h k = (tt, tt)
 kept-after kept x (e ∷ es) l m n h k =
-    let later : precedes (totalOrder (e .lambda) kept) ≡ false = not-precedes-transitive kept x (e .lambda) l m (n .0) h (k .0) in
+    let later : precedes (totalOrder (e .lambda) kept) ≡ false =
+    not-precedes-transitive kept x (e .lambda) l m (n .0) h (k .0) in
     cond-case (KeptFrom kept) (closeBy kept (e .lambda)) _ _
     (λ close. kept-after kept (e .lambda) es l (n .0) (n .1) later (k .1))
-    (λ apart. let next = kept-after (e .lambda) (e .lambda) es (n .0) (n .0) (n .1) (ap precedes (order-self (e .lambda))) (k .1) in ((later, next .0), (apart, next .1)))
+    (λ apart. let next = kept-after (e .lambda) (e .lambda) es (n .0) (n .0) (n .1)
+    (ap precedes (order-self (e .lambda))) (k .1) in ((later, next .0), (apart, next .1)))
 
 kept-ascend : (es : List EdgeEvent) → Each NotNan es → Ascend es → Ascend (unique es) × Apart (unique es)
 unfolding unique
 kept-ascend [] n h = (tt, tt)
-kept-ascend (e ∷ es) n h = kept-after (e .lambda) (e .lambda) es (n .0) (n .0) (n .1) (ap precedes (order-self (e .lambda))) h
+kept-ascend (e ∷ es) n h =
+    kept-after (e .lambda) (e .lambda) es (n .0) (n .0) (n .1) (ap precedes (order-self (e .lambda))) h
 
 module _ (k : Cells) (leg : Leg) where
   kept-in-order : Ascend (sortedEdgeEvents k leg) × Apart (sortedEdgeEvents k leg)
   unfolding sortedEdgeEvents
   kept-in-order =
       let es = sortInto (candidates k leg) [] in
-      kept-ascend es (each-implies OnLeg NotNan (λ e h. le-not-nan zero64 (e .lambda) (h .0) .1) es (sorted-on-leg k leg)) (sort-ascends (candidates k leg) [] tt)
+      kept-ascend es (each-implies OnLeg NotNan (λ e h. le-not-nan zero64 (e .lambda) (h .0) .1) es
+      (sorted-on-leg k leg)) (sort-ascends (candidates k leg) [] tt)
 
   pub events-ascend : Ascend (sortedEdgeEvents k leg)
   events-ascend = kept-in-order .0
@@ -151,4 +165,9 @@ module _ (k : Cells) (leg : Leg) where
   pub events-few : k .m ≤ 255 → k .n ≤ 255 → length (sortedEdgeEvents k leg) ≤ 1023
   unfolding sortedEdgeEvents
   events-few hm hn =
-      omega (arith, length-candidates k leg, length-sort (candidates k leg) [], length-unique (sortInto (candidates k leg) []))
+      omega (
+        arith,
+        length-candidates k leg,
+        length-sort (candidates k leg) [],
+        length-unique (sortInto (candidates k leg) []),
+      )

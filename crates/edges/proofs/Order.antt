@@ -1,4 +1,5 @@
--- Events in order: an insertion keeps them so, and an event goes to the place that is after what it does not precede and before what it precedes.
+-- Events in order: an insertion keeps them so, and an event goes to the place that is after what it does not precede
+-- and before what it precedes.
 use mathlib.Core.Path.{_≡_, refl, sym, ap, _∙_}
 use mathlib.Core.Bool.{Bool, true, false, true≢false}
 use mathlib.Core.List.{List, [], _∷_}
@@ -18,7 +19,7 @@ use Rattle.edges.specs.Scratch.{eventOf, eventsIn, PlaceOf, AscendFrom, 
 use Rattle.edges.proofs.Places.{event-in, events-length}
 use Rattle.edges.proofs.Each.{each-insert}
 
--- ---- "precedes" is an order of lambdas
+-- ---- `precedes` is an order of lambdas
 is-less : (o : Ordering) → precedes o ≡ true → o ≡ Less
 is-less Less h = refl
 is-less Equal h = absurd (true≢false (sym h))
@@ -31,12 +32,16 @@ precedes-once : (x y : Float) → precedes (totalOrder x y) ≡ true → precede
 precedes-once x y h = ap precedes (less-greater x y (is-less (totalOrder x y) h))
 
 -- where y does not precede x, nor z y, z does not precede x
-pub not-precedes-transitive : (x y z : Float) → isNan x ≡ false → isNan y ≡ false → isNan z ≡ false → precedes (totalOrder y x) ≡ false → precedes (totalOrder z y) ≡ false →
+pub not-precedes-transitive : (x y z : Float) → isNan x ≡ false → isNan y ≡ false → isNan z ≡ false →
+    precedes (totalOrder y x) ≡ false → precedes (totalOrder z y) ≡ false →
     precedes (totalOrder z x) ≡ false
-not-precedes-transitive x y z nx ny nz h k = cannot _ (λ p. not-less-transitive x y z nx ny nz (not-less (totalOrder y x) h) (not-less (totalOrder z y) k) (is-less (totalOrder z x) p))
+not-precedes-transitive x y z nx ny nz h k =
+    cannot _ (λ p. not-less-transitive x y z nx ny nz (not-less (totalOrder y x) h) (not-less (totalOrder z y) k)
+    (is-less (totalOrder z x) p))
 
 -- ---- an insertion keeps the order
-insert-from : (e : EdgeEvent) (x : Float) (es : List EdgeEvent) → precedes (totalOrder (e .lambda) x) ≡ false → AscendFrom x es → AscendFrom x (insert e es)
+insert-from : (e : EdgeEvent) (x : Float) (es : List EdgeEvent) → precedes (totalOrder (e .lambda) x) ≡ false →
+    AscendFrom x es → AscendFrom x (insert e es)
 unfolding insert
 insert-from e x [] h k = (h, tt)
 insert-from e x (y ∷ ys) h k =
@@ -61,8 +66,10 @@ sort-ascends (e ∷ es) acc h = sort-ascends es (insert e acc) (insert-ascends e
 pub sorted-none : Sorted []
 sorted-none = record { ascend = tt; storable = tt }
 
-pub sorted-insert : (e : EdgeEvent) (acc : List EdgeEvent) {r : List EdgeEvent} → Storable e → Sorted acc → r ≡ insert e acc → Sorted r
-sorted-insert e acc h s q = rw q (record { ascend = insert-ascends e acc (s .ascend); storable = each-insert Storable e acc h (s .storable) })
+pub sorted-insert : (e : EdgeEvent) (acc : List EdgeEvent) {r : List EdgeEvent} → Storable e → Sorted acc →
+    r ≡ insert e acc → Sorted r
+sorted-insert e acc h s q =
+    rw q (record { ascend = insert-ascends e acc (s .ascend); storable = each-insert Storable e acc h (s .storable) })
 
 -- ---- a place that is after what l does not precede
 module _ (l : Float) (ls : List Float) where
@@ -85,25 +92,33 @@ module _ (e d : EdgeEvent) (n : Storable e) where
   ahead x = precedes (totalOrder (e .lambda) (x .lambda))
 
   -- where e does not precede one event, it does not precede those before it
-  not-before : (x : EdgeEvent) (es : List EdgeEvent) (i : ℕ) → Each Storable (x ∷ es) → AscendFrom (x .lambda) es → i ≤ length es → ahead (getD (x ∷ es) i d) ≡ false → ahead x ≡ false
+  not-before : (x : EdgeEvent) (es : List EdgeEvent) (i : ℕ) → Each Storable (x ∷ es) → AscendFrom (x .lambda) es →
+      i ≤ length es → ahead (getD (x ∷ es) i d) ≡ false → ahead x ≡ false
   not-before x es zero s a l h = h
   not-before x [] (suc i) s a l h = absurd (omega arith)
   not-before x (y ∷ ys) (suc i) s a l h =
-      not-precedes-transitive (x .lambda) (y .lambda) (e .lambda) (s .0 .1) (s .1 .0 .1) (n .1) (a .0) (not-before y ys i (s .1) (a .1) (omega arith) h)
+      not-precedes-transitive (x .lambda) (y .lambda) (e .lambda) (s .0 .1) (s .1 .0 .1) (n .1) (a .0)
+      (not-before y ys i (s .1) (a .1) (omega arith) h)
 
   -- put at a place that is after what it does not precede, and before what it precedes, it is inserted
   put-inserts : (es : List EdgeEvent) (p : ℕ) → Ascend es → Each Storable es → p ≤ length es →
-      ((i : ℕ) → i + 1 ≡ p → ahead (getD es i d) ≡ false) → (p < length es → ahead (getD es p d) ≡ true) → putAt p e es ≡ insert e es
+      ((i : ℕ) → i + 1 ≡ p → ahead (getD es i d) ≡ false) → (p < length es → ahead (getD es p d) ≡ true) →
+      putAt p e es ≡ insert e es
   unfolding insert
   put-inserts [] zero a s l f g = refl
   put-inserts [] (suc p) a s l f g = absurd (omega arith)
   put-inserts (x ∷ xs) zero a s l f g = let t : ahead x ≡ true = g (omega arith) in rw t
   put-inserts (x ∷ xs) (suc p) a s l f g =
       let t : ahead x ≡ false = not-before x xs p s a (omega arith) (f p (omega arith)) in
-      rw (t, put-inserts xs p (tail-ascends (x .lambda) xs a) (s .1) (omega arith) (λ i h. f (suc i) (omega arith)) (λ h. g (omega arith)))
+      rw (
+        t,
+        put-inserts xs p (tail-ascends (x .lambda) xs a) (s .1) (omega arith) (λ i h. f (suc i) (omega arith))
+            (λ h. g (omega arith)),
+      )
 
 -- e put where the search found its lambda's place among the lambdas
-pub placed : (e : EdgeEvent) (ls : List Float) (cs : List ℕ) (n p : ℕ) → length ls ≡ length cs → n ≤ length ls → Storable e → Sorted (eventsIn ls cs n) → PlaceOf (e .lambda) ls n p →
+pub placed : (e : EdgeEvent) (ls : List Float) (cs : List ℕ) (n p : ℕ) → length ls ≡ length cs → n ≤ length ls →
+    Storable e → Sorted (eventsIn ls cs n) → PlaceOf (e .lambda) ls n p →
     putAt p e (eventsIn ls cs n) ≡ insert e (eventsIn ls cs n)
 placed e ls cs n p q h k s f =
     let d : EdgeEvent = eventOf nan 0 in

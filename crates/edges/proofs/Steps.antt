@@ -1,4 +1,4 @@
--- What lies on an axis of whole steps: a whole step that a value is close to is at most the last.
+-- A whole step that a value is close to is at most the last, since `integerStep` tests it.
 use mathlib.Core.Bool.{_&&_}
 use Prim.Native.Nat.{ℕ, _^_, _≤_}
 use lib.Ieee.{Float, binary64, lt, le, sub}
@@ -24,5 +24,6 @@ step-within x n h =
     let low = le zero64 (rounded x) in
     let high = le (rounded x) (natFloat n) in
     cond-case (StepWithin n) (near && (low && high)) _ Between
-    (λ t. let inside = and-both low high (and-both near (low && high) t .1) in counted (rounded x) n h (inside .0) (inside .1) .1)
+    (λ t. let inside = and-both low high (and-both near (low && high) t .1) in
+    counted (rounded x) n h (inside .0) (inside .1) .1)
     (λ t. tt)

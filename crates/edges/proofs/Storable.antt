@@ -1,4 +1,5 @@
--- Every candidate that the code finds, on a grid of at most 255 steps, is an event that the lists take.
+-- Every candidate that the code finds, on a grid of at most 255 steps, is an event that the lists take: its side is on
+-- the grid, so that it has a code, and its lambda is from 0 to 1, so no NaN.
 use mathlib.Core.Path.{_≡_, ap, _∙_}
 use Prim.Native.Nat.{ℕ, _+_, _≤_, _<_}
 use native.Mathlib.Omega.{arith}
@@ -17,7 +18,8 @@ use Rattle.edges.specs.declared.event.ParamEdge.the-variants.{U, «V», 
 use Rattle.edges.specs.declared.event.EdgeAtPoint.{EdgeAtPoint}
 use Rattle.edges.specs.declared.event.Candidate.{Candidate}
 use Rattle.edges.specs.declared.event.Candidate.the-variants.{Event, NoEvent}
-use Rattle.edges.specs.Events.{edgeAtPoint, endCandidate, lambdaAt, change, lineCandidate, sumOf, changeOfSum, diagonalCandidate, Inside, IfEvent, OnGrid}
+use Rattle.edges.specs.Events.{edgeAtPoint, endCandidate, lambdaAt, change, lineCandidate, sumOf, changeOfSum}
+use Rattle.edges.specs.Events.{diagonalCandidate, Inside, IfEvent, OnGrid}
 use Rattle.edges.specs.Scratch.{Storable}
 use Rattle.edges.proofs.Grid.{end-on-grid, line-on-grid, diagonal-on-grid}
 use Rattle.edges.proofs.Laws.{ZeroToOne, OnLeg, normalized, end-on-leg, line-on-leg, diagonal-on-leg}
@@ -37,10 +39,14 @@ module _ (k : Cells) (hm : k .m ≤ 255) (hn : k .n ≤ 255) {c : Candidate} whe
       go (Event e) g l = (wider k (e .edge) hm hn g, le-not-nan zero64 (e .lambda) (l .0) .1)
       go NoEvent g l = tt
 
-  pub end-storable : (l : Float) (p : ParamPoint) {e : EdgeAtPoint} → ZeroToOne l → e ≡ edgeAtPoint k p → c ≡ endCandidate l e → IfEvent Storable c
-  end-storable l p s q h = is-storable (h ∙ ap (endCandidate l) q) (end-on-grid k l p (le-trans hm (lit≤ tt)) (le-trans hn (lit≤ tt))) (end-on-leg l (edgeAtPoint k p) s)
+  pub end-storable : (l : Float) (p : ParamPoint) {e : EdgeAtPoint} → ZeroToOne l → e ≡ edgeAtPoint k p →
+      c ≡ endCandidate l e → IfEvent Storable c
+  end-storable l p s q h =
+      is-storable (h ∙ ap (endCandidate l) q) (end-on-grid k l p (le-trans hm (lit≤ tt)) (le-trans hn (lit≤ tt)))
+      (end-on-leg l (edgeAtPoint k p) s)
 
-  pub line-storable : (leg : Leg) (x : Axis) (step : ℕ) {n : ℕ} → n ≡ stepsOn x k → step < n + 1 → c ≡ lineCandidate x k leg step → IfEvent Storable c
+  pub line-storable : (leg : Leg) (x : Axis) (step : ℕ) {n : ℕ} → n ≡ stepsOn x k → step < n + 1 →
+      c ≡ lineCandidate x k leg step → IfEvent Storable c
   line-storable leg x step e h q =
       let l = lambdaAt step (along x (leg .a)) (change x leg) in
       is-storable q (line-on-grid k leg x step l (omega arith)) (line-on-leg k leg x step l (normalized _))

@@ -1,4 +1,4 @@
--- The cell on whose diagonal a point lies (reference: `diagonal_cell_at`). "Floors give signed whole numbers: −0.25 gives −1."
+-- Rules 6.3: the cell on whose diagonal a point is. Original: `diagonal_cell_at`.
 use mathlib.Core.Bool.{Bool, false, _&&_, cond}
 use Prim.Native.Nat.{ℕ}
 use lib.IntN.{ℤ, pos, negsuc, _-ℤ_}
@@ -16,12 +16,13 @@ use Rattle.edges.specs.declared.cell.CellIndex.the-variants.{Index, Outs
 use Rattle.edges.specs.declared.cell.DiagonalCell.{DiagonalCell}
 use Rattle.edges.specs.declared.cell.DiagonalCell.the-variants.{Cell, NoCell}
 
--- z where it is from 0 to n − 1
+-- z as the index of one of n cells; a floor can be below 0, and is then in no grid
 unfoldable pub indexOf : ℤ → ℕ → CellIndex
 indexOf (pos k) n = cond (ltb k n) (Index k) Outside
 indexOf (negsuc k) n = Outside
 
--- the point is in the cell (u, v), and on its diagonal: its two distances from the cell's corner add up to 1
+-- the point is on the diagonal of cell (u, v): its distances s and t from the cell's corner are within EPS of 0 to 1,
+-- and s + t is less than EPS from 1
 unfoldable pub onDiagonal : ParamPoint → ℕ → ℕ → Bool
 onDiagonal p u v =
     let s = sub binary64 (p .u) (natFloat u) in
@@ -34,7 +35,8 @@ tryCell p Outside j = NoCell
 tryCell p (Index u) Outside = NoCell
 tryCell p (Index u) (Index v) = cond (onDiagonal p u v) (Cell u v) NoCell
 
--- x is in the cells of an index on one axis; where a point is not, on either axis, it is on no diagonal there
+-- x is in the cells of an index on one axis; where a point is not, on either axis, it is on no diagonal there.
+-- For the code alone, which then passes over these cells
 unfoldable pub inCell : Float → CellIndex → Bool
 inCell x Outside = false
 inCell x (Index k) = within (sub binary64 x (natFloat k)) one64
@@ -44,7 +46,7 @@ abbrev pub orCell : DiagonalCell → DiagonalCell → DiagonalCell
 orCell (Cell u v) b = Cell u v
 orCell NoCell b = b
 
--- u of the floor's cell and the one before it, the earlier first; for each, v alike
+-- of the four cells at the floors of u and v or one below, the first that has the point on its diagonal
 unfoldable pub diagonalCellAt : Cells → ParamPoint → DiagonalCell
 diagonalCellAt k p =
     let u0 = indexOf (floorZ (p .u) -ℤ pos 1) (k .m) in

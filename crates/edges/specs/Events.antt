@@ -1,5 +1,5 @@
--- Events (01, "An event is a lambda and the side it falls on: U(u), V(v) or Diagonal(u,v)"). `sorted_edge_events` "fixes the candidates and their order: end
--- events first, then U, V, diagonals; a stable sort by IEEE 754 totalOrder, so −0 precedes +0; an event closer than EPS to the last one kept is dropped".
+-- Rules 6.2 and 6.4: the events of a leg: the candidates in their order, sorted, and without those that are too near
+-- the one kept before. Original: `sorted_edge_events` and what it calls.
 use mathlib.Core.Bool.{Bool, true, false, cond}
 use mathlib.Core.List.{List, [], _∷_, _++_}
 use Prim.Native.Nat.{ℕ, zero, suc, _+_, _-_, _≤_, _<_, min, max}
@@ -33,10 +33,11 @@ use Rattle.edges.specs.declared.event.Candidate.the-variants.{Event, NoE
 use Rattle.edges.specs.Near.{integerStep, normalizeLambda}
 use Rattle.edges.specs.Cell.{diagonalCellAt}
 
+-- Rules 6.2: an event is a lambda with a side, `ParamEdge`
 abbrev pub event : Float → ParamEdge → EdgeEvent
 event l e = record { lambda = l; edge = e }
 
--- ---- the side at a point (`edge_at_point`): a U line, else a V line, else a diagonal
+-- ---- Rules 6.2, 1: the side that a point is on (`edge_at_point`): U(u), else V(v), else a diagonal
 
 abbrev pub diagonalAt : DiagonalCell → EdgeAtPoint
 diagonalAt (Cell u v) = Edge (Diagonal u v)
@@ -50,23 +51,25 @@ abbrev pub orU : WholeStep → EdgeAtPoint → EdgeAtPoint
 orU (Step u) e = Edge (U u)
 orU Between e = e
 
+-- on a side: only a point within EPS of the grid is
 unfoldable pub edgeAtPoint : Cells → ParamPoint → EdgeAtPoint
 edgeAtPoint k p =
     cond (paramInBounds k p)
     (orU (integerStep (p .u) (k .m)) (orV (integerStep (p .v) (k .n)) (diagonalAt (diagonalCellAt k p))))
     NoEdge
 
--- ---- candidates of a leg
+-- ---- Rules 6.2: one candidate
 
+-- of an end of the leg, at lambda 0 or 1, if it is on a side
 abbrev pub endCandidate : Float → EdgeAtPoint → Candidate
 endCandidate l (Edge e) = Event (event l e)
 endCandidate l NoEdge = NoEvent
 
--- where a line at `step` of an axis is crossed, that axis going from x by dx
+-- the lambda at which what goes from x by dx comes to `step`, if it counts
 abbrev pub lambdaAt : ℕ → Float → Float → NormalizedLambda
 lambdaAt step x dx = normalizeLambda (div binary64 (sub binary64 (natFloat step) x) dx)
 
--- an event on a line of so many steps, where it is within EPS of the line
+-- an event on a line of so many steps, if x, where the leg meets it, is within EPS of the line
 abbrev pub onLine : Float → ℕ → EdgeEvent → Candidate
 onLine x steps e = cond (within x (natFloat steps)) (Event e) NoEvent
 
@@ -75,7 +78,7 @@ abbrev pub lineAt : Axis → ℕ → ParamEdge
 lineAt AxisU u = U u
 lineAt AxisV v = «V» v
 
--- U(u) or V(v), where the crossing is within EPS of the grid on the other axis
+-- of a line, at a lambda that counts: the leg's point there is within EPS of the grid on the other axis
 unfoldable pub lineCrossing : Axis → Cells → Leg → ℕ → NormalizedLambda → Candidate
 lineCrossing x k leg step Outside = NoEvent
 lineCrossing x k leg step (Lambda l) = onLine (across x (onLeg leg l)) (stepsOff x k) (event l (lineAt x step))
@@ -84,7 +87,7 @@ abbrev pub diagonalEvent : Float → DiagonalCell → Candidate
 diagonalEvent l (Cell u v) = Event (event l (Diagonal u v))
 diagonalEvent l NoCell = NoEvent
 
--- a diagonal, where the crossing is in bounds and a cell's diagonal is there
+-- of a diagonal: the leg's point there is within EPS of the grid and on the diagonal of a cell
 unfoldable pub diagonalCrossing : Cells → Leg → NormalizedLambda → Candidate
 diagonalCrossing k leg Outside = NoEvent
 diagonalCrossing k leg (Lambda l) =
@@ -94,22 +97,24 @@ diagonalCrossing k leg (Lambda l) =
 abbrev pub change : Axis → Leg → Float
 change x leg = sub binary64 (along x (leg .b)) (along x (leg .a))
 
+-- 2 and 3: U(step) or V(step)
 abbrev pub lineCandidate : Axis → Cells → Leg → ℕ → Candidate
 lineCandidate x k leg step = lineCrossing x k leg step (lambdaAt step (along x (leg .a)) (change x leg))
 
--- u + v along the leg: where it starts, where it ends, and by how much it changes
+-- u + v of a point, and by how much it changes along the leg: the sum of both changes
 abbrev pub sumOf : ParamPoint → Float
 sumOf p = add binary64 (p .u) (p .v)
 
 abbrev pub changeOfSum : Leg → Float
 changeOfSum leg = add binary64 (sub binary64 (leg .b .u) (leg .a .u)) (sub binary64 (leg .b .v) (leg .a .v))
 
+-- 4: the diagonal at which u + v is `sum`
 abbrev pub diagonalCandidate : Cells → Leg → ℕ → Candidate
 diagonalCandidate k leg sum = diagonalCrossing k leg (lambdaAt sum (sumOf (leg .a)) (changeOfSum leg))
 
--- ---- their order
+-- ---- Rules 6.2: the candidates in their order
 
--- an axis is tried if it changes by more than EPS
+-- a change that exceeds EPS in magnitude: without it nothing is tried
 abbrev pub moves : Float → Bool
 moves d = lt eps (absolute d)
 
@@ -122,36 +127,42 @@ unfoldable pub listFrom : (ℕ → Candidate) → ℕ → ℕ → List EdgeEvent
 listFrom f zero i = []
 listFrom f (suc n) i = listed (f i) (listFrom f n (i + 1))
 
--- the smaller and the larger of the sums at the ends
+-- the smaller and the larger of u + v at the two ends
 abbrev pub lowSum : Leg → Float
 lowSum leg = cond (lt (sumOf (leg .b)) (sumOf (leg .a))) (sumOf (leg .b)) (sumOf (leg .a))
 
 abbrev pub highSum : Leg → Float
 highSum leg = cond (lt (sumOf (leg .a)) (sumOf (leg .b))) (sumOf (leg .b)) (sumOf (leg .a))
 
--- whole sums from the ceiling of the smaller to the floor of the larger; those outside 1 to M+N−1 are skipped
+-- whole numbers from the ceiling of the smaller to the floor of the larger, of which only 1 to M+N−1 have a diagonal:
+-- the first, and the one past the last
 abbrev pub firstSum : Leg → ℕ
 firstSum leg = max 1 (count (ceilZ (lowSum leg)))
 
 abbrev pub pastSum : Cells → Leg → ℕ
 pastSum k leg = min (k .m + k .n) (count (floorZ (highSum leg)) + 1)
 
+-- 1: a, then b
 unfoldable pub ends : Cells → Leg → List EdgeEvent
-ends k leg = listed (endCandidate zero64 (edgeAtPoint k (leg .a))) (listed (endCandidate one64 (edgeAtPoint k (leg .b))) [])
+ends k leg =
+    listed (endCandidate zero64 (edgeAtPoint k (leg .a))) (listed (endCandidate one64 (edgeAtPoint k (leg .b))) [])
 
--- the lines of an axis, from its first to its last
+-- 2 and 3: the lines of an axis, from its first to its last
 unfoldable pub lines : Axis → Cells → Leg → List EdgeEvent
 lines x k leg = cond (moves (change x leg)) (listFrom (lineCandidate x k leg) (stepsOn x k + 1) 0) []
 
+-- 4: the diagonals
 unfoldable pub diagonals : Cells → Leg → List EdgeEvent
 diagonals k leg =
     cond (moves (changeOfSum leg)) (listFrom (diagonalCandidate k leg) (pastSum k leg - firstSum leg) (firstSum leg)) []
 
--- "the candidates and their order: end events first, then U, V, diagonals"
+-- all of them, in the order of their numbers in the rule
 unfoldable pub candidates : Cells → Leg → List EdgeEvent
 candidates k leg = ends k leg ++ (lines AxisU k leg ++ (lines AxisV k leg ++ diagonals k leg))
 
--- "a stable sort by IEEE 754 totalOrder": each event in turn goes before the first that it precedes, so after its equals
+-- ---- Rules 6.4
+
+-- sorted by lambda in totalOrder: each event in turn goes before the first that it precedes, so after its equals
 abbrev pub precedes : Ordering → Bool
 precedes Less = true
 precedes Equal = false
@@ -161,15 +172,17 @@ unfoldable pub insert : EdgeEvent → List EdgeEvent → List EdgeEvent
 insert e [] = e ∷ []
 insert e (x ∷ xs) = cond (precedes (totalOrder (e .lambda) (x .lambda))) (e ∷ (x ∷ xs)) (x ∷ insert e xs)
 
+-- a candidate, sorted in; for inner contracts
 abbrev pub pushed : Candidate → List EdgeEvent → List EdgeEvent
 pushed (Event e) sorted = insert e sorted
 pushed NoEvent sorted = sorted
 
+-- events sorted into those that are sorted
 unfoldable pub sortInto : List EdgeEvent → List EdgeEvent → List EdgeEvent
 sortInto [] sorted = sorted
 sortInto (e ∷ es) sorted = sortInto es (insert e sorted)
 
--- "an event closer than EPS to the last one kept is dropped"
+-- less than EPS from the last one kept: such an event is dropped
 abbrev pub closeBy : Float → Float → Bool
 closeBy kept l = lt (absolute (sub binary64 kept l)) eps
 
@@ -181,12 +194,13 @@ unfoldable pub unique : List EdgeEvent → List EdgeEvent
 unique [] = []
 unique (e ∷ es) = e ∷ uniqueAfter (e .lambda) es
 
+-- the events of a leg
 unfoldable pub sortedEdgeEvents : Cells → Leg → List EdgeEvent
 sortedEdgeEvents k leg = unique (sortInto (candidates k leg) [])
 
--- ---- what holds of every event
+-- ---- what holds of every event; for inner contracts
 
--- a side of the grid: U(u) up to M, V(v) up to N, a diagonal in a cell
+-- an event's side is on the grid: U(u) up to M, V(v) up to N, a diagonal in a cell
 abbrev pub Inside : Cells → ParamEdge → Type 0
 Inside k (U u) = u ≤ k .m
 Inside k («V» v) = v ≤ k .n

@@ -1,4 +1,5 @@
--- Values within EPS: of a whole step on an axis, and of the lambdas from 0 to 1. References: `integer_step`, `normalize_lambda`.
+-- Rules 6.2: whether a value is at a whole step of its axis, and whether a lambda counts.
+-- Original: `integer_step`, `normalize_lambda`.
 use mathlib.Core.Bool.{_&&_, cond}
 use Prim.Native.Nat.{ℕ}
 use lib.Ieee.{Float, binary64, lt, le, sub, toUnsigned}
@@ -13,13 +14,13 @@ use Rattle.edges.specs.declared.point.WholeStep.the-variants.{Step, Betw
 use Rattle.edges.specs.declared.event.NormalizedLambda.{NormalizedLambda}
 use Rattle.edges.specs.declared.event.NormalizedLambda.the-variants.{Lambda, Outside}
 
--- the whole number from 0 to n that x is within EPS of
+-- the whole number from 0 to n that x is less than EPS from: `round` of x, where that is one
 unfoldable pub integerStep : Float → ℕ → WholeStep
 integerStep x n =
     cond (lt (absolute (sub binary64 x (rounded x))) eps && (le zero64 (rounded x) && le (rounded x) (natFloat n)))
     (Step (toUnsigned 64 (rounded x)))
     Between
 
--- a lambda from −EPS to 1 + EPS, brought between 0 and 1
+-- a lambda from −EPS to 1 + EPS counts, and is clamped to 0 to 1
 unfoldable pub normalizeLambda : Float → NormalizedLambda
 normalizeLambda l = cond (within l one64) (Lambda (clamped l zero64 one64)) Outside

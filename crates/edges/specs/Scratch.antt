@@ -1,4 +1,5 @@
--- Where the events of a leg stand ("`Vec` of events: an array of 1,023 with a count"): their lambdas in one list and the codes of their sides in another.
+-- For inner contracts only: where the events of a leg stand while they are sorted (Rules 6.4). Their lambdas are in one
+-- list and the codes of their sides in another, each of 1,023 places, and a count says how many there are.
 use mathlib.Core.Bool.{true, false, cond}
 use mathlib.Core.List.{List, [], _∷_}
 use mathlib.Core.Path.{_≡_}
@@ -37,7 +38,8 @@ held (l ∷ ls) (c ∷ cs) = eventOf l c ∷ held ls cs
 abbrev pub eventsIn : List Float → List ℕ → ℕ → List EdgeEvent
 eventsIn lambdas codes count = take count (held lambdas codes)
 
--- a place among the first `count` lambdas: l does not precede the one before it, and precedes the one that stands there
+-- a place among the first `count` lambdas: l does not precede the one before it, and precedes the one that stands
+-- there
 pub record PlaceOf (l : Float) (lambdas : List Float) (count place : ℕ) : Type 0 where
   pub most : place ≤ count
   pub after : (i : ℕ) → i + 1 ≡ place → precedes (totalOrder l (getD lambdas i nan)) ≡ false
@@ -61,7 +63,8 @@ pub record Sorted (es : List EdgeEvent) : Type 0 where
   pub ascend : Ascend es
   pub storable : Each Storable es
 
--- for M and N up to 255, two lists of 1,023 that hold `count` events and have room for so many more: ends, U, V and diagonals are at most 2 + (M+1) + (N+1) + (M+N−1)
+-- for M and N up to 255, two lists of 1,023 that hold `count` events and have room for so many more: ends, U, V and
+-- diagonals are at most 2 + (M+1) + (N+1) + (M+N−1)
 pub record ScratchRoom (k : Cells) (lambdas : List Float) (codes : List ℕ) (count more : ℕ) : Type 0 where
   pub u-steps : k .m ≤ 255
   pub v-steps : k .n ≤ 255

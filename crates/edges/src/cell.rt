@@ -1,4 +1,4 @@
-// The cell on whose diagonal a point lies.
+// The cell on whose diagonal a point is (Rules 6.3).
 use float::cast::to_f64;
 use float::consts::EPS;
 use float::sign::abs;
@@ -16,6 +16,7 @@ pub enum CellIndex {
     Outside,
 }
 
+// The cell (u, v) on whose diagonal a point is, if there is one.
 pub enum DiagonalCell {
     Cell(usize, usize),
     NoCell,
@@ -44,6 +45,7 @@ fn index_before(z: i64, n: usize) -> CellIndex
     CellIndex::Outside
 }
 
+// Whether the point is on the diagonal of cell (u, v): s and t are its distances from the cell's corner.
 fn on_diagonal(point: ParamPoint, u: usize, v: usize) -> bool
     ensures { λ r. ⌜ r ≡ onDiagonal point u v ⌝ }
 {

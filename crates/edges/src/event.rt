@@ -1,4 +1,4 @@
-// Events: a lambda and the side it falls on.
+// Events (Rules 6.2): lambdas, each with the side that the leg is on there, and the candidates for them.
 use crate::cell::DiagonalCell;
 use crate::cell::diagonal_cell_at;
 use crate::point::WholeStep;
@@ -13,29 +13,35 @@ use param::is_within;
 use param::param_in_bounds;
 ghost use mathlib.Core.Path.{_≡_};
 ghost use Rattle.edges.specs.Near.{normalizeLambda};
-ghost use Rattle.edges.specs.Events.{edgeAtPoint, endCandidate, lambdaAt, onLine, lineAt, lineCandidate, diagonalCandidate};
+ghost use Rattle.edges.specs.Events.{edgeAtPoint, endCandidate, lambdaAt, onLine, lineAt, lineCandidate};
+ghost use Rattle.edges.specs.Events.{diagonalCandidate};
 
+// A side: the line U(u) or V(v), or the diagonal of the cell (u, v).
 pub enum ParamEdge {
     U(usize),
     V(usize),
     Diagonal(usize, usize),
 }
 
+// An event.
 pub struct EdgeEvent {
     pub lambda: f64,
     pub edge: ParamEdge,
 }
 
+// The side that a point is on, if it is on one.
 pub enum EdgeAtPoint {
     Edge(ParamEdge),
     NoEdge,
 }
 
+// A lambda that counts, or none.
 pub enum NormalizedLambda {
     Lambda(f64),
     Outside,
 }
 
+// A candidate that is an event, or is none.
 pub enum Candidate {
     Event(EdgeEvent),
     NoEvent,

@@ -13,7 +13,7 @@ pub enum WholeStep {
     Between,
 }
 
-// The whole number from 0 to `steps` that a value is within EPS of.
+// The whole number from 0 to `steps` that a value is less than EPS from (Rules 6.2).
 pub fn integer_step(value: f64, steps: usize) -> WholeStep
     ensures { λ r. ⌜ r ≡ integerStep value steps ⌝ }
 {

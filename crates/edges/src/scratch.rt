@@ -8,8 +8,8 @@ use float::consts::EPS;
 use float::order::Ordering;
 use float::order::total_cmp;
 use float::sign::abs;
-ghost use mathlib.Core.Path.{_≡_};
 ghost use Prim.Native.Nat.{_+_, _<_, _≤_};
+ghost use mathlib.Core.Path.{_≡_};
 ghost use lib.ListN.{length, getD, take};
 ghost use lib.Ieee.{nan};
 ghost use Rattle.basics.specs.Lists.{putAt};
@@ -30,6 +30,7 @@ fn code_of(edge: ParamEdge) -> u32
     }
 }
 
+// The side of a code.
 fn edge_of(code: u32) -> ParamEdge
     ensures { λ r. ⌜ r ≡ edgeOf code ⌝ }
 {
@@ -43,6 +44,7 @@ fn edge_of(code: u32) -> ParamEdge
     ParamEdge::Diagonal((d / 256) as usize, (d % 256) as usize)
 }
 
+// Event i.
 pub fn event_at(lambdas: &[f64], codes: &[u32], i: usize) -> EdgeEvent
     requires { ⌜ (i < length (now lambdas)) × (i < length (now codes)) ⌝ }
     ensures { λ r. ⌜ r ≡ eventOf (getD (now (lambdas .entry)) i nan) (getD (now (codes .entry)) i 0) ⌝ }
@@ -105,6 +107,7 @@ fn insert_lambda(lambdas: &mut [f64], count: usize, place: usize, lambda: f64)
     lambdas[place] = lambda;
 }
 
+// The same, of a code.
 fn insert_code(codes: &mut [u32], count: usize, place: usize, code: u32)
     requires { ⌜ (place ≤ count) × (count < length (now codes)) ⌝ }
     ensures { λ _. ⌜ take (count + 1) (now (codes .exit)) ≡ putAt place code (take count (now (codes .entry))) ⌝ }
@@ -119,7 +122,8 @@ fn insert_code(codes: &mut [u32], count: usize, place: usize, code: u32)
 
 // Puts an event in its place among `count` sorted events, after its equals.
 pub fn insert_event(lambdas: &mut [f64], codes: &mut [u32], count: usize, event: EdgeEvent)
-    requires { ⌜ (count < length (now lambdas)) × (length (now lambdas) ≡ length (now codes)) × Storable event × Sorted (eventsIn (now lambdas) (now codes) count) ⌝ }
+    requires { ⌜ (count < length (now lambdas)) × (length (now lambdas) ≡ length (now codes)) × Storable event
+        × Sorted (eventsIn (now lambdas) (now codes) count) ⌝ }
     ensures { λ _. ⌜ (eventsIn (now (lambdas .exit)) (now (codes .exit)) (count + 1)
         ≡ insert event (eventsIn (now (lambdas .entry)) (now (codes .entry)) count))
         × Sorted (eventsIn (now (lambdas .exit)) (now (codes .exit)) (count + 1)) ⌝ }
@@ -138,7 +142,8 @@ pub fn push_candidate(
     count: usize,
     candidate: Candidate,
 ) -> usize
-    requires { ⌜ (count < length (now lambdas)) × (length (now lambdas) ≡ length (now codes)) × IfEvent Storable candidate × Sorted (eventsIn (now lambdas) (now codes) count) ⌝ }
+    requires { ⌜ (count < length (now lambdas)) × (length (now lambdas) ≡ length (now codes))
+        × IfEvent Storable candidate × Sorted (eventsIn (now lambdas) (now codes) count) ⌝ }
     ensures { λ r. ⌜ (r ≤ count + 1) × (eventsIn (now (lambdas .exit)) (now (codes .exit)) r
         ≡ pushed candidate (eventsIn (now (lambdas .entry)) (now (codes .entry)) count))
         × Sorted (eventsIn (now (lambdas .exit)) (now (codes .exit)) r) ⌝ }
@@ -152,7 +157,7 @@ pub fn push_candidate(
     }
 }
 
-// Keeps the first event and each that is not closer than EPS to the last one kept; answers how many.
+// Drops each event that is less than EPS from the one kept before it (Rules 6.4); answers how many are kept.
 pub fn unique(lambdas: &mut [f64], codes: &mut [u32], count: usize) -> usize
     requires { ⌜ (count ≤ length (now lambdas)) × (length (now lambdas) ≡ length (now codes)) ⌝ }
     ensures { λ r. ⌜ (r ≤ count) × (eventsIn (now (lambdas .exit)) (now (codes .exit)) r

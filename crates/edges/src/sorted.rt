@@ -1,5 +1,5 @@
-// The events of a leg, in order. Each push sorts its candidates into the lists and
-// answers the new count.
+// The events of a leg, in order (Rules 6.2 and 6.4). Each push sorts its candidates into the lists and answers the new
+// count.
 use crate::event::Candidate;
 use crate::event::diagonal_candidate;
 use crate::event::edge_at_point;
@@ -20,9 +20,11 @@ ghost use mathlib.Core.List.{[]};
 ghost use Prim.Native.Nat.{_+_, _-_, _<_, _≤_};
 ghost use Rattle.float.specs.Cast.{count};
 ghost use Rattle.param.specs.Param.{stepsOn};
-ghost use Rattle.edges.specs.Events.{lowSum, highSum, firstSum, pastSum, ends, lines, diagonals, candidates, sortInto, sortedEdgeEvents};
+ghost use Rattle.edges.specs.Events.{lowSum, highSum, firstSum, pastSum, ends, lines, diagonals, candidates};
+ghost use Rattle.edges.specs.Events.{sortInto, sortedEdgeEvents};
 ghost use Rattle.edges.specs.Scratch.{eventsIn, ScratchRoom, Sorted};
 
+// The two ends.
 fn push_ends(lambdas: &mut [f64], codes: &mut [u32], cells: Cells, leg: Leg) -> usize
     requires { ⌜ ScratchRoom cells (now lambdas) (now codes) 0 2 ⌝ }
     ensures { λ r. ⌜ (r ≤ 2) × (eventsIn (now (lambdas .exit)) (now (codes .exit)) r ≡ sortInto (ends cells leg) [])
@@ -43,7 +45,8 @@ fn push_lines(
     cells: Cells,
     leg: Leg,
 ) -> usize
-    requires { ⌜ ScratchRoom cells (now lambdas) (now codes) count (stepsOn axis cells + 1) × Sorted (eventsIn (now lambdas) (now codes) count) ⌝ }
+    requires { ⌜ ScratchRoom cells (now lambdas) (now codes) count (stepsOn axis cells + 1)
+        × Sorted (eventsIn (now lambdas) (now codes) count) ⌝ }
     ensures { λ r. ⌜ (r ≤ count + (stepsOn axis cells + 1)) × (eventsIn (now (lambdas .exit)) (now (codes .exit)) r
         ≡ sortInto (lines axis cells leg) (eventsIn (now (lambdas .entry)) (now (codes .entry)) count))
         × Sorted (eventsIn (now (lambdas .exit)) (now (codes .exit)) r) ⌝ }
@@ -79,6 +82,7 @@ fn low_sum(leg: Leg) -> f64
     if to < from { to } else { from }
 }
 
+// The larger of them.
 fn high_sum(leg: Leg) -> f64
     ensures { λ r. ⌜ r ≡ highSum leg ⌝ }
 {
@@ -105,6 +109,7 @@ fn past_sum(cells: Cells, leg: Leg) -> usize
     if past < end { past } else { end }
 }
 
+// The diagonals.
 fn push_diagonals(
     lambdas: &mut [f64],
     codes: &mut [u32],
@@ -112,7 +117,8 @@ fn push_diagonals(
     cells: Cells,
     leg: Leg,
 ) -> usize
-    requires { ⌜ ScratchRoom cells (now lambdas) (now codes) count (cells .m + cells .n - 1) × Sorted (eventsIn (now lambdas) (now codes) count) ⌝ }
+    requires { ⌜ ScratchRoom cells (now lambdas) (now codes) count (cells .m + cells .n - 1)
+        × Sorted (eventsIn (now lambdas) (now codes) count) ⌝ }
     ensures { λ r. ⌜ (r ≤ count + (cells .m + cells .n - 1)) × (eventsIn (now (lambdas .exit)) (now (codes .exit)) r
         ≡ sortInto (diagonals cells leg) (eventsIn (now (lambdas .entry)) (now (codes .entry)) count)) ⌝ }
 {
@@ -131,7 +137,8 @@ fn push_diagonals(
 // End events, then U lines, V lines and diagonals: at most 2 + (m + 1) + (n + 1) + (m + n - 1).
 fn push_candidates(lambdas: &mut [f64], codes: &mut [u32], cells: Cells, leg: Leg) -> usize
     requires { ⌜ ScratchRoom cells (now lambdas) (now codes) 0 0 ⌝ }
-    ensures { λ r. ⌜ (r ≤ 1023) × (eventsIn (now (lambdas .exit)) (now (codes .exit)) r ≡ sortInto (candidates cells leg) []) ⌝ }
+    ensures { λ r. ⌜ (r ≤ 1023)
+        × (eventsIn (now (lambdas .exit)) (now (codes .exit)) r ≡ sortInto (candidates cells leg) []) ⌝ }
 {
     let ends = push_ends(lambdas, codes, cells, leg);
     let us = push_lines(lambdas, codes, ends, Axis::AxisU, cells, leg);
@@ -139,11 +146,11 @@ fn push_candidates(lambdas: &mut [f64], codes: &mut [u32], cells: Cells, leg: Le
     push_diagonals(lambdas, codes, vs, cells, leg)
 }
 
-// The sides that a leg crosses, in order; one that is closer than EPS to the one kept before it is
-// dropped.
+// The events of a leg: its candidates sorted, without those that are less than EPS from the one kept before.
 pub fn sorted_edge_events(lambdas: &mut [f64], codes: &mut [u32], cells: Cells, leg: Leg) -> usize
     requires { ⌜ ScratchRoom cells (now lambdas) (now codes) 0 0 ⌝ }
-    ensures { λ r. ⌜ (r ≤ 1023) × (eventsIn (now (lambdas .exit)) (now (codes .exit)) r ≡ sortedEdgeEvents cells leg) ⌝ }
+    ensures { λ r. ⌜ (r ≤ 1023)
+        × (eventsIn (now (lambdas .exit)) (now (codes .exit)) r ≡ sortedEdgeEvents cells leg) ⌝ }
 {
     let count = push_candidates(lambdas, codes, cells, leg);
     unique(lambdas, codes, count)

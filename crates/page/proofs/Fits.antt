@@ -1,4 +1,5 @@
--- `PenFits` holds after a push, which has room for its point, and after a flush, which only moves counts; and so after any moves.
+-- `PenFits` holds after a push, which has room for its point, and after a flush, which only moves counts; and so
+-- after any moves.
 use Prim.Native.Nat.{ℕ, _+_, _*_, _/_, _≤_}
 use native.Mathlib.Omega.{arith}
 use mathlib.Core.Path.{_≡_, refl}
@@ -17,7 +18,8 @@ use Rattle.page.specs.declared.Pen.{Pen}
 use Rattle.page.specs.declared.Penned.{Penned}
 use Rattle.page.specs.declared.Penned.the-variants.{Down}
 use Rattle.page.specs.Moves.{Move, Outcome, on, off}
-use Rattle.page.specs.Page.{Lists, pointRoom, Page, hasRoom, closeToPending, written, pushPage, kept, dropped, flushPage, onPage, pageAfter, PenFits}
+use Rattle.page.specs.Page.{Lists, pointRoom, Page, hasRoom, closeToPending, written, pushPage, kept, dropped}
+use Rattle.page.specs.Page.{flushPage, onPage, pageAfter, PenFits}
 use Rattle.page.proofs.Moves.{Any, any-pushed, run-keeps}
 
 -- `PenFits` of a page, and of the page of an outcome that goes on
@@ -29,7 +31,8 @@ Fits (on g) = Fitting g
 Fits (off k g) = Unit {0}
 
 -- what an outcome that goes on says of the pen that its function hands back
-pub fits-down : (x : Outcome Page) {r : Penned} {l : Lists} {pen : Pen} → afterwards r l ≡ pageAfter x → r ≡ Down pen → Fits x → PenFits (l .points) pen
+pub fits-down : (x : Outcome Page) {r : Penned} {l : Lists} {pen : Pen} → afterwards r l ≡ pageAfter x →
+    r ≡ Down pen → Fits x → PenFits (l .points) pen
 fits-down x {r} {l} {pen} u e h = go x u h
   where
     go : (y : Outcome Page) → afterwards r l ≡ pageAfter y → Fits y → PenFits (l .points) pen
@@ -44,7 +47,8 @@ push-fits tolerance c g h = go (closeToPending tolerance c g) (hasRoom g) refl
   where
     go : (a b : Bool) → hasRoom g ≡ b → Fits (cond a (on g) (cond b (on (written c g)) (off Full g)))
     go true b e = h
-    go false true e = let r = ltb-true (g .pen .count) (pointRoom (g .lists)) e in (omega arith, simp length-set (omega arith))
+    go false true e =
+        let r = ltb-true (g .pen .count) (pointRoom (g .lists)) e in (omega arith, simp length-set (omega arith))
     go false false e = tt
 
 flush-fits : (g : Page) → Fitting g → Fits (flushPage g)
@@ -58,4 +62,5 @@ flush-fits g h = go (leb (g .pen .start + 2) (g .pen .count)) (ltb (g .pen .line
 
 -- whatever the moves
 pub moves-fit : (ms : List (Move Crossing)) (g : Page) → Fitting g → Fits (onPage ms g)
-moves-fit ms g h = run-keeps Any Fits (pushPage eps) flushPage (λ k g h. tt) (λ c a. push-fits eps c) flush-fits (any-pushed ms) g h
+moves-fit ms g h =
+    run-keeps Any Fits (pushPage eps) flushPage (λ k g h. tt) (λ c a. push-fits eps c) flush-fits (any-pushed ms) g h

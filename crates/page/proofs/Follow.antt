@@ -1,4 +1,5 @@
--- How what functions say of the lent lists is put together: an outcome that goes on, one that is refused, and what follows it.
+-- How what functions say of the lent lists is put together: an outcome that goes on, one that is refused, and what
+-- follows it.
 use Prim.Native.Nat.{ℕ}
 use native.Mathlib.Omega.{arith}
 use mathlib.Core.Path.{_≡_, refl}

@@ -1,11 +1,13 @@
--- Moves are run one list after another. What a run keeps: an invariant of one state, and a relation of two, each by one induction over the moves.
+-- Moves are run one list after another. What a run keeps: an invariant of one state, and a relation of two, each by
+-- one induction over the moves.
 use mathlib.Core.Path.{_≡_, refl, sym}
 use mathlib.Core.Bool.{Bool, true, false, true≢false, cond}
 use mathlib.Core.List.{List, [], _∷_, _++_}
 use Rattle.refusal.specs.declared.Refusal.{Refusal}
 use Rattle.page.specs.Moves.{Move, push, flush, stop, Outcome, on, off, follow, move, run}
 
-follow-twice : {S : Type 0} (x : Outcome S) (h k : S → Outcome S) {l : S → Outcome S} → ((s : S) → l s ≡ follow (h s) k) → follow x l ≡ follow (follow x h) k
+follow-twice : {S : Type 0} (x : Outcome S) (h k : S → Outcome S) {l : S → Outcome S} →
+    ((s : S) → l s ≡ follow (h s) k) → follow x l ≡ follow (follow x h) k
 follow-twice (on s) h k e = e s
 follow-twice (off r s) h k e = refl
 
@@ -37,13 +39,15 @@ pub data AllPushed {A : Type 0} (P : A → Type 0) : List (Move A) → Type 0 wh
   flushing : {ms : List (Move A)} → AllPushed P ms → AllPushed P (flush ∷ ms)
   stopping : {k : Refusal} {ms : List (Move A)} → AllPushed P ms → AllPushed P (stop k ∷ ms)
 
-pub both : {A : Type 0} {P : A → Type 0} {ms ns : List (Move A)} → AllPushed P ms → AllPushed P ns → AllPushed P (ms ++ ns)
+pub both : {A : Type 0} {P : A → Type 0} {ms ns : List (Move A)} → AllPushed P ms → AllPushed P ns →
+    AllPushed P (ms ++ ns)
 both none k = k
 both (pushing c h) k = pushing c (both h k)
 both (flushing h) k = flushing (both h k)
 both (stopping h) k = stopping (both h k)
 
-pub either : {A : Type 0} {P : A → Type 0} (b : Bool) {ms ns : List (Move A)} → AllPushed P ms → AllPushed P ns → AllPushed P (cond b ms ns)
+pub either : {A : Type 0} {P : A → Type 0} (b : Bool) {ms ns : List (Move A)} → AllPushed P ms → AllPushed P ns →
+    AllPushed P (cond b ms ns)
 either true h k = h
 either false h k = k
 
@@ -90,20 +94,24 @@ module _ {S T : Type 0} {R : S → T → Type 0} {Q : S → Type 0} where
   follow-related f h (both-off q) k = both-off q
 
   -- two tests that agree
-  pub test-related : (a b : Bool) {x x′ : Outcome S} {y y′ : Outcome T} → a ≡ b → (b ≡ true → Related R Q x y) → (b ≡ false → Related R Q x′ y′) → Related R Q (cond a x x′) (cond b y y′)
+  pub test-related : (a b : Bool) {x x′ : Outcome S} {y y′ : Outcome T} → a ≡ b → (b ≡ true → Related R Q x y) →
+      (b ≡ false → Related R Q x′ y′) → Related R Q (cond a x x′) (cond b y y′)
   test-related true true e p q = p refl
   test-related false false e p q = q refl
   test-related true false e p q = absurd (true≢false e)
   test-related false true e p q = absurd (true≢false (sym e))
 
-module _ {A S T : Type 0} (P : A → Type 0) (R : S → T → Type 0) (Q : S → Type 0) (p : A → S → Outcome S) (f : S → Outcome S) (p′ : A → T → Outcome T) (f′ : T → Outcome T)
+module _ {A S T : Type 0} (P : A → Type 0) (R : S → T → Type 0) (Q : S → Type 0) (p : A → S → Outcome S)
+    (f : S → Outcome S) (p′ : A → T → Outcome T) (f′ : T → Outcome T)
     (ends : (s : S) (t : T) → R s t → Q s)
     (pushes : (c : A) → P c → (s : S) (t : T) → R s t → Related R Q (p c s) (p′ c t))
     (flushes : (s : S) (t : T) → R s t → Related R Q (f s) (f′ t))
   where
-    pub run-related : {ms : List (Move A)} → AllPushed P ms → (s : S) (t : T) → R s t → Related R Q (run p f ms s) (run p′ f′ ms t)
+    pub run-related : {ms : List (Move A)} → AllPushed P ms → (s : S) (t : T) → R s t →
+        Related R Q (run p f ms s) (run p′ f′ ms t)
     unfolding run
     run-related none s t r = both-on r
-    run-related (pushing {c} {ms} good a) s t r = follow-related (run p f ms) (run p′ f′ ms) (pushes c good s t r) (run-related a)
+    run-related (pushing {c} {ms} good a) s t r =
+        follow-related (run p f ms) (run p′ f′ ms) (pushes c good s t r) (run-related a)
     run-related (flushing {ms} a) s t r = follow-related (run p f ms) (run p′ f′ ms) (flushes s t r) (run-related a)
     run-related (stopping a) s t r = both-off (ends s t r)

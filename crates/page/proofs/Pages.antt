@@ -1,4 +1,5 @@
--- `pushPage` and `flushPage` by the tests of the code, from what its calls gave.
+-- `pushPage` and `flushPage` by the tests of the code, from what its calls gave: each way through it is one case of
+-- them.
 use mathlib.Core.Path.{_≡_, refl}
 use mathlib.Core.Bool.{Bool, true, false}
 use mathlib.Core.List.{List}
@@ -15,12 +16,14 @@ use Rattle.grid.specs.Grid.{pointAt}
 use Rattle.crossing.specs.declared.Crossing.{Crossing}
 use Rattle.page.specs.declared.Pen.{Pen}
 use Rattle.page.specs.declared.Penned.the-variants.{Down, Stop}
-use Rattle.page.specs.Page.{Lists, pointRoom, writeAt, writeStart, page, penAt, closeToPending, hasRoom, written, pushPage, kept, dropped, flushPage, pageAfter}
+use Rattle.page.specs.Page.{Lists, pointRoom, writeAt, writeStart, page, penAt, closeToPending, hasRoom, written}
+use Rattle.page.specs.Page.{pushPage, kept, dropped, flushPage, pageAfter}
 
 module _ (tolerance : Float) (c : Crossing) (l : Lists) (pen : Pen) where
   -- ---- a point close to the last pending one
 
-  module _ {x : Vector} {b : Bool} (ex : x ≡ pointAt (l .points) (pen .count - 1)) (eb : b ≡ allClose x (c .point) tolerance) (h : pen .start < pen .count) where
+  module _ {x : Vector} {b : Bool} (ex : x ≡ pointAt (l .points) (pen .count - 1))
+      (eb : b ≡ allClose x (c .point) tolerance) (h : pen .start < pen .count) where
     pub push-close : b ≡ true → afterwards (Down pen) l ≡ pageAfter (pushPage tolerance c (page l pen))
     unfolding pushPage
     push-close t = simp (lt-ltb _ _ h, ← ex, ← eb, t)
@@ -39,22 +42,26 @@ module _ (tolerance : Float) (c : Crossing) (l : Lists) (pen : Pen) where
     push-full h = let no : hasRoom (page l pen) ≡ false = le-ltb (pen .count) (pointRoom l) h in simp (far, no)
 
     pub push-writes : pen .count < pointRoom l → {m : Lists} → m ≡ writeAt (pen .count) c l →
-        afterwards (Down (penAt (pen .count + 1) (pen .start) (pen .lines))) m ≡ pageAfter (pushPage tolerance c (page l pen))
+        afterwards (Down (penAt (pen .count + 1) (pen .start) (pen .lines))) m
+        ≡ pageAfter (pushPage tolerance c (page l pen))
     unfolding pushPage written
     push-writes h e = let yes : hasRoom (page l pen) ≡ true = lt-ltb (pen .count) (pointRoom l) h in simp (far, yes, e)
 
 -- ---- a flush
 
 module _ (l : Lists) (pen : Pen) (o : pen .start ≤ pen .count) where
-  pub flush-drops : pen .count - pen .start < 2 → afterwards (Down (penAt (pen .start) (pen .start) (pen .lines))) l ≡ pageAfter (flushPage (page l pen))
+  pub flush-drops : pen .count - pen .start < 2 →
+      afterwards (Down (penAt (pen .start) (pen .start) (pen .lines))) l ≡ pageAfter (flushPage (page l pen))
   unfolding flushPage dropped
   flush-drops h = simp (lt-leb (pen .start + 2) (pen .count) (omega arith))
 
-  pub flush-full : 2 ≤ pen .count - pen .start → length (l .starts) ≤ pen .lines → afterwards (Stop Full) l ≡ pageAfter (flushPage (page l pen))
+  pub flush-full : 2 ≤ pen .count - pen .start → length (l .starts) ≤ pen .lines →
+      afterwards (Stop Full) l ≡ pageAfter (flushPage (page l pen))
   unfolding flushPage
   flush-full h k = simp (le-leb (pen .start + 2) (pen .count) (omega arith), le-ltb _ _ k)
 
   pub flush-keeps : 2 ≤ pen .count - pen .start → pen .lines < length (l .starts) →
-      afterwards (Down (penAt (pen .count) (pen .count) (pen .lines + 1))) (writeStart (pen .lines) (pen .start) l) ≡ pageAfter (flushPage (page l pen))
+      afterwards (Down (penAt (pen .count) (pen .count) (pen .lines + 1))) (writeStart (pen .lines) (pen .start) l)
+      ≡ pageAfter (flushPage (page l pen))
   unfolding flushPage kept
   flush-keeps h k = simp (le-leb (pen .start + 2) (pen .count) (omega arith), lt-ltb _ _ k)

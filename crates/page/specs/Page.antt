@@ -1,5 +1,7 @@
--- How a trace fills the lent lists, for the contracts of the inner functions: points are written in place, pending ones after the kept ones, and a flush
--- moves a count. What is said of the whole trace is in Trace.antt of `trace`; its proofs/ show that the two agree.
+-- Rules 8.1, 7.3 and 7.4: the lent lists of a trace; then, for inner contracts only, pushes and flushes as the code
+-- does them: points are written in place, pending ones after the kept ones, and a flush moves a count. Drawing.antt
+-- and Trace.antt of `trace` say the same without lists, for the open call; proofs/Agree.antt there shows that they
+-- agree.
 use mathlib.Core.Bool.{Bool, _&&_, cond}
 use mathlib.Core.List.{List}
 use Prim.Native.Nat.{ℕ, _+_, _-_, _*_, _/_, _≤_, min}
@@ -17,8 +19,9 @@ use Rattle.page.specs.declared.Penned.{Penned}
 use Rattle.page.specs.declared.Penned.the-variants.{Down, Stop}
 use Rattle.page.specs.Moves.{Move, Outcome, on, off, run}
 
--- ---- the lent lists of a trace
+-- ---- Rules 8.1: the lent lists of a trace
 
+-- x, y, z of each point; the number of each line's first point; p and q of each point; and t of each point
 pub record Lists : Type 0 where
   pub points : List Float
   pub starts : List ℕ
@@ -28,11 +31,14 @@ pub record Lists : Type 0 where
 abbrev pub lists : List Float → List ℕ → List ℕ → List Float → Lists
 lists p s d f = record { points = p; starts = s; sides = d; fractions = f }
 
--- how many points they can hold: a point takes three numbers, two and one, and a remainder too small for it holds none
+-- how many points they can hold: one takes three numbers of points, two of sides, one of fractions; what is left over
+-- holds none
 abbrev pub pointRoom : Lists → ℕ
 pointRoom l = min (length (l .points) / 3) (min (length (l .sides) / 2) (length (l .fractions)))
 
--- a point at its places
+-- ---- for inner contracts: one point, and one start, put in place
+
+-- a point at the places of number i: in the points, in the sides, and in all three lists
 abbrev pub writePoint : List Float → ℕ → Crossing → List Float
 writePoint l i c = set (set (set l (3 * i) (c .point .x)) (3 * i + 1) (c .point .y)) (3 * i + 2) (c .point .z)
 
@@ -46,8 +52,9 @@ writeAt i c l = lists (writePoint (l .points) i c) (l .starts) (writeSide (l .si
 abbrev pub writeStart : ℕ → ℕ → Lists → Lists
 writeStart i s l = lists (l .points) (set (l .starts) i s) (l .sides) (l .fractions)
 
--- ---- the lists, and where the pen stands in them
+-- ---- for inner contracts: the lists, and where the pen stands in them
 
+-- c points are written, the pending line starts at number s, and l lines are kept
 abbrev pub penAt : ℕ → ℕ → ℕ → Pen
 penAt c s l = record { count = c; start = s; lines = l }
 
@@ -64,32 +71,36 @@ hasRoom g = ltb (g .pen .count) (pointRoom (g .lists))
 
 -- there is a pending point, and the last one is close to c by a tolerance
 abbrev pub closeToPending : Float → Crossing → Page → Bool
-closeToPending tolerance c g = ltb (g .pen .start) (g .pen .count) && allClose (pointAt (g .lists .points) (g .pen .count - 1)) (c .point) tolerance
+closeToPending tolerance c g =
+    ltb (g .pen .start) (g .pen .count)
+    && allClose (pointAt (g .lists .points) (g .pen .count - 1)) (c .point) tolerance
 
 -- c as one more pending point
 unfoldable pub written : Crossing → Page → Page
 written c g = page (writeAt (g .pen .count) c (g .lists)) (penAt (g .pen .count + 1) (g .pen .start) (g .pen .lines))
 
--- `push_segment_point`: a point close to the last pending one is left out; 12 where a list is full
+-- Rules 7.3, 7.4, `push_segment_point`: a point that is close to the last pending one is left out; 12 if a list is full
 unfoldable pub pushPage : Float → Crossing → Page → Outcome Page
 pushPage tolerance c g = cond (closeToPending tolerance c g) (on g) (cond (hasRoom g) (on (written c g)) (off Full g))
 
--- the pending points become a line
+-- the pending line is kept
 unfoldable pub kept : Page → Page
-kept g = page (writeStart (g .pen .lines) (g .pen .start) (g .lists)) (penAt (g .pen .count) (g .pen .count) (g .pen .lines + 1))
+kept g =
+    page (writeStart (g .pen .lines) (g .pen .start) (g .lists))
+    (penAt (g .pen .count) (g .pen .count) (g .pen .lines + 1))
 
--- the pending points go
+-- the pending line goes
 unfoldable pub dropped : Page → Page
 dropped g = page (g .lists) (penAt (g .pen .start) (g .pen .start) (g .pen .lines))
 
--- `flush_segment`: two points or more are kept, 12 where the starts are full; fewer are dropped
+-- Rules 7.3, 7.4, `flush_segment`: two points or more are kept, 12 if the starts are full; fewer are dropped
 unfoldable pub flushPage : Page → Outcome Page
 flushPage g =
     cond (leb (g .pen .start + 2) (g .pen .count))
     (cond (ltb (g .pen .lines) (length (g .lists .starts))) (on (kept g)) (off Full g))
     (on (dropped g))
 
--- moves in order, on a page; points closer than EPS are left out
+-- moves in order, on a page, where close means by EPS
 abbrev pub onPage : List (Move Crossing) → Page → Outcome Page
 onPage = run (pushPage eps) flushPage
 

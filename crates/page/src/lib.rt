@@ -1,4 +1,4 @@
-// The lent lists as the walk fills them: points in place, pending ones after the kept ones.
+// The lent lists as the walk fills them (Rules 7.3, 7.4): points in place, pending ones after the kept ones.
 use crossing::Crossing;
 use refusal::Refusal;
 ghost use mathlib.Core.Bool.{cond};
@@ -33,7 +33,8 @@ fn write_crossing(
     i: usize,
     c: Crossing,
 )
-    requires { ⌜ (3 * i + 3 ≤ length (now points)) × (2 * i + 2 ≤ length (now sides)) × (i + 1 ≤ length (now fractions)) ⌝ }
+    requires { ⌜ (3 * i + 3 ≤ length (now points)) × (2 * i + 2 ≤ length (now sides))
+        × (i + 1 ≤ length (now fractions)) ⌝ }
     ensures { λ _. ⌜ ((starts : List ℕ) → lists (now (points .exit)) starts (now (sides .exit)) (now (fractions .exit))
         ≡ writeAt i c (lists (now (points .entry)) starts (now (sides .entry)) (now (fractions .entry)))) ⌝ }
 {
@@ -45,7 +46,7 @@ fn write_crossing(
     fractions[i] = c.t;
 }
 
-// The next pending point, unless it is close to the last one. The starts, which it leaves alone, are any.
+// One more pending point, unless it is close to the last one. The starts, which it leaves alone, are any.
 pub fn push_segment_point(
     points: &mut [f64],
     sides: &mut [usize],
@@ -54,8 +55,10 @@ pub fn push_segment_point(
     c: Crossing,
 ) -> Penned
     requires { ⌜ PenFits (now points) pen ⌝ }
-    ensures { λ r. ⌜ ((starts : List ℕ) → afterwards r (lists (now (points .exit)) starts (now (sides .exit)) (now (fractions .exit)))
-        ≡ pageAfter (pushPage eps c (page (lists (now (points .entry)) starts (now (sides .entry)) (now (fractions .entry))) pen))) ⌝ }
+    ensures { λ r. ⌜ ((starts : List ℕ) →
+        afterwards r (lists (now (points .exit)) starts (now (sides .exit)) (now (fractions .exit)))
+        ≡ pageAfter (pushPage eps c
+        (page (lists (now (points .entry)) starts (now (sides .entry)) (now (fractions .entry))) pen))) ⌝ }
 {
     let count = pen.count;
     if pen.start < count {
@@ -80,11 +83,12 @@ pub fn push_segment_point(
     })
 }
 
-// The pending points become a line, or go where they are fewer than two. The lists that it leaves alone are any.
+// The pending line is kept, or goes if it has fewer than two points. The lists that it leaves alone are any.
 pub fn flush_segment(starts: &mut [usize], pen: Pen) -> Penned
     requires { ⌜ pen .start ≤ pen .count ⌝ }
     ensures { λ r. ⌜ ((points : List Float) (sides : List ℕ) (fractions : List Float) →
-        afterwards r (lists points (now (starts .exit)) sides fractions) ≡ pageAfter (flushPage (page (lists points (now (starts .entry)) sides fractions) pen))) ⌝ }
+        afterwards r (lists points (now (starts .exit)) sides fractions)
+        ≡ pageAfter (flushPage (page (lists points (now (starts .entry)) sides fractions) pen))) ⌝ }
 {
     let count = pen.count;
     let start = pen.start;
@@ -112,7 +116,9 @@ pub fn flush_unless(inside: bool, starts: &mut [usize], pen: Pen) -> Penned
     requires { ⌜ pen .start ≤ pen .count ⌝ }
     ensures { λ r. ⌜ ((points : List Float) (sides : List ℕ) (fractions : List Float) →
         afterwards r (lists points (now (starts .exit)) sides fractions)
-        ≡ pageAfter (cond inside (on (page (lists points (now (starts .entry)) sides fractions) pen)) (flushPage (page (lists points (now (starts .entry)) sides fractions) pen)))) ⌝ }
+        ≡ pageAfter (cond inside
+        (on (page (lists points (now (starts .entry)) sides fractions) pen))
+        (flushPage (page (lists points (now (starts .entry)) sides fractions) pen)))) ⌝ }
 {
     if inside {
         return Penned::Down(pen);

@@ -1,5 +1,5 @@
--- The parameter plane. A ParamPoint is the two f64 u and v; a leg goes straight from one sample to the next; the cells of a grid are M steps in u and
--- N in v. References: `lerp`, `param_in_bounds`.
+-- Rules 6.1 and 6.2: ParamPoints and legs, the point of a leg at a lambda, and what is within EPS of the grid.
+-- Original: `lerp`, `param_in_bounds`.
 use mathlib.Core.Bool.{Bool, _&&_}
 use Prim.Native.Nat.{ℕ}
 use lib.Ieee.{Float, binary64, neg, le, add, sub, mul}
@@ -11,12 +11,15 @@ use Rattle.param.specs.declared.Cells.{Cells}
 use Rattle.param.specs.declared.Axis.{Axis}
 use Rattle.param.specs.declared.Axis.the-variants.{AxisU, AxisV}
 
+-- Rules 6.1: a ParamPoint of u and v
 abbrev pub param : Float → Float → ParamPoint
 param u v = record { u = u; v = v }
 
+-- Rules 6.1: the leg from a to b
 abbrev pub leg : ParamPoint → ParamPoint → Leg
 leg a b = record { a = a; b = b }
 
+-- the cells of a grid: m steps in u, n in v
 abbrev pub cells : ℕ → ℕ → Cells
 cells m n = record { m = m; n = n }
 
@@ -24,10 +27,11 @@ cells m n = record { m = m; n = n }
 abbrev pub between : Float → Float → Float → Float
 between a b t = add binary64 a (mul binary64 (sub binary64 b a) t)
 
+-- the same of u and of v
 abbrev pub lerp : ParamPoint → ParamPoint → Float → ParamPoint
 lerp a b t = param (between (a .u) (b .u) t) (between (a .v) (b .v) t)
 
--- the point of a leg at a lambda
+-- Rules 6.2: the point of a leg at lambda t
 abbrev pub onLeg : Leg → Float → ParamPoint
 onLeg l t = lerp (l .a) (l .b) t
 
@@ -53,6 +57,6 @@ stepsOff AxisV k = k .m
 unfoldable pub within : Float → Float → Bool
 within x top = le (neg eps) x && le x (add binary64 top eps)
 
--- within EPS of the grid
+-- Rules 6.2: a point within EPS of the grid, so u of 0 to M and v of 0 to N
 unfoldable pub paramInBounds : Cells → ParamPoint → Bool
 paramInBounds k p = within (p .u) (natFloat (k .m)) && within (p .v) (natFloat (k .n))

@@ -4,13 +4,14 @@ use float::consts::EPS;
 ghost use mathlib.Core.Path.{_≡_};
 ghost use Rattle.param.specs.Param.{lerp, along, across, onLeg, stepsOn, stepsOff, within, paramInBounds};
 
+// A point of the plane (Rules 6.1).
 #[repr(C)]
 pub struct ParamPoint {
     pub u: f64,
     pub v: f64,
 }
 
-// What lies between two samples that follow each other: it goes from a straight to b.
+// What lies between two points that follow each other in the samples, straight from a to b (Rules 6.1).
 pub struct Leg {
     pub a: ParamPoint,
     pub b: ParamPoint,
@@ -98,6 +99,7 @@ pub fn is_within(x: f64, top: f64) -> bool
     (-EPS <= x) & (x <= top + EPS)
 }
 
+// Within EPS of the grid (Rules 6.2).
 pub fn param_in_bounds(cells: Cells, point: ParamPoint) -> bool
     ensures { λ r. ⌜ r ≡ paramInBounds cells point ⌝ }
 {

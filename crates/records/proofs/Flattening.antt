@@ -1,4 +1,5 @@
--- Records put one after another into lists that are long enough stand flattened at their start.
+-- Records put one after another into lists that are long enough stand flattened at their start: each is put after those
+-- before it, and moves none of them.
 use mathlib.Core.Path.{_≡_, refl, sym, _∙_, ap}
 use Prim.Native.Nat.{ℕ, zero, suc, _+_, _*_, _<_, _≤_}
 use native.Mathlib.Nat.{le-refl}
@@ -34,7 +35,8 @@ marks-long ss ms (suc i) = length-cond (ltb i 65537) _ _ _ (simp length-set (mar
 
 -- ---- the flat lists of one record more
 
-pairs-snoc : (ss : List Sample) (s : Sample) → pairsOf (ss ++ s ∷ []) ≡ (pairsOf ss ++ s .point .u ∷ []) ++ s .point .v ∷ []
+pairs-snoc : (ss : List Sample) (s : Sample) →
+    pairsOf (ss ++ s ∷ []) ≡ (pairsOf ss ++ s .point .u ∷ []) ++ s .point .v ∷ []
 pairs-snoc [] s = refl
 pairs-snoc (t ∷ ss) s = rw (pairs-snoc ss s)
 
@@ -45,7 +47,8 @@ marks-snoc (t ∷ ss) s = rw (marks-snoc ss s)
 -- ---- the first i records, put into lists with room for them
 
 -- u and v at the two places after 2·i
-two-more : (ps : List Float) (i : ℕ) (u v : Float) → 2 * suc i ≤ length ps → take (2 * suc i) (set (set ps (2 * i) u) (2 * i + 1) v) ≡ (take (2 * i) ps ++ u ∷ []) ++ v ∷ []
+two-more : (ps : List Float) (i : ℕ) (u v : Float) → 2 * suc i ≤ length ps →
+    take (2 * suc i) (set (set ps (2 * i) u) (2 * i + 1) v) ≡ (take (2 * i) ps ++ u ∷ []) ++ v ∷ []
 two-more ps i u v k =
     let e : 2 * suc i ≡ suc (suc (2 * i)) = omega arith in
     let o : 2 * i + 1 ≡ suc (2 * i) = omega arith in
@@ -54,25 +57,38 @@ two-more ps i u v k =
     rw (e, o, take-suc-set (set ps (2 * i) u) (suc (2 * i)) v far, take-suc-set ps (2 * i) u near)
 
 module _ (ss : List Sample) (few : length ss ≤ 65537) where
-  pairs-first : (ps : List Float) → length ps ≡ 131074 → (i : ℕ) → i ≤ length ss → take (2 * i) (pairsUpTo ss ps i) ≡ pairsOf (take i ss)
+  pairs-first : (ps : List Float) → length ps ≡ 131074 → (i : ℕ) → i ≤ length ss →
+      take (2 * i) (pairsUpTo ss ps i) ≡ pairsOf (take i ss)
   pairs-first ps lp zero h = refl
   pairs-first ps lp (suc i) h =
       let s : Sample = getD ss i nowhere in
       let room : 2 * suc i ≤ length (pairsUpTo ss ps i) = rw (pairs-long ss ps i, lp) (omega arith) in
       let in-range : ltb i 65537 ≡ true = lt-ltb i 65537 (omega arith) in
-      rw (in-range, two-more (pairsUpTo ss ps i) i (s .point .u) (s .point .v) room, pairs-first ps lp i (omega arith), take-suc ss i nowhere h) (sym (pairs-snoc (take i ss) s))
+      rw (
+        in-range,
+        two-more (pairsUpTo ss ps i) i (s .point .u) (s .point .v) room,
+        pairs-first ps lp i (omega arith),
+        take-suc ss i nowhere h,
+      ) (sym (pairs-snoc (take i ss) s))
 
-  marks-first : (ms : List ℕ) → length ms ≡ 65537 → (i : ℕ) → i ≤ length ss → take i (marksUpTo ss ms i) ≡ marksOf (take i ss)
+  marks-first : (ms : List ℕ) → length ms ≡ 65537 → (i : ℕ) → i ≤ length ss →
+      take i (marksUpTo ss ms i) ≡ marksOf (take i ss)
   marks-first ms lm zero h = refl
   marks-first ms lm (suc i) h =
       let s : Sample = getD ss i nowhere in
       let room : i < length (marksUpTo ss ms i) = rw (marks-long ss ms i, lm) (omega arith) in
       let in-range : ltb i 65537 ≡ true = lt-ltb i 65537 (omega arith) in
-      rw (in-range, take-suc-set (marksUpTo ss ms i) i (s .mark) room, marks-first ms lm i (omega arith), take-suc ss i nowhere h) (sym (marks-snoc (take i ss) s))
+      rw (
+        in-range,
+        take-suc-set (marksUpTo ss ms i) i (s .mark) room,
+        marks-first ms lm i (omega arith),
+        take-suc ss i nowhere h,
+      ) (sym (marks-snoc (take i ss) s))
 
 -- ---- all of them
 
-pub flattened : (ss : List Sample) (ps : List Float) (ms : List ℕ) → length ps ≡ 131074 → length ms ≡ 65537 → Flattened ss (pairsUpTo ss ps (length ss)) (marksUpTo ss ms (length ss))
+pub flattened : (ss : List Sample) (ps : List Float) (ms : List ℕ) → length ps ≡ 131074 → length ms ≡ 65537 →
+    Flattened ss (pairsUpTo ss ps (length ss)) (marksUpTo ss ms (length ss))
 flattened ss ps ms lp lm few = (
   pairs-first ss few ps lp (length ss) (le-refl (length ss)) ∙ ap pairsOf (take-length ss),
   marks-first ss few ms lm (length ss) (le-refl (length ss)) ∙ ap marksOf (take-length ss),

@@ -1,4 +1,5 @@
--- Two steps of a walk: where a contract has two clauses, both are shown at the exit; and a local that is passed or read whole. Assumes `Given`.
+-- Two rules for going through MIR: where a contract has two clauses, both are shown at the exit; and a local that is
+-- passed or read whole. Both take `Given` as an argument.
 use mathlib.Core.Path.{_≡_}
 use mathlib.Core.List.{List, []}
 use Prim.Native.Nat.{ℕ}
@@ -15,11 +16,16 @@ use types.Run.{Opd, load, look, from, stop}
 use denote.Triple.Walked.{says}
 
 module _ {M : Type 1} {𝓤 : URA M} {H : Heap 𝓤} {A : Atoms 𝓤} {K : Type 0} {W : Given 𝓤 H A} {Γ : List (Item 𝓤)} where
-  pub says-both : K → {φ ψ : Type 0} {P : SProp 𝓤} → φ → ψ → Step K W Γ (prop P) Γ (prop (sep 𝓤 P (sep 𝓤 (fact 𝓤 φ) (fact 𝓤 ψ))))
+  pub says-both : K → {φ ψ : Type 0} {P : SProp 𝓤} → φ → ψ →
+      Step K W Γ (prop P) Γ (prop (sep 𝓤 P (sep 𝓤 (fact 𝓤 φ) (fact 𝓤 ψ))))
   says-both t {φ} {ψ} {P} x y =
-      step (λ s. record { prf = via 𝓤 (sep 𝓤 (sep 𝓤 P (fact 𝓤 φ)) (fact 𝓤 ψ)) ((says t y $ says t x $ s) .prf) (assoc∗ 𝓤 P (fact 𝓤 φ) (fact 𝓤 ψ)) })
+      step (λ s. record {
+        prf = via 𝓤 (sep 𝓤 (sep 𝓤 P (fact 𝓤 φ)) (fact 𝓤 ψ)) ((says t y $ says t x $ s) .prf)
+            (assoc∗ 𝓤 P (fact 𝓤 φ) (fact 𝓤 ψ));
+      })
 
   -- local i, whose cell is thing k of the context
   pub local : {E : Env 𝓤 H} → K → (k : ℕ) {i : ℕ} {q : Share} {v : Val} →
-      nth 𝓤 H A k Γ ≡ ‵ (fat q (spotOf 𝓤 H E i .0) (spotOf 𝓤 H E i .1) (spotOf 𝓤 H E i .2) v) → Opd K W Γ E (copy (place i [])) v
+      nth 𝓤 H A k Γ ≡ ‵ (fat q (spotOf 𝓤 H E i .0) (spotOf 𝓤 H E i .1) (spotOf 𝓤 H E i .2) v) →
+      Opd K W Γ E (copy (place i [])) v
   local t k e = load t (from t (stop t)) (look t k e)

@@ -1,10 +1,11 @@
--- The two lists of zeros that `trace_samples` makes: their types, their elements and machine values, and what they own. They stay shut, so that no proof spells 131,074 elements out.
+-- The two lists of zeros that `trace_samples` makes: their types, their elements and machine values, and what they own.
+-- They stay shut, so that no proof spells 131,074 elements out.
 --     F, B, AF, AB     the types of the list of floats and of the list of bytes, and their MIR types
 --     xF, xB, vF, vB   their elements, and their machine values
 --     lF, lB           how many elements they have
---     fills            the step `a = [x; n]` of a walk, at an n that is not looked into
+--     fills            the statement `a = [x; n]`, at an n that is not looked into
 --     owned-F, owned-B what they own is had for nothing
--- `fills` and what follows it assume `Given`. The rest assumes nothing.
+-- `fills` and what follows it take `Given` as an argument.
 use mathlib.Core.Path.{_≡_, refl, subst}
 use Prim.Native.Nat.{ℕ, zero, suc}
 use mathlib.Core.List.{List, [], _∷_}
@@ -80,25 +81,40 @@ pub lB : length xB ≡ 65537
 lB = length-copies 65537 0
 
 -- n times a value of the type τ is an array of it
-all-typed : (τ : Ty) (n : ℕ) (v : Val) → T (hasTy τ v) × WT v → T (allN (hasTy τ) n (ofList (replicate n v))) × WTs (ofList (replicate n v))
+all-typed : (τ : Ty) (n : ℕ) (v : Val) → T (hasTy τ v) × WT v →
+    T (allN (hasTy τ) n (ofList (replicate n v))) × WTs (ofList (replicate n v))
 all-typed τ zero v t = (tt, tt)
-all-typed τ (suc n) v t = let rest = all-typed τ n v t in (both (hasTy τ v) (allN (hasTy τ) n (ofList (replicate n v))) (t .0) (rest .0), (t .1, rest .1))
+all-typed τ (suc n) v t =
+    let rest = all-typed τ n v t in (
+      both (hasTy τ v) (allN (hasTy τ) n (ofList (replicate n v))) (t .0) (rest .0),
+      (t .1, rest .1),
+    )
 
-module _ {M : Type 1} {𝓤 : URA M} {H : Heap 𝓤} {A : Atoms 𝓤} {K : Type 0} {W : Given 𝓤 H A} {Γ : List (Item 𝓤)} {E : Env 𝓤 H} {C : Calls 𝓤 H} {Λ : Loops 𝓤 H} {q : Post 𝓤 H} where
+module _ {M : Type 1} {𝓤 : URA M} {H : Heap 𝓤} {A : Atoms 𝓤} {K : Type 0} {W : Given 𝓤 H A} {Γ : List (Item 𝓤)}
+    {E : Env 𝓤 H} {C : Calls 𝓤 H} {Λ : Loops 𝓤 H} {q : Post 𝓤 H} where
   pub fills : K → (n : ℕ) (τ : Ty) {v : Val} {x : Operand} {i b : ℕ} {rest : Body}
-      → Opd K W Γ E x v → spotOf 𝓤 H E i ≡ (tyArray τ n, b, 0) → (k : ℕ) → nth 𝓤 H A k Γ ≡ ‵ (froom (tyArray τ n) b 0) → T (hasTy τ v) × WT v
-      → Step K W (put 𝓤 H A k (‵ (fat fullShare (tyArray τ n) b 0 (times n v))) Γ) (runs C Λ E rest q) Γ (runs C Λ E (seq (assign (place i []) (repeat x n)) rest) q)
+      → Opd K W Γ E x v → spotOf 𝓤 H E i ≡ (tyArray τ n, b, 0) → (k : ℕ) →
+      nth 𝓤 H A k Γ ≡ ‵ (froom (tyArray τ n) b 0) → T (hasTy τ v) × WT v
+      → Step K W (put 𝓤 H A k (‵ (fat fullShare (tyArray τ n) b 0 (times n v))) Γ) (runs C Λ E rest q) Γ
+      (runs C Λ E (seq (assign (place i []) (repeat x n)) rest) q)
   unfolding times
-  fills t n τ {v} {x} {i} {b} o e k at wt = assigns t (rep t n o) (subst (λ (sp : Spot 𝓤 H). Finds K W Γ E (place i []) sp) e (from t (stop t))) (init t k at (all-typed τ n v wt))
+  fills t n τ {v} {x} {i} {b} o e k at wt =
+      assigns t (rep t n o) (subst (λ (sp : Spot 𝓤 H). Finds K W Γ E (place i []) sp) e (from t (stop t)))
+      (init t k at (all-typed τ n v wt))
 
 module _ {M : Type 1} (𝓤 : URA M) (H : Heap 𝓤) (A : Atoms 𝓤) (W : Given 𝓤 H A) where
   -- an element that is owned and can be copied gives n of them, at an n that is not looked into
-  many : (R : RattleType) → Copy 𝓤 H A R → (n : ℕ) (x : R .Denot) (u : Val) → ent 𝓤 (sem 𝓤 H A (R .own x (u ∷ []))) (sem 𝓤 H A (Array R n .own (copies n x) (times n u ∷ [])))
+  many : (R : RattleType) → Copy 𝓤 H A R → (n : ℕ) (x : R .Denot) (u : Val) →
+      ent 𝓤 (sem 𝓤 H A (R .own x (u ∷ []))) (sem 𝓤 H A (Array R n .own (copies n x) (times n u ∷ [])))
   unfolding copies times
   many R copy n x u = array-repeat 𝓤 H A W R copy n x u
 
   pub owned-F : ent 𝓤 (emp 𝓤) (sem 𝓤 H A (F .own xF (vF ∷ [])))
-  owned-F = qed W [] ∵ owned ! f64 (Is f64) (float-makes 𝓤 H A W binary64) z _ (refl, zero-fits) $ use1 W (‵ (F .own xF (vF ∷ []))) (many f64 (float-copy 𝓤 H A W binary64) 131074 z uF) $ done !
+  owned-F =
+      qed W [] ∵ owned ! f64 (Is f64) (float-makes 𝓤 H A W binary64) z _ (refl, zero-fits) $
+      use1 W (‵ (F .own xF (vF ∷ []))) (many f64 (float-copy 𝓤 H A W binary64) 131074 z uF) $ done !
 
   pub owned-B : ent 𝓤 (emp 𝓤) (sem 𝓤 H A (B .own xB (vB ∷ [])))
-  owned-B = qed W [] ∵ owned ! u8 (Is u8) (uint-makes 𝓤 H A W w8) 0 _ (refl, lit< tt) $ use1 W (‵ (B .own xB (vB ∷ []))) (many u8 (uint-copy 𝓤 H A W w8) 65537 0 (vint w8 0)) $ done !
+  owned-B =
+      qed W [] ∵ owned ! u8 (Is u8) (uint-makes 𝓤 H A W w8) 0 _ (refl, lit< tt) $
+      use1 W (‵ (B .own xB (vB ∷ []))) (many u8 (uint-copy 𝓤 H A W w8) 65537 0 (vint w8 0)) $ done !

@@ -1,4 +1,4 @@
--- Records flattened in place, one after another, into two lists of fixed length. It serves inner contracts only.
+-- For inner contracts only: records flattened in place, one after another, into two lists of fixed length.
 use mathlib.Core.Bool.{cond}
 use mathlib.Core.Path.{_≡_}
 use Prim.Native.Nat.{ℕ, zero, suc, _+_, _*_, _≤_}

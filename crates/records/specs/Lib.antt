@@ -1,3 +1,4 @@
--- The samples of a trace as a list of records.
+-- Records says what the contract of the open call, `trace_samples`, cites: Rules 6.1. Flattened serves inner contracts
+-- only.
 pub mod Records
 pub mod Flattened

@@ -1,5 +1,5 @@
-// The trace of samples that are a list of records: they are flattened into pairs and marks, which the
-// flat trace takes.
+// The second entry of a trace (Rules 6.1): its samples are records, which are flattened into pairs and marks for the
+// flat trace.
 use param::ParamPoint;
 use refusal::Refusal;
 use trace::flat::Trace;
@@ -19,7 +19,7 @@ ghost use Rattle.records.specs.Flattened.{putPair, putMark, pairsUpTo, m
 // Two for each of MAX_MARKS.
 const MAX_NUMBERS: usize = 131074;
 
-// One sample: the mark 1 and a point, or the mark 0 of a break, whose point is not looked at.
+// A record: the mark 1 and a point, or the mark 0 of a break, whose point is not looked at.
 #[repr(C)]
 pub struct Sample {
     pub mark: u8,
@@ -41,8 +41,10 @@ fn put_sample(pairs: &mut [f64; MAX_NUMBERS], marks: &mut [u8; MAX_MARKS], i: us
 
 // A slice of structs is read here alone.
 fn flatten(samples: &[Sample], pairs: &mut [f64; MAX_NUMBERS], marks: &mut [u8; MAX_MARKS])
-    ensures { λ _. ⌜ (now (pairs .exit) ≡ pairsUpTo (now (samples .entry)) (now (pairs .entry)) (length (now (samples .entry))))
-        × (now (marks .exit) ≡ marksUpTo (now (samples .entry)) (now (marks .entry)) (length (now (samples .entry)))) ⌝ }
+    ensures { λ _. ⌜ (now (pairs .exit)
+        ≡ pairsUpTo (now (samples .entry)) (now (pairs .entry)) (length (now (samples .entry))))
+        × (now (marks .exit)
+        ≡ marksUpTo (now (samples .entry)) (now (marks .entry)) (length (now (samples .entry)))) ⌝ }
 {
     let mut i: usize = 0;
     while i < samples.len() {
@@ -67,7 +69,8 @@ fn trace_flattened(
     fractions: &mut [f64],
 ) -> Trace
     ensures { λ r. ⌜ ((ss : List Record) → length ss ≡ count → Flattened ss (now (pairs .entry)) (now (marks .entry)) →
-        afterwards (statedTrace r) (lists (now (points .exit)) (now (starts .exit)) (now (sides .exit)) (now (fractions .exit)))
+        afterwards (statedTrace r)
+        (lists (now (points .exit)) (now (starts .exit)) (now (sides .exit)) (now (fractions .exit)))
         ≡ traceFlat (now (grid .entry)) m n (pairsOf ss) (marksOf ss)
         (lists (now (points .entry)) (now (starts .entry)) (now (sides .entry)) (now (fractions .entry)))) ⌝ }
 {
@@ -107,7 +110,8 @@ pub fn trace_samples(
     sides: &mut [usize],
     fractions: &mut [f64],
 ) -> Trace
-    ensures answer { λ r. ⌜ afterwards (statedTrace r) (lists (now (points .exit)) (now (starts .exit)) (now (sides .exit)) (now (fractions .exit)))
+    ensures answer { λ r. ⌜ afterwards (statedTrace r)
+        (lists (now (points .exit)) (now (starts .exit)) (now (sides .exit)) (now (fractions .exit)))
         ≡ traceFlat (now (grid .entry)) m n (pairsOf (now (samples .entry))) (marksOf (now (samples .entry)))
         (lists (now (points .entry)) (now (starts .entry)) (now (sides .entry)) (now (fractions .entry))) ⌝ }
     ensures demand { λ _. ⌜ Demand3 (now (grid .entry)) m n ⌝ }

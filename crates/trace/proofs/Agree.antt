@@ -1,5 +1,6 @@
--- The lists filled in place and the moves drawn agree: the page shows the drawing from the first move to the last, since each push and each flush leaves it
--- so. A trace ends with a flush, so nothing is pending, and the lists, zeroed past the counts, are those of `finished`.
+-- The lists filled in place and the moves drawn agree: the page shows the drawing from the first move to the last,
+-- since each push and each flush leaves it so. A trace ends with a flush, so nothing is pending, and the lists,
+-- zeroed past the counts, are those of `finished`.
 use mathlib.Core.Path.{_≡_, refl, ap, _∙_}
 use mathlib.Core.Bool.{Bool, true, false, cond}
 use mathlib.Core.List.{List, [], _∷_, _++_, append-nil}
@@ -21,7 +22,8 @@ use Rattle.page.specs.Page.{Lists, lists, Page, penAt, page, pushPage, flushPag
 use Rattle.page.proofs.Moves.{run-append, run-one, Any, any-pushed, Related, both-on, both-off, run-related}
 use Rattle.trace.specs.declared.curve.Previous.{Previous}
 use Rattle.trace.specs.Curve.{Sample, afterSample, visitOf, visitMoves, traceMoves}
-use Rattle.trace.specs.Drawing.{Drawing, drawing, nothingDrawn, Room, roomIn, pushSegmentPoint, flushSegment, draw}
+use Rattle.trace.specs.Drawing.{Drawing, drawing, nothingDrawn, Room, roomIn, pushSegmentPoint, flushSegment}
+use Rattle.trace.specs.Drawing.{draw}
 use Rattle.trace.specs.Trace.{statedTrace, pointOf, sideOf, fractionOf, inTurn, finished}
 use Rattle.trace.specs.Ended.{countIn, linesIn, answerOf}
 use Rattle.trace.proofs.Turns.{Holds, length-turn}
@@ -47,9 +49,11 @@ first-shows l =
     }
 
 -- both, from the first move to the last
-moves-related : (l : Lists) (ms : List (Move Crossing)) → Related (Shows l) (SizedPage l) (onPage ms (firstPage l)) (draw (roomIn l) ms nothingDrawn)
+moves-related : (l : Lists) (ms : List (Move Crossing)) →
+    Related (Shows l) (SizedPage l) (onPage ms (firstPage l)) (draw (roomIn l) ms nothingDrawn)
 moves-related l ms =
-    run-related Any (Shows l) (SizedPage l) (pushPage eps) flushPage (pushSegmentPoint eps (roomIn l)) (flushSegment (roomIn l))
+    run-related Any (Shows l) (SizedPage l) (pushPage eps) flushPage (pushSegmentPoint eps (roomIn l))
+    (flushSegment (roomIn l))
     (λ s t r. r .sized)
     (λ c good s t r. push-related l s t r eps c)
     (λ s t r. flush-related l s t r)
@@ -63,54 +67,77 @@ flush-ends : (room : Room) (d : Drawing) → NonePending (flushSegment room d)
 unfolding flushSegment
 flush-ends room d = go (leb 2 (length (d .segment))) (ltb (length (d .starts)) (room .lines))
   where
-    go : (a b : Bool) → NonePending (cond a (cond b (on (drawing (d .drawn ++ d .segment) (d .starts ++ (length (d .drawn) ∷ [])) [])) (off Full d)) (on (drawing (d .drawn) (d .starts) [])))
+    go : (a b : Bool) → NonePending (cond a
+        (cond b (on (drawing (d .drawn ++ d .segment) (d .starts ++ (length (d .drawn) ∷ [])) [])) (off Full d))
+        (on (drawing (d .drawn) (d .starts) [])))
     go true true = refl
     go true false = tt
     go false b = refl
 
-follow-ends : (x : Outcome Drawing) (k : Drawing → Outcome Drawing) → ((d : Drawing) → NonePending (k d)) → NonePending (follow x k)
+follow-ends : (x : Outcome Drawing) (k : Drawing → Outcome Drawing) → ((d : Drawing) → NonePending (k d)) →
+    NonePending (follow x k)
 follow-ends (on d) k h = h d
 follow-ends (off r d) k h = tt
 
-trace-flushed : (room : Room) (g : List Float) (k : Cells) (xs : List Sample) (p : Previous) (d : Drawing) → NonePending (draw room (traceMoves g k xs p) d)
+trace-flushed : (room : Room) (g : List Float) (k : Cells) (xs : List Sample) (p : Previous) (d : Drawing) →
+    NonePending (draw room (traceMoves g k xs p) d)
 unfolding traceMoves
 trace-flushed room g k [] p d = rw (run-one (pushSegmentPoint eps room) (flushSegment room) flush d) (flush-ends room d)
 trace-flushed room g k (x ∷ xs) p d =
-    rw (run-append (pushSegmentPoint eps room) (flushSegment room) (visitMoves g k (visitOf p x)) (traceMoves g k xs (afterSample x)) d)
-    (follow-ends (draw room (visitMoves g k (visitOf p x)) d) (draw room (traceMoves g k xs (afterSample x))) (trace-flushed room g k xs (afterSample x)))
+    rw (run-append (pushSegmentPoint eps room) (flushSegment room) (visitMoves g k (visitOf p x))
+    (traceMoves g k xs (afterSample x)) d)
+    (follow-ends (draw room (visitMoves g k (visitOf p x)) d) (draw room (traceMoves g k xs (afterSample x)))
+    (trace-flushed room g k xs (afterSample x)))
 
 -- what the open call is left to do: zero each list past its count
 abbrev pub zeroedPast : ℕ → ℕ → Lists → Lists
 zeroedPast count lines l =
-    lists (zeroedFrom zero64 (3 * count) (l .points)) (zeroedFrom 0 lines (l .starts)) (zeroedFrom 0 (2 * count) (l .sides)) (zeroedFrom zero64 count (l .fractions))
+    lists (zeroedFrom zero64 (3 * count) (l .points)) (zeroedFrom 0 lines (l .starts))
+    (zeroedFrom 0 (2 * count) (l .sides)) (zeroedFrom zero64 count (l .fractions))
 
 -- a list whose front holds these points, zeroed past them
-zeroed-turn : {A : Type 0} (z : A) (w : ℕ) (f : Crossing → List A) (wide : (c : Crossing) → length (f c) ≡ w) (l lent : List A) (cs : List Crossing) (k : ℕ)
+zeroed-turn : {A : Type 0} (z : A) (w : ℕ) (f : Crossing → List A) (wide : (c : Crossing) → length (f c) ≡ w)
+    (l lent : List A) (cs : List Crossing) (k : ℕ)
     → length l ≡ length lent → Holds w f l cs → k ≡ w * length cs → zeroedFrom z k l ≡ filled z (inTurn f cs) lent
 zeroed-turn z w f wide l lent cs k s h e =
     let n : length (inTurn f cs) ≡ w * length cs = length-turn w f wide cs in
     rw (e, ← n) (zeroed-filled z (inTurn f cs) l lent s (rw n h))
 
 -- what the walk in place leaves, where the page shows a drawing in which nothing is pending
-ended : (l : Lists) {x : Outcome Page} {y : Outcome Drawing} → Related (Shows l) (SizedPage l) x y → NonePending y → {r : Penned} {m : Lists} → afterwards r m ≡ pageAfter x
+ended : (l : Lists) {x : Outcome Page} {y : Outcome Drawing} → Related (Shows l) (SizedPage l) x y → NonePending y →
+    {r : Penned} {m : Lists} → afterwards r m ≡ pageAfter x
     → afterwards (statedTrace (answerOf r)) (zeroedPast (countIn r) (linesIn r) m) ≡ finished y l
 ended l (both-on {s = g} {t = d} h) e u =
     let all-drawn : all d ≡ d .drawn = rw e (append-nil (d .drawn)) in
     let n : g .pen .count ≡ length (d .drawn) = omega (arith, h .count, ap length e) in
-    let points = zeroed-turn zero64 3 pointOf (λ c. refl) (g .lists .points) (l .points) (d .drawn) (3 * g .pen .count) (h .sized .points) (rw all-drawn at (h .points)) (omega arith) in
-    let starts : zeroedFrom 0 (g .pen .lines) (g .lists .starts) ≡ filled 0 (d .starts) (l .starts) = rw (h .lines) (zeroed-filled 0 (d .starts) (g .lists .starts) (l .starts) (h .sized .starts) (h .starts)) in
-    let sides = zeroed-turn 0 2 sideOf (λ c. refl) (g .lists .sides) (l .sides) (d .drawn) (2 * g .pen .count) (h .sized .sides) (rw all-drawn at (h .sides)) (omega arith) in
-    let fractions = zeroed-turn zero64 1 fractionOf (λ c. refl) (g .lists .fractions) (l .fractions) (d .drawn) (g .pen .count) (h .sized .fractions) (rw all-drawn at (h .fractions)) (omega arith) in
+    let points =
+    zeroed-turn zero64 3 pointOf (λ c. refl) (g .lists .points) (l .points) (d .drawn) (3 * g .pen .count)
+    (h .sized .points) (rw all-drawn at (h .points)) (omega arith) in
+    let starts : zeroedFrom 0 (g .pen .lines) (g .lists .starts) ≡ filled 0 (d .starts) (l .starts) =
+    rw (h .lines) (zeroed-filled 0 (d .starts) (g .lists .starts) (l .starts) (h .sized .starts) (h .starts)) in
+    let sides =
+    zeroed-turn 0 2 sideOf (λ c. refl) (g .lists .sides) (l .sides) (d .drawn) (2 * g .pen .count)
+    (h .sized .sides) (rw all-drawn at (h .sides)) (omega arith) in
+    let fractions =
+    zeroed-turn zero64 1 fractionOf (λ c. refl) (g .lists .fractions) (l .fractions) (d .drawn) (g .pen .count)
+    (h .sized .fractions) (rw all-drawn at (h .fractions)) (omega arith) in
     rw (same-answer u, same-lists u, points, starts, sides, fractions, n, h .lines)
 ended l (both-off {s = g} h) e u =
-    let points = zeroed-turn zero64 3 pointOf (λ c. refl) (g .lists .points) (l .points) [] 0 (h .points) (unfold inTurn in refl) refl in
+    let points =
+    zeroed-turn zero64 3 pointOf (λ c. refl) (g .lists .points) (l .points) [] 0 (h .points)
+    (unfold inTurn in refl) refl in
     let starts = zeroed-filled 0 [] (g .lists .starts) (l .starts) (h .starts) refl in
-    let sides = zeroed-turn 0 2 sideOf (λ c. refl) (g .lists .sides) (l .sides) [] 0 (h .sides) (unfold inTurn in refl) refl in
-    let fractions = zeroed-turn zero64 1 fractionOf (λ c. refl) (g .lists .fractions) (l .fractions) [] 0 (h .fractions) (unfold inTurn in refl) refl in
+    let sides =
+    zeroed-turn 0 2 sideOf (λ c. refl) (g .lists .sides) (l .sides) [] 0 (h .sides) (unfold inTurn in refl) refl in
+    let fractions =
+    zeroed-turn zero64 1 fractionOf (λ c. refl) (g .lists .fractions) (l .fractions) [] 0 (h .fractions)
+    (unfold inTurn in refl) refl in
     rw (same-answer u, same-lists u, points, starts, sides, fractions)
 
 -- THE LAW: from what the inner walk ensures to what the open call promises
 pub trace-ends : (l : Lists) (g : List Float) (k : Cells) (xs : List Sample) (p : Previous) {r : Penned} {m : Lists}
     → afterwards r m ≡ pageAfter (onPage (traceMoves g k xs p) (firstPage l))
-    → afterwards (statedTrace (answerOf r)) (zeroedPast (countIn r) (linesIn r) m) ≡ finished (draw (roomIn l) (traceMoves g k xs p) nothingDrawn) l
-trace-ends l g k xs p u = ended l (moves-related l (traceMoves g k xs p)) (trace-flushed (roomIn l) g k xs p nothingDrawn) u
+    → afterwards (statedTrace (answerOf r)) (zeroedPast (countIn r) (linesIn r) m)
+    ≡ finished (draw (roomIn l) (traceMoves g k xs p) nothingDrawn) l
+trace-ends l g k xs p u =
+    ended l (moves-related l (traceMoves g k xs p)) (trace-flushed (roomIn l) g k xs p nothingDrawn) u

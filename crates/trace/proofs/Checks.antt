@@ -1,4 +1,4 @@
--- `traceCheck` by the tests of the code, and what a trace that passes it is known by.
+-- `traceCheck` by the tests of the code, which come in its order; and what a trace that passes it is known by.
 use mathlib.Core.Path.{_≡_, refl}
 use mathlib.Core.Bool.{Bool, true, false, _&&_, _||_}
 use mathlib.Core.List.{List}
@@ -53,7 +53,8 @@ marks-end ks i h = rw (drop-of-length-le ks h)
 
 module _ (ps : List Float) (ks : List ℕ) (i : ℕ) (h : i < length ks) (e : length ps ≡ 2 * length ks) where
   pair-here : pairsFit (drop (2 * i) ps) (drop i ks)
-      ≡ ((eqb (getD ks i 0) 0 || (atMost (getD ps (2 * i) nan) maxSample && atMost (getD ps (2 * i + 1) nan) maxSample)) && pairsFit (drop (2 * (i + 1)) ps) (drop (i + 1) ks))
+      ≡ ((eqb (getD ks i 0) 0 || (atMost (getD ps (2 * i) nan) maxSample
+      && atMost (getD ps (2 * i + 1) nan) maxSample)) && pairsFit (drop (2 * (i + 1)) ps) (drop (i + 1) ks))
   unfolding pairsFit
   pair-here =
       let a : 2 * i < length ps = omega arith in
@@ -62,8 +63,11 @@ module _ (ps : List Float) (ks : List ℕ) (i : ℕ) (h : i < length ks) (e : le
       let o : 2 * i + 1 ≡ suc (2 * i) = omega arith in
       rw (q, o, add-one, drop-cons ks i 0, drop-cons ps (2 * i) nan, drop-cons ps (suc (2 * i)) nan)
 
-  module _ {r : Bool} (er : r ≡ (eqb (getD ks i 0) 0 || (atMost (getD ps (2 * i) nan) maxSample && atMost (getD ps (2 * i + 1) nan) maxSample))) where
-    pub pair-fits : r ≡ true → pairsFit (drop (2 * i) ps) (drop i ks) ≡ pairsFit (drop (2 * (i + 1)) ps) (drop (i + 1) ks)
+  module _ {r : Bool} (er : r
+      ≡ (eqb (getD ks i 0) 0 || (atMost (getD ps (2 * i) nan) maxSample
+      && atMost (getD ps (2 * i + 1) nan) maxSample))) where
+    pub pair-fits : r ≡ true → pairsFit (drop (2 * i) ps) (drop i ks)
+        ≡ pairsFit (drop (2 * (i + 1)) ps) (drop (i + 1) ks)
     pair-fits t = rw (pair-here, ← er, t)
 
     pub pair-wrong : r ≡ false → pairsFit (drop (2 * i) ps) (drop i ks) ≡ false
@@ -83,22 +87,30 @@ module _ (pairs : List Float) (marks : List ℕ) where
       go true = rw (lt-leb (length marks) 65537 h)
       go false = refl
 
-  pub pairs-other : (length pairs ≡ 2 * length marks → ⊥) → Failed Length ≡ unless (samplesLengthFits pairs marks) Length Passed
+  pub pairs-other : (length pairs ≡ 2 * length marks → ⊥) →
+      Failed Length ≡ unless (samplesLengthFits pairs marks) Length Passed
   pairs-other h = rw (ne-eqb (length pairs) (2 * length marks) h)
 
-  pub lengths-fit : length marks ≤ 65537 → length pairs ≡ 2 * length marks → Passed ≡ unless (samplesLengthFits pairs marks) Length Passed
+  pub lengths-fit : length marks ≤ 65537 → length pairs ≡ 2 * length marks →
+      Passed ≡ unless (samplesLengthFits pairs marks) Length Passed
   lengths-fit short twice = rw (eq-eqb (length pairs) (2 * length marks) twice, le-leb (length marks) 65537 short)
 
   -- lengths that fit, by the grid's tests with theirs between
-  passed-lengths : (g : List Float) (m n : ℕ) → gridCheck g m n (unless (samplesLengthFits pairs marks) Length Passed) ≡ Passed → (length pairs ≡ 2 * length marks) × (length marks ≤ 65537)
+  passed-lengths : (g : List Float) (m n : ℕ) →
+      gridCheck g m n (unless (samplesLengthFits pairs marks) Length Passed) ≡ Passed →
+      (length pairs ≡ 2 * length marks) × (length marks ≤ 65537)
   passed-lengths g m n h =
       let own = grid-passed g m n (unless (samplesLengthFits pairs marks) Length Passed) h .own in
-      let l = and-both (eqb (length pairs) (2 * length marks)) (leb (length marks) 65537) (unless-passed (samplesLengthFits pairs marks) Length Passed own .0) in
+      let l =
+      and-both (eqb (length pairs) (2 * length marks)) (leb (length marks) 65537)
+      (unless-passed (samplesLengthFits pairs marks) Length Passed own .0) in
       (eqb-true (length pairs) (2 * length marks) (l .0), leb-true (length marks) 65537 (l .1))
 
 module _ (g : List Float) (m n : ℕ) (pairs : List Float) (marks : List ℕ) where
-  module _ {lengths c : Check} (el : lengths ≡ unless (samplesLengthFits pairs marks) Length Passed) (ec : c ≡ gridCheck g m n lengths) where
-    check-is : traceCheck g m n pairs marks ≡ andThen c (unless (marksFit marks) Mark (unless (pairsFit pairs marks) Sample Passed))
+  module _ {lengths c : Check} (el : lengths ≡ unless (samplesLengthFits pairs marks) Length Passed)
+      (ec : c ≡ gridCheck g m n lengths) where
+    check-is : traceCheck g m n pairs marks
+        ≡ andThen c (unless (marksFit marks) Mark (unless (pairsFit pairs marks) Sample Passed))
     unfolding traceCheck
     check-is = rw (← el, ← ec)
 
@@ -113,17 +125,21 @@ module _ (g : List Float) (m n : ℕ) (pairs : List Float) (marks : List ℕ) wh
       pub mark-refused : marksFit marks ≡ false → Failed Mark ≡ traceCheck g m n pairs marks
       mark-refused k = rw (check-is, e, k)
 
-      pub sample-refused : marksFit marks ≡ true → pairsFit pairs marks ≡ false → Failed Sample ≡ traceCheck g m n pairs marks
+      pub sample-refused : marksFit marks ≡ true → pairsFit pairs marks ≡ false →
+          Failed Sample ≡ traceCheck g m n pairs marks
       sample-refused k p = rw (check-is, e, k, p)
 
       pub check-passes : marksFit marks ≡ true → pairsFit pairs marks ≡ true → Passed ≡ traceCheck g m n pairs marks
       check-passes k p = rw (check-is, e, k, p)
 
   -- what a trace that passes is known by
-  pub checked : traceCheck g m n pairs marks ≡ Passed → Shaped g m n × (length pairs ≡ 2 * length marks) × (length marks ≤ 65537)
+  pub checked : traceCheck g m n pairs marks ≡ Passed →
+      Shaped g m n × (length pairs ≡ 2 * length marks) × (length marks ≤ 65537)
   unfolding traceCheck
   checked h =
       let lengths = unless (samplesLengthFits pairs marks) Length Passed in
-      let p = then-passed (gridCheck g m n lengths) (unless (marksFit marks) Mark (unless (pairsFit pairs marks) Sample Passed)) h .0 in
+      let p =
+      then-passed (gridCheck g m n lengths)
+      (unless (marksFit marks) Mark (unless (pairsFit pairs marks) Sample Passed)) h .0 in
       let l = passed-lengths pairs marks g m n p in
       (grid-passed g m n lengths p .shaped, l .0, l .1)

@@ -1,5 +1,6 @@
--- Demand 3, whole. The sides and the flipped pairs are the surface's theorem. A traced point was made from the ends of a grid edge (each event's side is one,
--- and Drawn.antt has that no other point is drawn), and the surface's theorem says that J takes the ends of a grid edge to the ends of a side.
+-- Demand 3, whole. The sides and the flipped pairs are the surface's theorem. A traced point was made from the ends
+-- of a grid edge (each event's side is one, and Drawn.antt has that no other point is drawn), and the surface's
+-- theorem says that J takes the ends of a grid edge to the ends of a side.
 use mathlib.Core.Path.{_≡_, refl, _∙_}
 use mathlib.Core.List.{List}
 use Prim.Native.Nat.{ℕ, _+_, _*_, _≤_, _<_}
@@ -62,10 +63,14 @@ module _ (g : List Float) (m n : ℕ) (hm : m ≤ 255) (hn : n ≤ 255) where
   s = surfaceOf g m n
 
   -- a crossing of the two ends of a grid edge
-  made : {u v u′ v′ : ℕ} {t : Float} {c : Crossing} → GridEdge s u v u′ v′ → On (crossing g (pointNumber n u v) (pointNumber n u′ v′) t) ≡ On c → FromEdge g m n c
+  made : {u v u′ v′ : ℕ} {t : Float} {c : Crossing} → GridEdge s u v u′ v′ →
+      On (crossing g (pointNumber n u v) (pointNumber n u′ v′) t) ≡ On c → FromEdge g m n c
   made {u} {v} {u′} {v′} {t} {c} edge e =
       let same : crossing g (pointNumber n u v) (pointNumber n u′ v′) t ≡ c = cc in
-      record { edge = record { u = u; v = v; u′ = u′; v′ = v′; edge = edge; p-is = cc; q-is = cc }; blended = rw (← same) }
+      record {
+        edge = record { u = u; v = v; u′ = u′; v′ = v′; edge = edge; p-is = cc; q-is = cc };
+        blended = rw (← same);
+      }
 
   on-u : (u : ℕ) (x : Float) (c : Crossing) → u ≤ m → onU g n u (stepIndex x n) ≡ On c → FromEdge g m n c
   on-u u x c h e = go (stepIndex x n) refl e
@@ -91,32 +96,44 @@ module _ (g : List Float) (m n : ℕ) (hm : m ≤ 255) (hn : n ≤ 255) where
   -- each event of a leg falls on a side inside the grid
   good-events : (l : Leg) → GoodEvents g (cells m n) (FromEdge g m n) (sortedEdgeEvents (cells m n) l)
   good-events l =
-      each-implies (OnGrid (cells m n)) (λ (e : EdgeEvent). GoodEdge g (cells m n) (FromEdge g m n) (e .edge)) (λ e. good-edge (e .edge)) (sortedEdgeEvents (cells m n) l)
+      each-implies (OnGrid (cells m n)) (λ (e : EdgeEvent). GoodEdge g (cells m n) (FromEdge g m n) (e .edge))
+      (λ e. good-edge (e .edge)) (sortedEdgeEvents (cells m n) l)
       (leg-inside (cells m n) l hm hn refl)
 
   -- ---- the points of a trace
 
   -- every point that a trace draws was made from the ends of a grid edge
-  from-edges : (pairs : List Float) (marks : List ℕ) (l : Lists) → Holding (GoodDrawing (FromEdge g m n)) (drawingOf g m n pairs marks (roomIn l))
-  from-edges pairs marks l = drawn-good (FromEdge g m n) (roomIn l) (trace-good g (cells m n) (FromEdge g m n) good-events (samplesOf marks pairs) Nowhere)
+  from-edges : (pairs : List Float) (marks : List ℕ) (l : Lists) →
+      Holding (GoodDrawing (FromEdge g m n)) (drawingOf g m n pairs marks (roomIn l))
+  from-edges pairs marks l =
+      drawn-good (FromEdge g m n) (roomIn l)
+      (trace-good g (cells m n) (FromEdge g m n) good-events (samplesOf marks pairs) Nowhere)
 
   -- what is said of a crossing is said of each point of the lists
   module _ (P : Lists → ℕ → Type 0)
-      (of-point : (c : Crossing) → FromEdge g m n c → (l : Lists) (i : ℕ) → pOf l i ≡ c .p → qOf l i ≡ c .q → tOf l i ≡ c .t → pointAt (l .points) i ≡ c .point → P l i)
+      (of-point : (c : Crossing) → FromEdge g m n c → (l : Lists) (i : ℕ) → pOf l i ≡ c .p → qOf l i ≡ c .q →
+      tOf l i ≡ c .t → pointAt (l .points) i ≡ c .point → P l i)
     where
-      finished-each : (l : Lists) (y : Outcome Drawing) → Holding (GoodDrawing (FromEdge g m n)) y → EachPoint P (finished y l)
+      finished-each : (l : Lists) (y : Outcome Drawing) → Holding (GoodDrawing (FromEdge g m n)) y →
+          EachPoint P (finished y l)
       unfolding pointAt
       finished-each l (off k d) good i h = absurd (omega arith)
       finished-each l (on d) good i h =
           let cs = d .drawn in
-          let x : _ = simp add-zero at (filled-at 3 pointOf (λ c. refl) cs (l .points) zero64 i 0 nan noCrossing h (omega arith)) in
+          let x : _ =
+          simp add-zero at (filled-at 3 pointOf (λ c. refl) cs (l .points) zero64 i 0 nan noCrossing h
+          (omega arith)) in
           let y : _ = filled-at 3 pointOf (λ c. refl) cs (l .points) zero64 i 1 nan noCrossing h (omega arith) in
           let z : _ = filled-at 3 pointOf (λ c. refl) cs (l .points) zero64 i 2 nan noCrossing h (omega arith) in
-          let p : _ = simp add-zero at (filled-at 2 sideOf (λ c. refl) cs (l .sides) 0 i 0 0 noCrossing h (omega arith)) in
+          let p : _ =
+          simp add-zero at (filled-at 2 sideOf (λ c. refl) cs (l .sides) 0 i 0 0 noCrossing h (omega arith)) in
           let q : _ = filled-at 2 sideOf (λ c. refl) cs (l .sides) 0 i 1 0 noCrossing h (omega arith) in
           let one : 1 * i + 0 ≡ i = omega arith in
-          let t : _ = rw one at (filled-at 1 fractionOf (λ c. refl) cs (l .fractions) zero64 i 0 nan noCrossing h (omega arith)) in
-          of-point (getD cs i noCrossing) (each-at (FromEdge g m n) cs i noCrossing (good .drawn) h) (finished (on d) l .lists) i p q t (rw (x, y, z))
+          let t : _ =
+          rw one at (filled-at 1 fractionOf (λ c. refl) cs (l .fractions) zero64 i 0 nan noCrossing h
+          (omega arith)) in
+          of-point (getD cs i noCrossing) (each-at (FromEdge g m n) cs i noCrossing (good .drawn) h)
+          (finished (on d) l .lists) i p q t (rw (x, y, z))
 
       pub each-point : (pairs : List Float) (marks : List ℕ) (l : Lists) → EachPoint P (traceFlat g m n pairs marks l)
       unfolding traceFlat
@@ -127,24 +144,34 @@ module _ (g : List Float) (m n : ℕ) (hm : m ≤ 255) (hn : n ≤ 255) where
           go Passed = finished-each l (drawingOf g m n pairs marks (roomIn l)) (from-edges pairs marks l)
 
   -- the ends of a grid edge are grid points
-  end-below : {u v u′ v′ : ℕ} → GridEdge s u v u′ v′ → (pointNumber n u v < (m + 1) * (n + 1)) × (pointNumber n u′ v′ < (m + 1) * (n + 1))
+  end-below : {u v u′ v′ : ℕ} → GridEdge s u v u′ v′ →
+      (pointNumber n u v < (m + 1) * (n + 1)) × (pointNumber n u′ v′ < (m + 1) * (n + 1))
   end-below {u} {v} (along-u h k) = (point-below m n u v (omega arith) k, point-below m n (u + 1) v (omega arith) k)
   end-below {u} {v} (along-v h k) = (point-below m n u v h (omega arith), point-below m n u (v + 1) h (omega arith))
-  end-below (falls {u} {v} h k e) = (point-below m n (u + 1) v (omega arith) (omega arith), point-below m n u (v + 1) (omega arith) (omega arith))
-  end-below (rises {u} {v} h k e) = (point-below m n u v (omega arith) (omega arith), point-below m n (u + 1) (v + 1) (omega arith) (omega arith))
+  end-below (falls {u} {v} h k e) =
+      (point-below m n (u + 1) v (omega arith) (omega arith), point-below m n u (v + 1) (omega arith) (omega arith))
+  end-below (rises {u} {v} h k e) =
+      (point-below m n u v (omega arith) (omega arith), point-below m n (u + 1) (v + 1) (omega arith) (omega arith))
 
-  pub points-made : (pairs : List Float) (marks : List ℕ) (l : Lists) → EachPoint (Made g m n) (traceFlat g m n pairs marks l)
+  pub points-made : (pairs : List Float) (marks : List ℕ) (l : Lists) →
+      EachPoint (Made g m n) (traceFlat g m n pairs marks l)
   points-made =
       each-point (Made g m n)
       (λ c from l i p q t x.
       let e = from .edge in
       let b = end-below (e .edge) in
-      record { p-there = rw (p, e .p-is) (b .0); q-there = rw (q, e .q-is) (b .1); blended = rw (x, p, q, t) (from .blended) })
+      record {
+        p-there = rw (p, e .p-is) (b .0);
+        q-there = rw (q, e .q-is) (b .1);
+        blended = rw (x, p, q, t) (from .blended);
+      })
 
-  pub points-on-sides : Meets s → StepsAround 2 s → (pairs : List Float) (marks : List ℕ) (l : Lists) → EachPoint (OnSide s) (traceFlat g m n pairs marks l)
-  points-on-sides meets around = each-point (OnSide s) (λ c from l i p q t x. rw (p, q) (surface.traced s meets around (c .p) (c .q) (from .edge)))
+  pub points-on-sides : Meets s → StepsAround 2 s → (pairs : List Float) (marks : List ℕ) (l : Lists) →
+      EachPoint (OnSide s) (traceFlat g m n pairs marks l)
+  points-on-sides meets around =
+      each-point (OnSide s) (λ c from l i p q t x. rw (p, q) (surface.traced s meets around (c .p) (c .q) (from .edge)))
 
--- DEMAND 3
+-- Rules 5.1: demand 3
 pub demand3 : (g : List Float) (m n : ℕ) → Demand3 g m n
 demand3 g m n accepted =
     let steps = accepted-known g m n accepted .steps in

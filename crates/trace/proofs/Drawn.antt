@@ -13,11 +13,15 @@ pub record GoodDrawing (Good : Crossing → Type 0) (d : Drawing) : Type 0 where
   pub drawn : Each Good (d .drawn)
   pub segment : Each Good (d .segment)
 
-pub drawn-good : (Good : Crossing → Type 0) (room : Room) {ms : List (Move Crossing)} → AllPushed Good ms → Holding (GoodDrawing Good) (draw room ms nothingDrawn)
+pub drawn-good : (Good : Crossing → Type 0) (room : Room) {ms : List (Move Crossing)} → AllPushed Good ms →
+    Holding (GoodDrawing Good) (draw room ms nothingDrawn)
 drawn-good Good room good =
     draw-keeps (GoodDrawing Good) Good
     (record { drawn = tt; segment = tt })
-    (λ c good d h. record { drawn = h .drawn; segment = each-append Good (d .segment) (c ∷ []) (h .segment) (good, tt) })
+    (λ c good d h. record {
+      drawn = h .drawn;
+      segment = each-append Good (d .segment) (c ∷ []) (h .segment) (good, tt);
+    })
     (λ d h l. record { drawn = each-append Good (d .drawn) (d .segment) (h .drawn) (h .segment); segment = tt })
     (λ d h. record { drawn = h .drawn; segment = tt })
     room good

@@ -1,4 +1,5 @@
--- What moves keep true of a drawing: a property that holds of nothing drawn, and that a pushed point, a kept line and a dropped line each leave true.
+-- What moves keep true of a drawing: a property that holds of nothing drawn, and that a pushed point, a kept line and
+-- a dropped line each leave true.
 use mathlib.Core.Path.{_≡_, refl}
 use mathlib.Core.Bool.{Bool, true, false, cond}
 use mathlib.Core.List.{List, [], _∷_, _++_}
@@ -11,7 +12,8 @@ use Rattle.refusal.specs.declared.Refusal.the-variants.{Full}
 use Rattle.crossing.specs.declared.Crossing.{Crossing}
 use Rattle.page.specs.Moves.{Move, Outcome, on, off}
 use Rattle.page.proofs.Moves.{AllPushed, run-keeps}
-use Rattle.trace.specs.Drawing.{Drawing, drawing, nothingDrawn, Room, closeToLast, pushSegmentPoint, flushSegment, draw}
+use Rattle.trace.specs.Drawing.{Drawing, drawing, nothingDrawn, Room, closeToLast, pushSegmentPoint, flushSegment}
+use Rattle.trace.specs.Drawing.{draw}
 
 -- P, of what was drawn where no refusal ended it
 abbrev pub Holding : (Drawing → Type 0) → Outcome Drawing → Type 0
@@ -20,16 +22,20 @@ Holding P (off k d) = Unit {0}
 
 module _ (P : Drawing → Type 0) (Good : Crossing → Type 0)
     (start : P nothingDrawn)
-    (point : (c : Crossing) → Good c → (d : Drawing) → P d → P (drawing (d .drawn) (d .starts) (d .segment ++ (c ∷ []))))
-    (line : (d : Drawing) → P d → 2 ≤ length (d .segment) → P (drawing (d .drawn ++ d .segment) (d .starts ++ (length (d .drawn) ∷ [])) []))
+    (point : (c : Crossing) → Good c → (d : Drawing) → P d →
+    P (drawing (d .drawn) (d .starts) (d .segment ++ (c ∷ []))))
+    (line : (d : Drawing) → P d → 2 ≤ length (d .segment) →
+    P (drawing (d .drawn ++ d .segment) (d .starts ++ (length (d .drawn) ∷ [])) []))
     (dropped : (d : Drawing) → P d → P (drawing (d .drawn) (d .starts) []))
     (room : Room)
   where
     push-keeps : (c : Crossing) → Good c → (d : Drawing) → P d → Holding P (pushSegmentPoint eps room c d)
     unfolding pushSegmentPoint
-    push-keeps c good d h = go (closeToLast eps (d .segment) c) (ltb (length (d .drawn) + length (d .segment)) (room .points))
+    push-keeps c good d h =
+        go (closeToLast eps (d .segment) c) (ltb (length (d .drawn) + length (d .segment)) (room .points))
       where
-        go : (a b : Bool) → Holding P (cond a (on d) (cond b (on (drawing (d .drawn) (d .starts) (d .segment ++ (c ∷ [])))) (off Full d)))
+        go : (a b : Bool) → Holding P (cond a (on d)
+            (cond b (on (drawing (d .drawn) (d .starts) (d .segment ++ (c ∷ [])))) (off Full d)))
         go true b = h
         go false true = point c good d h
         go false false = tt
@@ -39,10 +45,14 @@ module _ (P : Drawing → Type 0) (Good : Crossing → Type 0)
     flush-keeps d h = go (leb 2 (length (d .segment))) (ltb (length (d .starts)) (room .lines)) refl
       where
         go : (a b : Bool) → leb 2 (length (d .segment)) ≡ a
-            → Holding P (cond a (cond b (on (drawing (d .drawn ++ d .segment) (d .starts ++ (length (d .drawn) ∷ [])) [])) (off Full d)) (on (drawing (d .drawn) (d .starts) [])))
+            → Holding P (cond a (cond b
+            (on (drawing (d .drawn ++ d .segment) (d .starts ++ (length (d .drawn) ∷ [])) [])) (off Full d))
+            (on (drawing (d .drawn) (d .starts) [])))
         go true true e = line d h (leb-true 2 (length (d .segment)) e)
         go true false e = tt
         go false b e = dropped d h
 
     pub draw-keeps : {ms : List (Move Crossing)} → AllPushed Good ms → Holding P (draw room ms nothingDrawn)
-    draw-keeps good = run-keeps Good (Holding P) (pushSegmentPoint eps room) (flushSegment room) (λ k d h. tt) push-keeps flush-keeps good nothingDrawn start
+    draw-keeps good =
+        run-keeps Good (Holding P) (pushSegmentPoint eps room) (flushSegment room)
+        (λ k d h. tt) push-keeps flush-keeps good nothingDrawn start

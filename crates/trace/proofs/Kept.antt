@@ -9,7 +9,7 @@ use Rattle.page.proofs.Moves.{Any, any-pushed}
 use Rattle.trace.specs.Drawing.{Drawing, nothingDrawn, Room, draw}
 use Rattle.trace.proofs.Keeps.{Holding, draw-keeps}
 
--- each line, from its start up to the next start or, for the last, to the count of points, has at least two points
+-- no line has fewer than two points: neither between two starts, nor between the last start and the count of points
 abbrev pub TwoOrMore : List ℕ → ℕ → Type 0
 TwoOrMore [] count = Unit {0}
 TwoOrMore (s ∷ []) count = s + 2 ≤ count
@@ -29,6 +29,7 @@ pub lines-long : (room : Room) (ms : List (Move Crossing)) → Holding Long (dra
 lines-long room ms =
     draw-keeps Long Any tt
     (λ c good d h. h)
-    (λ d h l. rw length-append (one-more (d .starts) (length (d .drawn)) (length (d .drawn) + length (d .segment)) h (omega arith)))
+    (λ d h l. rw length-append (one-more (d .starts) (length (d .drawn)) (length (d .drawn) + length (d .segment)) h
+    (omega arith)))
     (λ d h. h)
     room (any-pushed ms)

@@ -1,4 +1,5 @@
--- What a trace pushes are points of its events' sides, so they are good where `edge_point` makes only good points of these.
+-- What a trace pushes are points of its events' sides, so they are good where `edge_point` makes only good points of
+-- these.
 use mathlib.Core.Path.{_≡_, refl}
 use mathlib.Core.Bool.{Bool, true, false, _||_, cond}
 use mathlib.Core.List.{List, [], _∷_}
@@ -19,7 +20,8 @@ use Rattle.crossing.specs.declared.EdgePoint.the-variants.{On, NoStep}
 use Rattle.crossing.specs.Crossing.{edgePoint}
 use Rattle.page.proofs.Moves.{AllPushed, none, pushing, flushing, stopping, both, either}
 use Rattle.walk.specs.declared.EventPoint.the-variants.{Pass}
-use Rattle.walk.specs.Walk.{beforeInside, afterInside, pushOf, decide, pointMoves, endMoves, nextLambda, eventsMoves, legMoves}
+use Rattle.walk.specs.Walk.{beforeInside, afterInside, pushOf, decide, pointMoves, endMoves, nextLambda, eventsMoves}
+use Rattle.walk.specs.Walk.{legMoves}
 use Rattle.trace.specs.declared.curve.Previous.{Previous}
 use Rattle.trace.specs.declared.curve.Visit.{Visit}
 use Rattle.trace.specs.declared.curve.Visit.the-variants.{Break, Along, First}
@@ -34,7 +36,8 @@ module _ (g : List Float) (k : Cells) (Good : Crossing → Type 0) where
   abbrev pub GoodEvents : List EdgeEvent → Type 0
   GoodEvents = Each (λ (e : EdgeEvent). GoodEdge (e .edge))
 
-  point-good : (inside : Bool) (e : EdgePoint) → ((c : Crossing) → e ≡ On c → Good c) → AllPushed Good (pointMoves (cond inside (pushOf e) Pass))
+  point-good : (inside : Bool) (e : EdgePoint) → ((c : Crossing) → e ≡ On c → Good c) →
+      AllPushed Good (pointMoves (cond inside (pushOf e) Pass))
   point-good true (On c) h = pushing (h c refl) none
   point-good true NoStep h = stopping none
   point-good false e h = none
@@ -42,20 +45,23 @@ module _ (g : List Float) (k : Cells) (Good : Crossing → Type 0) where
   end-good : (inside : Bool) → AllPushed Good (endMoves inside)
   end-good inside = either inside none (flushing none)
 
-  events-good : (l : Leg) (previous : Float) (es : List EdgeEvent) → GoodEvents es → AllPushed Good (eventsMoves g k l previous es)
+  events-good : (l : Leg) (previous : Float) (es : List EdgeEvent) → GoodEvents es →
+      AllPushed Good (eventsMoves g k l previous es)
   unfolding decide eventsMoves
   events-good l previous [] good = none
   events-good l previous (e ∷ es) good =
       let x = onLeg l (e .lambda) in
       let before = beforeInside k l previous (e .lambda) in
       let after = afterInside k l (e .lambda) (nextLambda es) in
-      both (both (point-good (before || after) (edgePoint g k (e .edge) x) (good .0 x)) (end-good after)) (events-good l (e .lambda) es (good .1))
+      both (both (point-good (before || after) (edgePoint g k (e .edge) x) (good .0 x)) (end-good after))
+      (events-good l (e .lambda) es (good .1))
 
   module _ (events : (l : Leg) → GoodEvents (sortedEdgeEvents k l)) where
     visit-good : (v : Visit) → AllPushed Good (visitMoves g k v)
     unfolding legMoves
     visit-good Break = flushing none
-    visit-good (Along l) = both (events-good l zero64 (sortedEdgeEvents k l) (events l)) (end-good (paramInBounds k (l .b)))
+    visit-good (Along l) =
+        both (events-good l zero64 (sortedEdgeEvents k l) (events l)) (end-good (paramInBounds k (l .b)))
     visit-good First = none
 
     -- the whole trace

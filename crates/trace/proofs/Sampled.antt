@@ -1,4 +1,5 @@
--- One sample by the tests of the code, and one turn of the trace over the samples: those from i on are the one at i and those after it.
+-- One sample by the tests of the code, and one turn of the trace over the samples: those from i on are the one at i
+-- and those after it.
 use mathlib.Core.Path.{_≡_, refl, ap, _∙_}
 use mathlib.Core.List.{List, [], _∷_}
 use Prim.Native.Nat.{ℕ, zero, suc, _+_, _*_, _≤_, _<_}
@@ -47,10 +48,12 @@ module _ (p : Previous) (k : ℕ) (b : ParamPoint) where
 
 -- what is done for a sample, by what it is
 module _ (g : List Float) (k : Cells) (w : Page) {v : Visit} where
-  pub sample-break : v ≡ Break → {r : Penned} {l : Lists} → afterwards r l ≡ pageAfter (flushPage w) → afterwards r l ≡ pageAfter (onPage (visitMoves g k v) w)
+  pub sample-break : v ≡ Break → {r : Penned} {l : Lists} → afterwards r l ≡ pageAfter (flushPage w) →
+      afterwards r l ≡ pageAfter (onPage (visitMoves g k v) w)
   sample-break e u = rw (e, page-one flush w) u
 
-  pub sample-leg : {l : Leg} → v ≡ Along l → {r : Penned} {m : Lists} → afterwards r m ≡ pageAfter (onPage (legMoves g k l) w) →
+  pub sample-leg : {l : Leg} → v ≡ Along l → {r : Penned} {m : Lists} →
+      afterwards r m ≡ pageAfter (onPage (legMoves g k l) w) →
       afterwards r m ≡ pageAfter (onPage (visitMoves g k v) w)
   sample-leg e u = rw e u
 
@@ -108,7 +111,8 @@ module _ (g : List Float) (k : Cells) (ks : List ℕ) (ps : List Float) where
             rw (add-one i, drop-cons (samplesOf ks ps) i z there, samples-at ks ps i z h t, eb) in
             rw (first, ev) (page-append _ _ w)
 
-        module _ {z : Outcome Page} (ez : z ≡ left i p w) {r : Penned} {l : Lists} (u : afterwards r l ≡ pageAfter here) where
+        module _ {z : Outcome Page} (ez : z ≡ left i p w) {r : Penned} {l : Lists}
+            (u : afterwards r l ≡ pageAfter here) where
           -- the trace goes on
           pub trace-goes : {pen : Pen} {o : Previous} → r ≡ Down pen → o ≡ after → z ≡ left (i + 1) o (page l pen)
           trace-goes {pen} er eo = rw eo (ez ∙ trace-turn ∙ down here (left (i + 1) after) u pen er)

@@ -1,5 +1,6 @@
--- A page shows a drawing where the front of each lent list holds the drawing's points, the pending ones last, and the pen has its counts. Each push and each flush leaves it so: a push writes
--- one point after them, and a flush moves the count where the drawing moves its pending points.
+-- A page shows a drawing where the front of each lent list holds the drawing's points, the pending ones last, and the
+-- pen has its counts. Each push and each flush leaves it so: a push writes one point after them, and a flush moves
+-- the count where the drawing moves its pending points.
 use mathlib.Core.Path.{_≡_, refl, sym, ap, _∙_}
 use mathlib.Core.Logic.{_⊎_, inl, inr}
 use mathlib.Core.Bool.{Bool, true, false, _&&_}
@@ -17,7 +18,8 @@ use Rattle.basics.proofs.Tests.{and-both}
 use Rattle.vector.specs.Vectors.{allClose}
 use Rattle.grid.specs.Grid.{pointAt}
 use Rattle.crossing.specs.declared.Crossing.{Crossing}
-use Rattle.page.specs.Page.{Lists, pointRoom, writePoint, writeSide, Page, hasRoom, closeToPending, written, pushPage, kept, dropped, flushPage}
+use Rattle.page.specs.Page.{Lists, pointRoom, writePoint, writeSide, Page, hasRoom, closeToPending, written, pushPage}
+use Rattle.page.specs.Page.{kept, dropped, flushPage}
 use Rattle.page.proofs.Moves.{Related, both-on, both-off, test-related}
 use Rattle.trace.specs.Drawing.{Drawing, drawing, roomIn, closeToLast, pushSegmentPoint, flushSegment}
 use Rattle.trace.specs.Trace.{pointOf, sideOf, fractionOf}
@@ -63,7 +65,8 @@ two-same s c a b p q = go (leb 2 b) refl
     go false e = lt-leb (s + 2) c (omega (arith, leb-false 2 b e))
 
 -- one start more, written at its place
-start-more : (ss l : List ℕ) (x : ℕ) {i y : ℕ} → take (length ss) l ≡ ss → i ≡ length ss → y ≡ x → i < length l → take (length (ss ++ (x ∷ []))) (set l i y) ≡ ss ++ (x ∷ [])
+start-more : (ss l : List ℕ) (x : ℕ) {i y : ℕ} → take (length ss) l ≡ ss → i ≡ length ss → y ≡ x → i < length l →
+    take (length (ss ++ (x ∷ []))) (set l i y) ≡ ss ++ (x ∷ [])
 start-more ss l x {i} {y} h p q k =
     let j : length ss < length l = omega arith in
     rw (p, q, length-append, add-one, take-suc-set l (length ss) x, h)
@@ -74,22 +77,38 @@ module _ (l : Lists) (g : Page) (d : Drawing) (h : Shows l g d) where
   unfolding dropped
   dropped-shows =
       record {
-        sized = record { points = h .sized .points; starts = h .sized .starts; sides = h .sized .sides; fractions = h .sized .fractions };
+        sized =
+            record {
+              points = h .sized .points;
+              starts = h .sized .starts;
+              sides = h .sized .sides;
+              fractions = h .sized .fractions;
+            };
         start = h .start;
         count = h .start ∙ omega arith;
         lines = h .lines;
-        points = rw append-nil (holds-front 3 pointOf (λ c. refl) (g .lists .points) (d .drawn) (d .segment) (h .points));
+        points =
+            rw append-nil (holds-front 3 pointOf (λ c. refl) (g .lists .points) (d .drawn) (d .segment) (h .points));
         sides = rw append-nil (holds-front 2 sideOf (λ c. refl) (g .lists .sides) (d .drawn) (d .segment) (h .sides));
-        fractions = rw append-nil (holds-front 1 fractionOf (λ c. refl) (g .lists .fractions) (d .drawn) (d .segment) (h .fractions));
+        fractions =
+            rw append-nil (holds-front 1 fractionOf (λ c. refl) (g .lists .fractions) (d .drawn) (d .segment)
+            (h .fractions));
         starts = h .starts;
       }
 
   -- the pending points are kept where they stand
-  kept-shows : g .pen .lines < length (g .lists .starts) → Shows l (kept g) (drawing (all d) (d .starts ++ (length (d .drawn) ∷ [])) [])
+  kept-shows : g .pen .lines < length (g .lists .starts) →
+      Shows l (kept g) (drawing (all d) (d .starts ++ (length (d .drawn) ∷ [])) [])
   unfolding kept
   kept-shows k =
       record {
-        sized = record { points = h .sized .points; starts = simp length-set (h .sized .starts); sides = h .sized .sides; fractions = h .sized .fractions };
+        sized =
+            record {
+              points = h .sized .points;
+              starts = simp length-set (h .sized .starts);
+              sides = h .sized .sides;
+              fractions = h .sized .fractions;
+            };
         start = h .count ∙ sym (length-append (d .drawn) (d .segment));
         count = h .count ∙ sym (simp length-append (omega arith));
         lines = rw length-append (omega (arith, h .lines));
@@ -104,8 +123,10 @@ module _ (l : Lists) (g : Page) (d : Drawing) (h : Shows l g d) where
   flush-related =
       test-related (leb (g .pen .start + 2) (g .pen .count)) (leb 2 (length (d .segment)))
       (two-same (g .pen .start) (g .pen .count) (length (d .drawn)) (length (d .segment)) (h .start) (h .count))
-      (λ p. test-related (ltb (g .pen .lines) (length (g .lists .starts))) (ltb (length (d .starts)) (length (l .starts))) (rw (h .lines, h .sized .starts))
-      (λ q. both-on (kept-shows (omega (arith, h .lines, h .sized .starts, ltb-true (length (d .starts)) (length (l .starts)) q))))
+      (λ p. test-related (ltb (g .pen .lines) (length (g .lists .starts)))
+      (ltb (length (d .starts)) (length (l .starts))) (rw (h .lines, h .sized .starts))
+      (λ q. both-on (kept-shows
+      (omega (arith, h .lines, h .sized .starts, ltb-true (length (d .starts)) (length (l .starts)) q))))
       (λ q. both-off (h .sized)))
       (λ p. both-on dropped-shows)
 
@@ -124,16 +145,19 @@ last-view (c ∷ cs) = go (last-view cs)
     go (inr w) = inr (c ∷ w .0, w .1, rw (w .2))
 
 -- closeness to the last point, where that is known
-close-last : (tolerance : Float) (ys : List Crossing) (y c : Crossing) → closeToLast tolerance (ys ++ (y ∷ [])) c ≡ allClose (y .point) (c .point) tolerance
+close-last : (tolerance : Float) (ys : List Crossing) (y c : Crossing) →
+    closeToLast tolerance (ys ++ (y ∷ [])) c ≡ allClose (y .point) (c .point) tolerance
 close-last tolerance [] y c = refl
 close-last tolerance (a ∷ []) y c = refl
 close-last tolerance (a ∷ (b ∷ ys)) y c = close-last tolerance (b ∷ ys) y c
 
 -- the point that stands last in a list is the last point
-last-point : (l : List Float) (cs : List Crossing) (c : Crossing) → Holds 3 pointOf l (cs ++ (c ∷ [])) → pointAt l (length cs) ≡ c .point
+last-point : (l : List Float) (cs : List Crossing) (c : Crossing) → Holds 3 pointOf l (cs ++ (c ∷ [])) →
+    pointAt l (length cs) ≡ c .point
 unfolding pointAt
 last-point l cs c h =
-    let x : getD l (3 * length cs) nan ≡ c .point .x = simp add-zero at (last-at 3 pointOf (λ c. refl) l cs c 0 nan (omega arith) h) in
+    let x : getD l (3 * length cs) nan ≡ c .point .x =
+    simp add-zero at (last-at 3 pointOf (λ c. refl) l cs c 0 nan (omega arith) h) in
     let y : getD l (3 * length cs + 1) nan ≡ c .point .y = last-at 3 pointOf (λ c. refl) l cs c 1 nan (omega arith) h in
     let z : getD l (3 * length cs + 2) nan ≡ c .point .z = last-at 3 pointOf (λ c. refl) l cs c 2 nan (omega arith) h in
     rw (x, y, z)
@@ -160,7 +184,8 @@ module _ (l : Lists) (g : Page) (d : Drawing) (h : Shows l g d) (tolerance : Flo
   close-same : closeToPending tolerance c g ≡ closeToLast tolerance (d .segment) c
   close-same = go (last-view (d .segment))
     where
-      go : (d .segment ≡ []) ⊎ HasLast (d .segment) → closeToPending tolerance c g ≡ closeToLast tolerance (d .segment) c
+      go : (d .segment ≡ []) ⊎ HasLast (d .segment) →
+          closeToPending tolerance c g ≡ closeToLast tolerance (d .segment) c
       go (inl e) =
           let none : g .pen .count ≤ g .pen .start = omega (arith, h .count, h .start, ap length e) in
           rw (le-ltb (g .pen .start) (g .pen .count) none, e)
@@ -170,8 +195,15 @@ module _ (l : Lists) (g : Page) (d : Drawing) (h : Shows l g d) (tolerance : Flo
           let more : length (d .segment) ≡ length ys + 1 = ap length (w .2) ∙ length-append ys (y ∷ []) in
           let some : g .pen .start < g .pen .count = omega (arith, h .count, h .start) in
           let at : g .pen .count - 1 ≡ length (d .drawn ++ ys) = omega (arith, h .count, length-append (d .drawn) ys) in
-          let last : Holds 3 pointOf (g .lists .points) ((d .drawn ++ ys) ++ (y ∷ [])) = rw append-assoc (rw (w .2) at (h .points)) in
-          rw (lt-ltb (g .pen .start) (g .pen .count) some, at, last-point (g .lists .points) (d .drawn ++ ys) y last, w .2, close-last tolerance ys y c)
+          let last : Holds 3 pointOf (g .lists .points) ((d .drawn ++ ys) ++ (y ∷ [])) =
+          rw append-assoc (rw (w .2) at (h .points)) in
+          rw (
+            lt-ltb (g .pen .start) (g .pen .count) some,
+            at,
+            last-point (g .lists .points) (d .drawn ++ ys) y last,
+            w .2,
+            close-last tolerance ys y c,
+          )
 
   -- room for one point more, in each list
   room-same : hasRoom g ≡ ltb (length (d .drawn) + length (d .segment)) (roomIn l .points)
@@ -184,17 +216,30 @@ module _ (l : Lists) (g : Page) (d : Drawing) (h : Shows l g d) (tolerance : Flo
       let n : g .pen .count ≡ length (all d) = h .count ∙ sym (length-append (d .drawn) (d .segment)) in
       let room = ltb-true (g .pen .count) (pointRoom (g .lists)) r in
       record {
-        sized = record { points = simp length-set (h .sized .points); starts = h .sized .starts; sides = simp length-set (h .sized .sides); fractions = simp length-set (h .sized .fractions) };
+        sized =
+            record {
+              points = simp length-set (h .sized .points);
+              starts = h .sized .starts;
+              sides = simp length-set (h .sized .sides);
+              fractions = simp length-set (h .sized .fractions);
+            };
         start = h .start;
         count = rw length-append (omega (arith, h .count));
         lines = h .lines;
-        points = rw (← append-assoc, write-point (g .lists .points) c n) (holds-more 3 pointOf (λ c. refl) (g .lists .points) (all d) c (omega arith) (h .points));
-        sides = rw (← append-assoc, write-side (g .lists .sides) c n) (holds-more 2 sideOf (λ c. refl) (g .lists .sides) (all d) c (omega arith) (h .sides));
-        fractions = rw (← append-assoc, write-fraction (g .lists .fractions) c n) (holds-more 1 fractionOf (λ c. refl) (g .lists .fractions) (all d) c (omega arith) (h .fractions));
+        points =
+            rw (← append-assoc, write-point (g .lists .points) c n)
+            (holds-more 3 pointOf (λ c. refl) (g .lists .points) (all d) c (omega arith) (h .points));
+        sides =
+            rw (← append-assoc, write-side (g .lists .sides) c n)
+            (holds-more 2 sideOf (λ c. refl) (g .lists .sides) (all d) c (omega arith) (h .sides));
+        fractions =
+            rw (← append-assoc, write-fraction (g .lists .fractions) c n)
+            (holds-more 1 fractionOf (λ c. refl) (g .lists .fractions) (all d) c (omega arith) (h .fractions));
         starts = h .starts;
       }
 
-  pub push-related : Related (Shows l) (SizedPage l) (pushPage tolerance c g) (pushSegmentPoint tolerance (roomIn l) c d)
+  pub push-related : Related (Shows l) (SizedPage l) (pushPage tolerance c g)
+      (pushSegmentPoint tolerance (roomIn l) c d)
   unfolding pushPage pushSegmentPoint
   push-related =
       test-related (closeToPending tolerance c g) (closeToLast tolerance (d .segment) c) close-same

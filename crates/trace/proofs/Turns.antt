@@ -1,4 +1,5 @@
--- Points one after another in a list, w places each: the front of the list is unmoved by a drop, and grows by one point with a write. Over the width w.
+-- Points one after another in a list, w places each: the front of the list is unmoved by a drop, and grows by one
+-- point with a write. Over the width w.
 use mathlib.Core.Path.{_≡_, refl, sym, ap, _∙_}
 use mathlib.Core.List.{List, [], _∷_, _++_, append-assoc, append-nil}
 use Prim.Native.Nat.{ℕ, zero, suc, _+_, _*_, _≤_, _<_}
@@ -12,7 +13,8 @@ use Rattle.lent.specs.Lent.{filled}
 use Rattle.trace.specs.Trace.{inTurn}
 
 -- one after another, the first points and then the others
-turn-append : {A : Type 0} (f : Crossing → List A) (cs ds : List Crossing) → inTurn f (cs ++ ds) ≡ inTurn f cs ++ inTurn f ds
+turn-append : {A : Type 0} (f : Crossing → List A) (cs ds : List Crossing) →
+    inTurn f (cs ++ ds) ≡ inTurn f cs ++ inTurn f ds
 unfolding inTurn
 turn-append f [] ds = refl
 turn-append f (c ∷ cs) ds = rw (turn-append f cs ds, append-assoc)
@@ -22,9 +24,11 @@ unfolding inTurn
 turn-one f c = append-nil (f c)
 
 -- `sets` from a place on, and no further
-take-sets : {A : Type 0} (vs l : List A) (i : ℕ) → i + length vs ≤ length l → take (i + length vs) (sets l i vs) ≡ take i l ++ vs
+take-sets : {A : Type 0} (vs l : List A) (i : ℕ) → i + length vs ≤ length l →
+    take (i + length vs) (sets l i vs) ≡ take i l ++ vs
 take-sets vs l i h =
-    ap (take (i + length vs)) (sets-eq vs l i h) ∙ take-at (take i l ++ vs) (drop (i + length vs) l) (i + length vs) front
+    ap (take (i + length vs)) (sets-eq vs l i h)
+    ∙ take-at (take i l ++ vs) (drop (i + length vs) l) (i + length vs) front
   where
     front : length (take i l ++ vs) ≡ i + length vs
     front = simp (length-append, length-take) (omega arith)
@@ -47,25 +51,35 @@ module _ {A : Type 0} (w : ℕ) (f : Crossing → List A) (wide : (c : Crossing)
   pub holds-front : (l : List A) (cs ds : List Crossing) → Holds w f l (cs ++ ds) → Holds w f l cs
   holds-front l cs ds h =
       let k : w * length cs ≤ w * length (cs ++ ds) = mul-le-mul-left w (simp length-append (omega arith)) in
-      rw (← take-take (w * length cs) (w * length (cs ++ ds)) l k, h, turn-append f cs ds) (take-at (inTurn f cs) (inTurn f ds) (w * length cs) (length-turn cs))
+      rw (← take-take (w * length cs) (w * length (cs ++ ds)) l k, h, turn-append f cs ds)
+      (take-at (inTurn f cs) (inTurn f ds) (w * length cs) (length-turn cs))
 
   last-turn : (cs : List Crossing) (c : Crossing) → inTurn f (cs ++ (c ∷ [])) ≡ inTurn f cs ++ f c
   last-turn cs c = rw (turn-append f cs (c ∷ []), turn-one f c)
 
   -- one point more, written at its place
-  pub holds-more : (l : List A) (cs : List Crossing) (c : Crossing) → w * length cs + w ≤ length l → Holds w f l cs → Holds w f (sets l (w * length cs) (f c)) (cs ++ (c ∷ []))
+  pub holds-more : (l : List A) (cs : List Crossing) (c : Crossing) → w * length cs + w ≤ length l → Holds w f l cs →
+      Holds w f (sets l (w * length cs) (f c)) (cs ++ (c ∷ []))
   holds-more l cs c r h =
       let n : w * length cs + w ≡ w * length cs + length (f c) = rw (wide c) in
       rw (one-more w cs c, n, last-turn cs c, ← h) (take-sets (f c) l (w * length cs) (rw (wide c) r))
 
   -- a place of the last point
-  pub last-at : (l : List A) (cs : List Crossing) (c : Crossing) (i : ℕ) (z : A) → i < w → Holds w f l (cs ++ (c ∷ [])) → getD l (w * length cs + i) z ≡ getD (f c) i z
+  pub last-at : (l : List A) (cs : List Crossing) (c : Crossing) (i : ℕ) (z : A) → i < w →
+      Holds w f l (cs ++ (c ∷ [])) → getD l (w * length cs + i) z ≡ getD (f c) i z
   last-at l cs c i z k h =
       let below : w * length cs + i < w * length (cs ++ (c ∷ [])) = rw (one-more w cs c) (omega arith) in
-      rw (← getD-take (w * length (cs ++ (c ∷ []))) l (w * length cs + i) z below, h, last-turn cs c, ← length-turn cs, getD-append-add (inTurn f cs) (f c) i z)
+      rw (
+        ← getD-take (w * length (cs ++ (c ∷ []))) l (w * length cs + i) z below,
+        h,
+        last-turn cs c,
+        ← length-turn cs,
+        getD-append-add (inTurn f cs) (f c) i z,
+      )
 
   -- a place of point i
-  pub turn-at : (cs : List Crossing) (i j : ℕ) (z : A) (c₀ : Crossing) → i < length cs → j < w → getD (inTurn f cs) (w * i + j) z ≡ getD (f (getD cs i c₀)) j z
+  pub turn-at : (cs : List Crossing) (i j : ℕ) (z : A) (c₀ : Crossing) → i < length cs → j < w →
+      getD (inTurn f cs) (w * i + j) z ≡ getD (f (getD cs i c₀)) j z
   unfolding inTurn
   turn-at [] i j z c₀ h k = absurd (omega arith)
   turn-at (c ∷ cs) zero j z c₀ h k =
@@ -77,7 +91,8 @@ module _ {A : Type 0} (w : ℕ) (f : Crossing → List A) (wide : (c : Crossing)
       rw (e, getD-append-add (f c) (inTurn f cs) (w * i + j) z) (turn-at cs i j z c₀ (omega arith) k)
 
   -- the same, in a lent list that was filled with the points
-  pub filled-at : (cs : List Crossing) (lent : List A) (pad : A) (i j : ℕ) (z : A) (c₀ : Crossing) → i < length cs → j < w
+  pub filled-at : (cs : List Crossing) (lent : List A) (pad : A) (i j : ℕ) (z : A) (c₀ : Crossing) → i < length cs →
+      j < w
       → getD (filled pad (inTurn f cs) lent) (w * i + j) z ≡ getD (f (getD cs i c₀)) j z
   filled-at cs lent pad i j z c₀ h k =
       let most : w * suc i ≤ w * length cs = mul-le-mul-left w (omega arith) in

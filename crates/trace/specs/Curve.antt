@@ -1,4 +1,5 @@
--- What a trace does to the lines: the moves of its samples in order, whatever the lines are held in. Reference: `trace_parametric_edge_curve`.
+-- Rules 6.1 and 7.1: samples, and the moves of samples in order, whatever the lines are held in.
+-- Original: `trace_parametric_edge_curve`.
 use mathlib.Core.Bool.{cond}
 use mathlib.Core.List.{List, [], _∷_, _++_}
 use Prim.Native.Nat.{ℕ}
@@ -15,7 +16,7 @@ use Rattle.trace.specs.declared.curve.Previous.the-variants.{At, Nowhere
 use Rattle.trace.specs.declared.curve.Visit.{Visit}
 use Rattle.trace.specs.declared.curve.Visit.the-variants.{Break, Along, First}
 
--- mark 1 is a point, mark 0 a break, whose pair is not looked at
+-- Rules 6.1: a sample is a point if its mark is 1, and a break if it is 0
 pub record Sample : Type 0 where
   pub mark : ℕ
   pub point : ParamPoint
@@ -26,32 +27,36 @@ sampleAt k p = record { mark = k; point = p }
 abbrev pub sample : ℕ → Float → Float → Sample
 sample k u v = sampleAt k (param u v)
 
--- the samples that a list of marks and a flat list of pairs stand for (lists of other lengths are refused before, by 2)
+-- the samples that a list of marks and a flat list of u and v in turn stand for (lists whose lengths do not belong
+-- together are refused before, by 2)
 unfoldable pub samplesOf : List ℕ → List Float → List Sample
 samplesOf [] ps = []
 samplesOf (k ∷ ks) [] = []
 samplesOf (k ∷ ks) (u ∷ []) = []
 samplesOf (k ∷ ks) (u ∷ (v ∷ ps)) = sample k u v ∷ samplesOf ks ps
 
--- what the next sample has before it
+-- ---- Rules 7.1
+
+-- what the next sample has before it: nothing after a break
 abbrev pub afterSample : Sample → Previous
 afterSample x = cond (eqb (x .mark) 0) Nowhere (At (x .point))
 
--- a point with p before it: the end of a leg, or the first after a break
+-- a point with p before it: the end of a leg if p is a point, else a first point
 abbrev pub legFrom : Previous → ParamPoint → Visit
 legFrom (At a) b = Along (leg a b)
 legFrom Nowhere b = First
 
+-- what a sample is to the walk, with p before it
 abbrev pub visitOf : Previous → Sample → Visit
 visitOf p x = cond (eqb (x .mark) 0) Break (legFrom p (x .point))
 
--- a break ends the line
+-- a break flushes the pending line, a leg is walked along, a first point does nothing
 abbrev pub visitMoves : List Float → Cells → Visit → List (Move Crossing)
 visitMoves g k Break = flush ∷ []
 visitMoves g k (Along l) = legMoves g k l
 visitMoves g k First = []
 
--- `trace_parametric_edge_curve`: the samples, with p before them; what is pending after the last one is flushed
+-- samples in order, with p before the first; after the last one the pending line is flushed
 unfoldable pub traceMoves : List Float → Cells → List Sample → Previous → List (Move Crossing)
 traceMoves g k [] p = flush ∷ []
 traceMoves g k (x ∷ xs) p = visitMoves g k (visitOf p x) ++ traceMoves g k xs (afterSample x)

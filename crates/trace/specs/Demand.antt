@@ -1,5 +1,5 @@
--- Demand 3, whole: one claim about a grid and the whole list of samples. Its triangles, flipped pairs and traced points are those that the contracts of
--- `triangulate_grid` and `trace_flat` cite.
+-- Rules 5.5 and 5.4: demand 3, whole, of every accepted grid and all samples. Its triangles, flipped pairs and traced
+-- points are those that the contracts of `triangulate_grid` and `trace_flat` cite.
 use mathlib.Core.Path.{_≡_}
 use mathlib.Core.List.{List}
 use Prim.Native.Nat.{ℕ, _+_, _*_, _<_}
@@ -14,16 +14,16 @@ use Rattle.surface.specs.Found.{surfaceOf, CoveredGrid}
 use Rattle.page.specs.Page.{Lists}
 use Rattle.trace.specs.Trace.{traceFlat}
 
--- how many points a trace draws: up to its point count, and none where it is refused
+-- how many points a trace draws: as many as it counts, and none if it is refused
 abbrev pub pointsIn : Answer Counts → ℕ
 pointsIn (ok c) = c .points
 pointsIn (refused k) = 0
 
--- P, of each point that a trace draws, by the lists that it leaves
+-- P of each point that a trace draws, by the lists that it leaves
 abbrev pub EachPoint : (Lists → ℕ → Type 0) → Afterwards (Answer Counts) Lists → Type 0
 EachPoint P t = (i : ℕ) → i < pointsIn (t .answer) → P (t .lists) i
 
--- what stands beside point i: p and q, the numbers of two grid points, and t
+-- what is handed out beside point i: p and q, and t
 abbrev pub pOf : Lists → ℕ → ℕ
 pOf l i = getD (l .sides) (2 * i) 0
 
@@ -33,30 +33,33 @@ qOf l i = getD (l .sides) (2 * i + 1) 0
 abbrev pub tOf : Lists → ℕ → Float
 tOf l i = getD (l .fractions) i nan
 
--- point i was made from p and q: they are grid points, and its three numbers are their blend by t
+-- point i was made from p and q: they are numbers of grid points, and its three numbers are the blend of these by t
 pub record Made (g : List Float) (m n : ℕ) (l : Lists) (i : ℕ) : Type 0 where
   pub p-there : pOf l i < (m + 1) * (n + 1)
   pub q-there : qOf l i < (m + 1) * (n + 1)
   pub blended : pointAt (l .points) i ≡ blend (pointAt g (pOf l i)) (pointAt g (qOf l i)) (tOf l i)
 
--- the two ends of a side: a and b follow each other, in either order, around some triangle
+-- some side has a and b as its ends: some triangle has the two next to each other, whichever comes first (Rules 5.3)
 abbrev pub EndsOfSide : Shape → ℕ → ℕ → Type 0
 EndsOfSide s a b = (i : ℕ) × Owns (triangles s) a b i
 
--- J of p and J of q are the ends of a side
+-- some side has as its ends what J makes of p and of q
 abbrev pub OnSide : Shape → Lists → ℕ → Type 0
 OnSide s l i = EndsOfSide s (Jₙ s (pOf l i)) (Jₙ s (qOf l i))
 
--- of a covered joining: its sides and flipped pairs, and the points of every trace across it, whatever the samples and whatever the lists lent; where a
--- seam joins, 2 steps around are needed, for with 1 J can take p and q to one point
+-- of a covered joining: its sides and flipped pairs (Rules 5.4), and the points of every trace across it, whatever the
+-- samples and the lists lent; where a seam joins, 2 steps around are needed, for with 1 J can take p and q to one point
 pub record DemandMet (g : List Float) (m n : ℕ) : Type 0 where
   pub surface : Meets (surfaceOf g m n)
-  pub points : StepsAround 2 (surfaceOf g m n) → (pairs : List Float) (marks : List ℕ) (l : Lists) → EachPoint (OnSide (surfaceOf g m n)) (traceFlat g m n pairs marks l)
+  pub points : StepsAround 2 (surfaceOf g m n) → (pairs : List Float) (marks : List ℕ) (l : Lists) →
+      EachPoint (OnSide (surfaceOf g m n)) (traceFlat g m n pairs marks l)
 
--- of an accepted grid: the points of every trace were made from their p and q; and the above where its found seams are a covered joining
+-- of an accepted grid: the points of every trace were made from their p and q; and the above, if the seams found are a
+-- covered joining
 pub record GridMet (g : List Float) (m n : ℕ) : Type 0 where
   pub made : (pairs : List Float) (marks : List ℕ) (l : Lists) → EachPoint (Made g m n) (traceFlat g m n pairs marks l)
   pub covered : CoveredGrid g m n → DemandMet g m n
 
+-- demand 3
 abbrev pub Demand3 : List Float → ℕ → ℕ → Type 0
 Demand3 g m n = Accepted g m n → GridMet g m n

@@ -1,4 +1,5 @@
--- Moves drawn into lines, of which there may be as many as the lent lists can hold. References: `push_segment_point`, `flush_segment`, `Paths`.
+-- Rules 7.3 and 7.4: moves drawn into lines, with room for as many points and lines as the lent lists can hold.
+-- Original: `push_segment_point`, `flush_segment`, `Paths`.
 use mathlib.Core.Bool.{Bool, false, cond}
 use mathlib.Core.List.{List, [], _∷_, _++_}
 use Prim.Native.Nat.{ℕ, _+_}
@@ -12,7 +13,7 @@ use Rattle.crossing.specs.declared.Crossing.{Crossing}
 use Rattle.page.specs.Moves.{Move, Outcome, on, off, run}
 use Rattle.page.specs.Page.{Lists, pointRoom}
 
--- the points of the kept lines in order, where each line starts among them, and the points of the pending line
+-- the points of the kept lines in order, the number of each line's first point, and the points of the pending line
 pub record Drawing : Type 0 where
   pub drawn : List Crossing
   pub starts : List ℕ
@@ -32,13 +33,14 @@ pub record Room : Type 0 where
 abbrev pub roomIn : Lists → Room
 roomIn l = record { points = pointRoom l; lines = length (l .starts) }
 
--- the pending line's last point is close to c by a tolerance
+-- the pending line has a last point, and it is close to c by a tolerance (Rules 2.1)
 abbrev pub closeToLast : Float → List Crossing → Crossing → Bool
 closeToLast tolerance [] c = false
 closeToLast tolerance (x ∷ []) c = allClose (x .point) (c .point) tolerance
 closeToLast tolerance (x ∷ (y ∷ ys)) c = closeToLast tolerance (y ∷ ys) c
 
--- `push_segment_point`: a point close to the last one is left out; 12 where there is no room for it, pending points counted
+-- `push_segment_point`: a point that is close to the last pending one is left out; 12 if there is no room for it,
+-- those pending counted
 unfoldable pub pushSegmentPoint : Float → Room → Crossing → Drawing → Outcome Drawing
 pushSegmentPoint tolerance room c d =
     cond (closeToLast tolerance (d .segment) c) (on d)
@@ -46,7 +48,7 @@ pushSegmentPoint tolerance room c d =
     (on (drawing (d .drawn) (d .starts) (d .segment ++ (c ∷ []))))
     (off Full d))
 
--- `flush_segment`: a line of at least two points is kept, 12 where there is no room for its start; a shorter one goes
+-- `flush_segment`: a line of two points or more is kept, 12 if there is no room for its start; a shorter one goes
 unfoldable pub flushSegment : Room → Drawing → Outcome Drawing
 flushSegment room d =
     cond (leb 2 (length (d .segment)))
@@ -55,6 +57,6 @@ flushSegment room d =
     (off Full d))
     (on (drawing (d .drawn) (d .starts) []))
 
--- moves in order, from a drawing on; points closer than EPS are left out
+-- moves in order, from a drawing on, where close means by EPS
 abbrev pub draw : Room → List (Move Crossing) → Drawing → Outcome Drawing
 draw room = run (pushSegmentPoint eps room) (flushSegment room)

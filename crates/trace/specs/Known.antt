@@ -1,5 +1,5 @@
--- 01's "Table of known results", its starred rows, in 01's order and words: one theorem a row, about the definitions that the contracts cite. Each is the theorem by computation
--- of the layer that it is about (`Table` of `cyclic`, `surface`, `edges`, `crossing` and `trace`).
+-- Rules 7.2, 3, 4, 6 and 7: known results of all layers in one place, about the definitions that the contracts cite.
+-- Each is computed in the layer that it is about (`Table` of `cyclic`, `surface`, `edges`, `crossing` and `trace`).
 use mathlib.Core.Path.{_≡_, ap}
 use mathlib.Core.List.{[], _∷_}
 use lib.Ieee.{binary64, ofBits, neg}
@@ -27,46 +27,57 @@ use Rattle.page.specs.Page.{Lists}
 use Rattle.trace.specs.Table as traces
 use Rattle.trace.specs.Table.{traced}
 
--- "`step_index`(4, 4) = (3, 1); (−EPS, 4) = (0, 0); (0, 0) none."
-pub step-index : (stepIndex (ofBits binary64 0x4010000000000000) 4 ≡ At 3 one64) × (stepIndex (neg eps) 4 ≡ At 0 zero64) × (stepIndex zero64 0 ≡ Nothing)
+-- Rules 7.2, `step_index`: 4 of 4 steps is in cell 3 by 1, −EPS of 4 steps in cell 0 by 0; without steps no answer
+pub step-index : (stepIndex (ofBits binary64 0x4010000000000000) 4 ≡ At 3 one64)
+    × (stepIndex (neg eps) 4 ≡ At 0 zero64) × (stepIndex zero64 0 ≡ Nothing)
 step-index = (crossing.last-border, crossing.before-first, crossing.no-steps)
 
--- "Forward(1,4): image of 4 is 1, inverse of 0 is 3."
+-- Rules 3.4, Forward at offset 1 of 4 steps: 4 goes to 1, and 0 comes from 3
 pub forward : (mapIndex (Forward 1 4) 4 ≡ ok 1) × (mapIndexInv (Forward 1 4) 0 ≡ ok 3)
 forward = (seams.forward-image, seams.forward-inverse)
 
--- "Reverse(0,4): inverse of 1 is 3. Reverse(1,4): of 2 is 3, of 4 is 1."
-pub reverse : (mapIndexInv (Reverse 0 4) 1 ≡ ok 3) × (mapIndexInv (Reverse 1 4) 2 ≡ ok 3) × (mapIndexInv (Reverse 1 4) 4 ≡ ok 1)
+-- Rules 3.4, Reverse of 4 steps: at offset 0, 1 comes from 3; at offset 1, 2 comes from 3, and 4 from 1
+pub reverse : (mapIndexInv (Reverse 0 4) 1 ≡ ok 3) × (mapIndexInv (Reverse 1 4) 2 ≡ ok 3)
+    × (mapIndexInv (Reverse 1 4) 4 ≡ ok 1)
 reverse = (seams.reverse-zero, seams.reverse-two, seams.reverse-four)
 
--- "Rows with x = 0,1,2,3 and 3,2,1,0 (y = z = 0): Reverse(0,3)." `along` gives the points of a row by their x; the comparisons are 6.
-pub rows-reversed : newVector (along (zero64 ∷ one64 ∷ two64 ∷ three64 ∷ [])) (along (three64 ∷ two64 ∷ one64 ∷ zero64 ∷ [])) eps ≡ ok (searched (Joined (Reverse 0 3)) 6)
+-- Rules 3.3, rows by their x (`along`): one is the other backwards, found after 6 comparisons
+pub rows-reversed : newVector (along (zero64 ∷ one64 ∷ two64 ∷ three64 ∷ []))
+    (along (three64 ∷ two64 ∷ one64 ∷ zero64 ∷ [])) eps ≡ ok (searched (Joined (Reverse 0 3)) 6)
 rows-reversed = seams.turned
 
--- "x = 0,1,2,0 and 1,2,0,1: Forward(2,3), 10 comparisons."
-pub rows-shifted : newVector (along (zero64 ∷ one64 ∷ two64 ∷ zero64 ∷ [])) (along (one64 ∷ two64 ∷ zero64 ∷ one64 ∷ [])) eps ≡ ok (searched (Joined (Forward 2 3)) 10)
+-- Rules 3.3: closed rows, one shifted by 2 of 3 steps, found after 10 comparisons
+pub rows-shifted : newVector (along (zero64 ∷ one64 ∷ two64 ∷ zero64 ∷ []))
+    (along (one64 ∷ two64 ∷ zero64 ∷ one64 ∷ [])) eps ≡ ok (searched (Joined (Forward 2 3)) 10)
 rows-shifted = seams.shifted
 
--- "x = 0,1,2 and 1,2,3: None, 3 comparisons."
-pub rows-apart : newVector (along (zero64 ∷ one64 ∷ two64 ∷ [])) (along (one64 ∷ two64 ∷ three64 ∷ [])) eps ≡ ok (searched Unjoined 3)
+-- Rules 3.3: rows that are not closed and do not fit, after 3 comparisons
+pub rows-apart : newVector (along (zero64 ∷ one64 ∷ two64 ∷ [])) (along (one64 ∷ two64 ∷ three64 ∷ [])) eps
+    ≡ ok (searched Unjoined 3)
 rows-apart = seams.apart
 
--- "M=N=1, no seam: triangles 0,2,1 and 2,3,1."
+-- Rules 4.3: the two triangles of one cell without seams
 pub no-seam : triangles (surfaceWith 1 1 Unjoined Unjoined) ≡ tri 0 2 1 ∷ tri 2 3 1 ∷ []
 no-seam = surfaces.no-seam
 
--- "M=N=3, u seam Reverse(0), v unjoined: flipped (0,17), (2,15), (4,13)."
+-- Rules 4.4: the flipped pairs of 3 by 3 cells whose u seam is reversed at offset 0, without a v seam
 pub u-reversed : flipped (surfaceWith 3 3 (Joined (Reverse 0 3)) Unjoined) ≡ pair 0 17 ∷ pair 2 15 ∷ pair 4 13 ∷ []
 u-reversed = surfaces.reversed-u
 
--- "M=N=1, (0, 0.25) to (0.75, 0.25): events U(0) at 0, Diagonal(0,0) at 1; sides (0,1), (2,1), t 0.25 both." `traced` traces the two samples across a unit square into lists
--- with room for two points; the sides stand in one of them, the t in another.
+-- Rules 6 and 7: in one cell, the two events from (0, 0.25) to (0.75, 0.25), and p, q and t of their points. `traced`
+-- traces these two samples across a unit square, into lists with room for two points
 pub along-u :
-    (sortedEdgeEvents (cells 1 1) (leg (param zero64 quarter) (param three-quarters quarter)) ≡ event zero64 (U 0) ∷ event one64 (Diagonal 0 0) ∷ [])
+    (sortedEdgeEvents (cells 1 1) (leg (param zero64 quarter) (param three-quarters quarter))
+    ≡ event zero64 (U 0) ∷ event one64 (Diagonal 0 0) ∷ [])
     × (traced zero64 quarter three-quarters quarter .lists .sides ≡ 0 ∷ 1 ∷ 2 ∷ 1 ∷ [])
     × (traced zero64 quarter three-quarters quarter .lists .fractions ≡ quarter ∷ quarter ∷ [])
-along-u = (events.along-u, ap (λ (t : Afterwards (Answer Counts) Lists). t .lists .sides) traces.along-u, ap (λ (t : Afterwards (Answer Counts) Lists). t .lists .fractions) traces.along-u)
+along-u = (
+  events.along-u,
+  ap (λ (t : Afterwards (Answer Counts) Lists). t .lists .sides) traces.along-u,
+  ap (λ (t : Afterwards (Answer Counts) Lists). t .lists .fractions) traces.along-u,
+)
 
--- "M=N=1, (0, 0) to (0.5, −0.5): first event V(0) at −0, not U(0)." It is the only one: U(0) at 0 is close to it, and dropped.
-pub minus-zero-first : sortedEdgeEvents (cells 1 1) (leg (param zero64 zero64) (param half64 minus-half)) ≡ event minus-zero («V» 0) ∷ []
+-- Rules 6: in one cell, the only event from (0, 0) to (0.5, −0.5): U(0) at 0 comes after it, too near, and is dropped
+pub minus-zero-first : sortedEdgeEvents (cells 1 1) (leg (param zero64 zero64) (param half64 minus-half))
+    ≡ event minus-zero («V» 0) ∷ []
 minus-zero-first = events.minus-zero-first

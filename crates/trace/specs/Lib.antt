@@ -1,4 +1,5 @@
--- What the open call's contract cites: Curve, Drawing, Trace, Demand. Known results by computation: Table, Known. Ended serves inner contracts only.
+-- Curve, Drawing, Trace and Demand say what the contract of the open call, `trace_flat`, cites: Rules 7, 8, 11 and 5.5.
+-- Table and Known have known results, by computation. Ended serves inner contracts only.
 pub mod Curve
 pub mod Drawing
 pub mod Trace

@@ -1,4 +1,4 @@
--- The trace of flat samples: its refusals, its answer, and what it leaves in the lent lists.
+-- Rules 11 and 8: the trace of flat samples: its refusals, its answer, and what it leaves in the lent lists.
 use mathlib.Core.Bool.{Bool, true, _&&_, _||_}
 use mathlib.Core.List.{List, [], _∷_, _++_}
 use Prim.Native.Nat.{ℕ, _*_}
@@ -23,27 +23,30 @@ use Rattle.trace.specs.declared.flat.Trace.the-variants.{Drawn, Refused}
 use Rattle.trace.specs.Curve.{samplesOf, traceMoves}
 use Rattle.trace.specs.Drawing.{Drawing, Room, roomIn, nothingDrawn, draw}
 
--- two numbers for each mark, and no more than 65,537 marks
+-- ---- Rules 11.1, 11.2: the tests before the walk
+
+-- 2, of the samples: two numbers for each mark, and no more than 65,537 marks
 abbrev pub samplesLengthFits : List Float → List ℕ → Bool
 samplesLengthFits pairs marks = eqb (length pairs) (2 * length marks) && leb (length marks) 65537
 
--- every mark is 0 or 1
+-- 9: every mark is 0 or 1
 unfoldable pub marksFit : List ℕ → Bool
 marksFit [] = true
 marksFit (k ∷ ks) = (eqb k 0 || eqb k 1) && marksFit ks
 
--- 1,048,576
+-- 1,048,576, the largest magnitude of a coordinate of a sample
 abbrev pub maxSample : Float
 maxSample = ofBits binary64 0x4130000000000000
 
--- every marked coordinate is finite and at most that in magnitude; a break's pair is not looked at (lists of other lengths are refused before, by 2)
+-- 10: both coordinates of every point are finite and at most that in magnitude; those of a break are not looked at
+-- (lists whose lengths do not belong together are refused before, by 2)
 unfoldable pub pairsFit : List Float → List ℕ → Bool
 pairsFit ps [] = true
 pairsFit [] (k ∷ ks) = true
 pairsFit (u ∷ []) (k ∷ ks) = true
 pairsFit (u ∷ (v ∷ ps)) (k ∷ ks) = (eqb k 0 || (atMost u maxSample && atMost v maxSample)) && pairsFit ps ks
 
--- refusals 1, 2, 4, 9 and 10
+-- refusals 1, 2 (grid, then samples), 4, 9 and 10, in this order
 unfoldable pub traceCheck : List Float → ℕ → ℕ → List Float → List ℕ → Check
 traceCheck g m n pairs marks =
     andThen (gridCheck g m n (unless (samplesLengthFits pairs marks) Length Passed))
@@ -52,12 +55,12 @@ traceCheck g m n pairs marks =
 
 -- ---- the answer
 
--- the number and the values of each case
+-- each case of the code's answer as its counts, or as the number of its refusal
 abbrev pub statedTrace : Trace → Answer Counts
 statedTrace (Drawn p l) = ok (counts p l)
 statedTrace (Refused k) = refused (numberOf k)
 
--- ---- what stands in the lists
+-- ---- Rules 8.1, 8.2: what stands in the lists
 
 -- what a point puts into each list: three numbers, two and one
 abbrev pub pointOf : Crossing → List Float
@@ -69,28 +72,32 @@ sideOf c = c .p ∷ c .q ∷ []
 abbrev pub fractionOf : Crossing → List Float
 fractionOf c = c .t ∷ []
 
--- the points one after another
+-- what points put there, one after another
 unfoldable pub inTurn : {A : Type 0} → (Crossing → List A) → List Crossing → List A
 inTurn f [] = []
 inTurn f (c ∷ cs) = f c ++ inTurn f cs
 
--- the lists after these points and starts: zero past them
+-- the lists after these points and starts: every place past them is zero
 abbrev pub listsWith : List Crossing → List ℕ → Lists → Lists
 listsWith cs ss l =
-    lists (filled zero64 (inTurn pointOf cs) (l .points)) (filled 0 ss (l .starts)) (filled 0 (inTurn sideOf cs) (l .sides))
+    lists (filled zero64 (inTurn pointOf cs) (l .points))
+    (filled 0 ss (l .starts))
+    (filled 0 (inTurn sideOf cs) (l .sides))
     (filled zero64 (inTurn fractionOf cs) (l .fractions))
 
 -- ---- the call
 
--- the moves of all samples, drawn
+-- the moves of all samples, with nothing before the first, drawn
 abbrev pub drawingOf : List Float → ℕ → ℕ → List Float → List ℕ → Room → Outcome Drawing
 drawingOf g m n pairs marks room = draw room (traceMoves g (cells m n) (samplesOf marks pairs) Nowhere) nothingDrawn
 
--- 11 and 12 leave the lists all zero
+-- Rules 8.2, 8.3: the counts and the lists; 11 and 12 leave every place zero
 abbrev pub finished : Outcome Drawing → Lists → Afterwards (Answer Counts) Lists
-finished (on d) l = afterwards (ok (counts (length (d .drawn)) (length (d .starts)))) (listsWith (d .drawn) (d .starts) l)
+finished (on d) l =
+    afterwards (ok (counts (length (d .drawn)) (length (d .starts)))) (listsWith (d .drawn) (d .starts) l)
 finished (off k d) l = afterwards (refused (numberOf k)) (listsWith [] [] l)
 
--- the open call: refusals 1 to 10 leave the lists as they were lent
+-- the open call: refusals 1 to 10 leave the lists as they were
 unfoldable pub traceFlat : List Float → ℕ → ℕ → List Float → List ℕ → Lists → Afterwards (Answer Counts) Lists
-traceFlat g m n pairs marks l = ifPassed (traceCheck g m n pairs marks) l (finished (drawingOf g m n pairs marks (roomIn l)) l)
+traceFlat g m n pairs marks l =
+    ifPassed (traceCheck g m n pairs marks) l (finished (drawingOf g m n pairs marks (roomIn l)) l)

@@ -1,4 +1,4 @@
-// The walk over all samples, which fills the lent lists.
+// The walk over all samples (Rules 7.1), which fills the lent lists.
 use page::Pen;
 use page::Penned;
 use page::flush_segment;
@@ -6,8 +6,8 @@ use param::Cells;
 use param::Leg;
 use param::ParamPoint;
 use walk::append_edge_crossings;
-ghost use mathlib.Core.Path.{_≡_};
 ghost use Prim.Native.Nat.{_+_, _*_, _≤_};
+ghost use mathlib.Core.Path.{_≡_};
 ghost use lib.ListN.{length, getD};
 ghost use lib.Ieee.{nan};
 ghost use Rattle.lent.specs.Lent.{afterwards};
@@ -53,6 +53,7 @@ fn after_sample(mark: u8, point: ParamPoint) -> Previous
     Previous::At(point)
 }
 
+// What a sample is, by what stands before it.
 fn visit_of(previous: Previous, mark: u8, point: ParamPoint) -> Visit
     ensures { λ r. ⌜ r ≡ visitOf previous (sampleAt mark point) ⌝ }
 {
@@ -65,7 +66,7 @@ fn visit_of(previous: Previous, mark: u8, point: ParamPoint) -> Visit
     }
 }
 
-// One sample: a break ends the line, a leg is walked along.
+// One sample: a break flushes the pending line, a leg is walked along.
 fn trace_sample(
     lambdas: &mut [f64],
     codes: &mut [u32],
@@ -81,7 +82,8 @@ fn trace_sample(
     requires { ⌜ (length (now lambdas) ≡ 1023) × (length (now codes) ≡ 1023) ⌝ }
     requires { ⌜ GridFits (now grid) cells ⌝ }
     requires { ⌜ PenFits (now points) pen ⌝ }
-    ensures { λ r. ⌜ afterwards r (lists (now (points .exit)) (now (starts .exit)) (now (sides .exit)) (now (fractions .exit)))
+    ensures { λ r. ⌜ afterwards r
+        (lists (now (points .exit)) (now (starts .exit)) (now (sides .exit)) (now (fractions .exit)))
         ≡ pageAfter (onPage (visitMoves (now (grid .entry)) cells visit)
         (page (lists (now (points .entry)) (now (starts .entry)) (now (sides .entry)) (now (fractions .entry))) pen)) ⌝ }
 {
@@ -103,7 +105,7 @@ fn trace_sample(
     }
 }
 
-// All samples in order, from a pen at the start of the lists; what is pending after the last one is flushed.
+// All samples in order, from a pen at the start of the lists; after the last one the pending line is flushed.
 // The scratch lists for a leg's events are made once: clearing them for each leg would cost more than the walk.
 pub fn trace_parametric_edge_curve(
     grid: &[f64],
@@ -117,9 +119,12 @@ pub fn trace_parametric_edge_curve(
 ) -> Penned
     requires { ⌜ GridFits (now grid) cells ⌝ }
     requires { ⌜ (length (now pairs) ≡ 2 * length (now marks)) × (length (now marks) ≤ 65537) ⌝ }
-    ensures { λ r. ⌜ afterwards r (lists (now (points .exit)) (now (starts .exit)) (now (sides .exit)) (now (fractions .exit)))
-        ≡ pageAfter (onPage (traceMoves (now (grid .entry)) cells (samplesOf (now (marks .entry)) (now (pairs .entry))) Previous.Nowhere)
-        (page (lists (now (points .entry)) (now (starts .entry)) (now (sides .entry)) (now (fractions .entry))) (penAt 0 0 0))) ⌝ }
+    ensures { λ r. ⌜ afterwards r
+        (lists (now (points .exit)) (now (starts .exit)) (now (sides .exit)) (now (fractions .exit)))
+        ≡ pageAfter (onPage (traceMoves (now (grid .entry)) cells
+        (samplesOf (now (marks .entry)) (now (pairs .entry))) Previous.Nowhere)
+        (page (lists (now (points .entry)) (now (starts .entry)) (now (sides .entry)) (now (fractions .entry)))
+        (penAt 0 0 0))) ⌝ }
 {
     let mut lambdas = [0.0; MAX_EVENTS];
     let mut codes = [0u32; MAX_EVENTS];

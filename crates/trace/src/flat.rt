@@ -1,4 +1,4 @@
-// The trace of flat samples: a list of u, v pairs and a list of marks.
+// The trace of flat samples (Rules 6.1): u and v in turn in one list, marks in another.
 use crate::curve::trace_parametric_edge_curve;
 use crate::samples::check_trace;
 use lent::zero_floats;
@@ -40,6 +40,7 @@ fn lines_in(ended: Penned) -> usize
     }
 }
 
+// The answer of the open call.
 fn answer_of(ended: Penned) -> Trace
     ensures { λ r. ⌜ r ≡ answerOf ended ⌝ }
 {
@@ -63,7 +64,8 @@ pub fn trace_flat(
     sides: &mut [usize],
     fractions: &mut [f64],
 ) -> Trace
-    ensures answer { λ r. ⌜ afterwards (statedTrace r) (lists (now (points .exit)) (now (starts .exit)) (now (sides .exit)) (now (fractions .exit)))
+    ensures answer { λ r. ⌜ afterwards (statedTrace r)
+        (lists (now (points .exit)) (now (starts .exit)) (now (sides .exit)) (now (fractions .exit)))
         ≡ traceFlat (now (grid .entry)) m n (now (pairs .entry)) (now (marks .entry))
         (lists (now (points .entry)) (now (starts .entry)) (now (sides .entry)) (now (fractions .entry))) ⌝ }
     ensures demand { λ _. ⌜ Demand3 (now (grid .entry)) m n ⌝ }

@@ -1,4 +1,4 @@
-// The samples of a trace, as pairs and marks, and the refusals that apply before the walk.
+// The samples of a trace, as pairs and marks, and the refusals before the walk (Rules 11).
 use refusal::Check;
 use refusal::Refusal;
 ghost use mathlib.Core.Path.{_≡_};
@@ -15,7 +15,7 @@ ghost use Rattle.trace.specs.Trace.{samplesLengthFits, marksFit, maxSamp
 // A trace takes at most this many marks.
 pub const MAX_MARKS: usize = 65537;
 
-// The largest magnitude of a marked coordinate.
+// The largest magnitude of a coordinate of a sample that is a point.
 const MAX_SAMPLE: f64 = 1048576.0;
 
 // Whether every mark is 0 or 1.
@@ -68,7 +68,7 @@ fn check_lengths(pairs: &[f64], marks: &[u8]) -> Check
     Check::Passed
 }
 
-// Refusals 1, 2, 4, 9 and 10.
+// Refusals 1, 2 (grid, then samples), 4, 9 and 10, in this order.
 pub fn check_trace(grid: &[f64], m: usize, n: usize, pairs: &[f64], marks: &[u8]) -> Check
     ensures { λ r. ⌜ r ≡ traceCheck (now (grid .entry)) m n (now (pairs .entry)) (now (marks .entry)) ⌝ }
 {

@@ -1,4 +1,4 @@
--- What is decided of one event, by the tests of the code and from what its calls gave.
+-- What is decided of one event, by the tests of the code and from what its calls gave: each way through it is one case.
 use mathlib.Core.Path.{_≡_, refl}
 use mathlib.Core.Bool.{Bool, true, false, _||_, cond}
 use mathlib.Core.List.{List}
@@ -20,7 +20,8 @@ use Rattle.walk.specs.Walk.{middle, beforeInside, afterInside, pushOf, d
 -- ---- inside before and after
 
 module _ (k : Cells) (l : Leg) (x y : Float) {p : ParamPoint} {r : Bool} where
-  pub before-far : lt (add binary64 x eps) y ≡ true → p ≡ onLeg l (middle x y) → r ≡ paramInBounds k p → r ≡ beforeInside k l x y
+  pub before-far : lt (add binary64 x eps) y ≡ true → p ≡ onLeg l (middle x y) → r ≡ paramInBounds k p →
+      r ≡ beforeInside k l x y
   unfolding beforeInside
   before-far h ep er = rw (er, ep, h)
 
@@ -28,11 +29,13 @@ module _ (k : Cells) (l : Leg) (x y : Float) {p : ParamPoint} {r : Bool} where
   unfolding beforeInside
   before-near h ep er = rw (er, ep, h)
 
-  pub after-far : lt (add binary64 x eps) y ≡ true → p ≡ onLeg l (middle x y) → r ≡ paramInBounds k p → r ≡ afterInside k l x y
+  pub after-far : lt (add binary64 x eps) y ≡ true → p ≡ onLeg l (middle x y) → r ≡ paramInBounds k p →
+      r ≡ afterInside k l x y
   unfolding afterInside
   after-far h ep er = rw (er, ep, h)
 
-pub after-near : (k : Cells) (l : Leg) (x y : Float) {r : Bool} → lt (add binary64 x eps) y ≡ false → r ≡ paramInBounds k (l .b) → r ≡ afterInside k l x y
+pub after-near : (k : Cells) (l : Leg) (x y : Float) {r : Bool} → lt (add binary64 x eps) y ≡ false →
+    r ≡ paramInBounds k (l .b) → r ≡ afterInside k l x y
 unfolding afterInside
 after-near k l x y h er = rw (er, h)
 
@@ -46,7 +49,8 @@ module _ (g : List Float) (k : Cells) (l : Leg) (previous : Float) (e : EdgeEven
     unfolding decide
     passes h = rw (← eb, ← ea, h)
 
-    module _ (h : (before || after) ≡ true) {x : ParamPoint} (ex : x ≡ onLeg l (e .lambda)) {p : EdgePoint} (ep : p ≡ edgePoint g k (e .edge) x) where
+    module _ (h : (before || after) ≡ true) {x : ParamPoint} (ex : x ≡ onLeg l (e .lambda)) {p : EdgePoint}
+        (ep : p ≡ edgePoint g k (e .edge) x) where
       decided : decide g k l previous e next ≡ record { point = pushOf p; inside = after }
       unfolding decide
       decided = rw (← eb, ← ea, h, ep, ex)

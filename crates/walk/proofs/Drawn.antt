@@ -29,7 +29,8 @@ module _ (d : Decision) (w : Page) where
   parted = page-append (pointMoves (d .point)) (endMoves (d .inside)) w
 
   -- no point
-  pub draws-end : d .point ≡ Pass → {r : Penned} {l : Lists} → afterwards r l ≡ pageAfter (cond (d .inside) (on w) (flushPage w)) → afterwards r l ≡ pageAfter done
+  pub draws-end : d .point ≡ Pass → {r : Penned} {l : Lists} →
+      afterwards r l ≡ pageAfter (cond (d .inside) (on w) (flushPage w)) → afterwards r l ≡ pageAfter done
   draws-end e u =
       let is : done ≡ cond (d .inside) (on w) (flushPage w) = parted ∙ rw (e, page-none w) (end-run (d .inside) w) in
       rw is u
@@ -40,7 +41,8 @@ module _ (d : Decision) (w : Page) where
       let is : done ≡ off refusals.NoStep w = parted ∙ rw (e, page-one (stop refusals.NoStep) w) in
       rw is
 
-  module _ {c : Crossing} (e : d .point ≡ Push c) {r : Penned} {l : Lists} (u : afterwards r l ≡ pageAfter (pushPage eps c w)) where
+  module _ {c : Crossing} (e : d .point ≡ Push c) {r : Penned} {l : Lists}
+      (u : afterwards r l ≡ pageAfter (pushPage eps c w)) where
     abbrev ending : Page → Outcome Page
     ending = onPage (endMoves (d .inside))
 
@@ -48,10 +50,12 @@ module _ (d : Decision) (w : Page) where
     after-push = parted ∙ rw (e, page-one (push c) w)
 
     -- the point is pushed
-    pub draws-point : {pen : Pen} → r ≡ penned.Down pen → {r′ : Penned} {l′ : Lists} → afterwards r′ l′ ≡ pageAfter (cond (d .inside) (on (page l pen)) (flushPage (page l pen))) →
+    pub draws-point : {pen : Pen} → r ≡ penned.Down pen → {r′ : Penned} {l′ : Lists} →
+        afterwards r′ l′ ≡ pageAfter (cond (d .inside) (on (page l pen)) (flushPage (page l pen))) →
         afterwards r′ l′ ≡ pageAfter done
     draws-point {pen} er v =
-        let is : done ≡ cond (d .inside) (on (page l pen)) (flushPage (page l pen)) = after-push ∙ down (pushPage eps c w) ending u pen er ∙ end-run (d .inside) (page l pen) in
+        let is : done ≡ cond (d .inside) (on (page l pen)) (flushPage (page l pen)) =
+        after-push ∙ down (pushPage eps c w) ending u pen er ∙ end-run (d .inside) (page l pen) in
         rw is v
 
     -- it is refused

@@ -1,5 +1,5 @@
--- One turn of the walk along a leg: the events from i on are the one at i and those after it. What is left of the leg after i events are the moves of the
--- others, and its end.
+-- One turn of the walk along a leg: the events from i on are the one at i and those after it. What is left of the leg
+-- after i events are the moves of the others, and its end.
 use mathlib.Core.Path.{_≡_, refl, sym, ap, _∙_}
 use mathlib.Core.Bool.{Bool, true, false, cond}
 use mathlib.Core.List.{List, [], _∷_}
@@ -38,30 +38,37 @@ use Rattle.walk.proofs.Drawn.{end-run}
 
 module _ (ls : List Float) (cs : List ℕ) (count i : ℕ) (h : count ≤ length ls) (s : length ls ≡ length cs) where
   -- the event at i is on the grid
-  pub event-inside : (k : Cells) {v : EdgeEvent} → Each (OnGrid k) (eventsIn ls cs count) → i < count → v ≡ eventOf (getD ls i nan) (getD cs i 0) → OnGrid k v
+  pub event-inside : (k : Cells) {v : EdgeEvent} → Each (OnGrid k) (eventsIn ls cs count) → i < count →
+      v ≡ eventOf (getD ls i nan) (getD cs i 0) → OnGrid k v
   event-inside k o t ev =
       let d = eventOf nan 0 in
-      rw (ev ∙ event-in ls cs count i d s h t) (each-at (OnGrid k) (eventsIn ls cs count) i d o (omega (arith, events-length ls cs count s h)))
+      rw (ev ∙ event-in ls cs count i d s h t)
+      (each-at (OnGrid k) (eventsIn ls cs count) i d o (omega (arith, events-length ls cs count s h)))
 
   -- no event is left past the last
   ended : count ≤ i → drop i (eventsIn ls cs count) ≡ []
-  ended t = let past : length (eventsIn ls cs count) ≤ i = omega (arith, events-length ls cs count s h) in drop-of-length-le (eventsIn ls cs count) past
+  ended t =
+      let past : length (eventsIn ls cs count)
+      ≤ i = omega (arith, events-length ls cs count s h) in drop-of-length-le (eventsIn ls cs count) past
 
   -- the lambda at i, or 1 past the last
   next-is : {x : Float} → x ≡ cond (ltb i count) (getD ls i nan) one64 → nextLambda (drop i (eventsIn ls cs count)) ≡ x
   next-is e = go (ltb i count) refl e
     where
-      go : {x : Float} (t : Bool) → ltb i count ≡ t → x ≡ cond t (getD ls i nan) one64 → nextLambda (drop i (eventsIn ls cs count)) ≡ x
+      go : {x : Float} (t : Bool) → ltb i count ≡ t → x ≡ cond t (getD ls i nan) one64 →
+          nextLambda (drop i (eventsIn ls cs count)) ≡ x
       go true p q = ap nextLambda (next-event ls cs count i s h (ltb-true i count p)) ∙ sym q
       go false p q = ap nextLambda (ended (ltb-false i count p)) ∙ sym q
 
 -- every event of a leg is on the grid
-pub leg-inside : (k : Cells) (l : Leg) {es : List EdgeEvent} → k .m ≤ 255 → k .n ≤ 255 → es ≡ sortedEdgeEvents k l → Each (OnGrid k) es
+pub leg-inside : (k : Cells) (l : Leg) {es : List EdgeEvent} → k .m ≤ 255 → k .n ≤ 255 → es ≡ sortedEdgeEvents k l →
+    Each (OnGrid k) es
 leg-inside k l hm hn e = rw e (events-inside k l (le-trans hm (lit≤ tt)) (le-trans hn (lit≤ tt)))
 
 -- ---- what is left of a leg
 
-follow-follow : {S : Type 0} (x : Outcome S) (h k : S → Outcome S) → follow (follow x h) k ≡ follow x (λ s. follow (h s) k)
+follow-follow : {S : Type 0} (x : Outcome S) (h k : S → Outcome S) →
+    follow (follow x h) k ≡ follow x (λ s. follow (h s) k)
 follow-follow (on s) h k = refl
 follow-follow (off r s) h k = refl
 
@@ -74,7 +81,8 @@ module _ (g : List Float) (k : Cells) (l : Leg) where
   abbrev pub left : List EdgeEvent → Float → Page → Outcome Page
   left es previous w = follow (onPage (eventsMoves g k l previous es) w) ending
 
-  pub leg-starts : (w : Page) {es : List EdgeEvent} → es ≡ sortedEdgeEvents k l → onPage (legMoves g k l) w ≡ left es zero64 w
+  pub leg-starts : (w : Page) {es : List EdgeEvent} → es ≡ sortedEdgeEvents k l →
+      onPage (legMoves g k l) w ≡ left es zero64 w
   unfolding legMoves
   leg-starts w e = rw e (page-append _ _ w)
 
@@ -83,12 +91,14 @@ module _ (g : List Float) (k : Cells) (l : Leg) where
     abbrev rest : ℕ → List EdgeEvent
     rest j = drop j (eventsIn ls cs count)
 
-    pub leg-ends : (previous : Float) (w : Page) → count ≤ i → left (rest i) previous w ≡ cond (paramInBounds k (l .b)) (on w) (flushPage w)
+    pub leg-ends : (previous : Float) (w : Page) → count ≤ i →
+        left (rest i) previous w ≡ cond (paramInBounds k (l .b)) (on w) (flushPage w)
     unfolding eventsMoves
     leg-ends previous w t = rw (ended ls cs count i h s t, page-none w) (end-run (paramInBounds k (l .b)) w)
 
     module _ (t : i < count) (previous : Float) (w : Page) {v : EdgeEvent} {x : Float} {d : Decision}
-        (ev : v ≡ eventOf (getD ls i nan) (getD cs i 0)) (ex : x ≡ cond (ltb (i + 1) count) (getD ls (i + 1) nan) one64) (ed : d ≡ decide g k l previous v x)
+        (ev : v ≡ eventOf (getD ls i nan) (getD cs i 0))
+        (ex : x ≡ cond (ltb (i + 1) count) (getD ls (i + 1) nan) one64) (ed : d ≡ decide g k l previous v x)
       where
         -- the event at i
         abbrev here : Outcome Page
@@ -100,7 +110,8 @@ module _ (g : List Float) (k : Cells) (l : Leg) where
             let first : rest i ≡ v ∷ rest (i + 1) = rw ev (next-event ls cs count i s h t) in
             rw (first, next-is ls cs count (i + 1) h s ex, ← ed, page-append) (follow-follow here _ ending)
 
-        module _ {z : Outcome Page} (ez : z ≡ left (rest i) previous w) {r : Penned} {m : Lists} (u : afterwards r m ≡ pageAfter here) where
+        module _ {z : Outcome Page} (ez : z ≡ left (rest i) previous w) {r : Penned} {m : Lists}
+            (u : afterwards r m ≡ pageAfter here) where
           -- the walk goes on
           pub turn-goes : {pen : Pen} → r ≡ Down pen → z ≡ left (rest (i + 1)) (v .lambda) (page m pen)
           turn-goes {pen} er = ez ∙ turn ∙ down here (left (rest (i + 1)) (v .lambda)) u pen er

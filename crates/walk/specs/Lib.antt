@@ -1,2 +1,2 @@
--- The definitions that the contracts of this crate cite.
+-- Walk says what both traces, which are open calls, rest on: Rules 7.1. Nothing serves inner contracts only.
 pub mod Walk

@@ -1,4 +1,5 @@
--- The walk along a leg: which of its events become points, and where a line ends. Reference: `append_edge_crossings`.
+-- Rules 7.1: the walk along a leg: what each event pushes, and when the line is flushed.
+-- Original: `append_edge_crossings`.
 use mathlib.Core.Bool.{Bool, _||_, cond}
 use mathlib.Core.List.{List, [], _∷_, _++_}
 use lib.Ieee.{Float, binary64, lt, add, mul}
@@ -18,54 +19,68 @@ use Rattle.walk.specs.declared.EventPoint.{EventPoint}
 use Rattle.walk.specs.declared.EventPoint.the-variants.{Push, Pass, Stop}
 use Rattle.walk.specs.declared.Decision.{Decision}
 
--- the middle between two lambdas
+-- the middle between two lambdas, (x + y)·0.5
 abbrev pub middle : Float → Float → Float
 middle x y = mul binary64 (add binary64 x y) half64
 
--- whether the leg is inside the grid before an event at x, the event before it at `previous`
+-- the leg is inside before an event at x: its middle since `previous`, the lambda of the event before, is within EPS of
+-- the grid; where `previous` plus EPS is not below x, the leg's point at x is asked instead
 unfoldable pub beforeInside : Cells → Leg → Float → Float → Bool
-beforeInside k l previous x = cond (lt (add binary64 previous eps) x) (paramInBounds k (onLeg l (middle previous x))) (paramInBounds k (onLeg l x))
+beforeInside k l previous x =
+    cond (lt (add binary64 previous eps) x)
+    (paramInBounds k (onLeg l (middle previous x)))
+    (paramInBounds k (onLeg l x))
 
--- and after it, the next event at `next`
+-- it is inside after an event at x: its middle up to `next`, the lambda of the next event, is within EPS of the grid;
+-- where x plus EPS is not below `next`, b is asked instead
 unfoldable pub afterInside : Cells → Leg → Float → Float → Bool
-afterInside k l x next = cond (lt (add binary64 x eps) next) (paramInBounds k (onLeg l (middle x next))) (paramInBounds k (l .b))
+afterInside k l x next =
+    cond (lt (add binary64 x eps) next)
+    (paramInBounds k (onLeg l (middle x next)))
+    (paramInBounds k (l .b))
 
--- what becomes of an event's point: 11 where `step_index` has no answer for it
+-- what becomes of an event's point; Rules 7.4: 11 where `step_index` has no answer for it
 abbrev pub pushOf : EdgePoint → EventPoint
 pushOf (On c) = Push c
 pushOf NoStep = Stop
 
--- an event: its point where the leg is inside before or after it; and whether it is inside after it, where the line goes on
+-- one event: its point is pushed if the leg is inside before or after it, and the line goes on if it is inside after
 unfoldable pub decide : List Float → Cells → Leg → Float → EdgeEvent → Float → Decision
 decide g k l previous e next =
     let before = beforeInside k l previous (e .lambda) in
     let after = afterInside k l (e .lambda) next in
-    record { point = cond (before || after) (pushOf (edgePoint g k (e .edge) (onLeg l (e .lambda)))) Pass; inside = after }
+    record {
+      point = cond (before || after) (pushOf (edgePoint g k (e .edge) (onLeg l (e .lambda)))) Pass;
+      inside = after;
+    }
 
 -- ---- moves
 
+-- of the point
 abbrev pub pointMoves : EventPoint → List (Move Crossing)
 pointMoves (Push c) = push c ∷ []
 pointMoves Pass = []
 pointMoves Stop = stop refusals.NoStep ∷ []
 
--- the line ends unless the leg is inside
+-- the pending line is flushed unless the leg is inside
 abbrev pub endMoves : Bool → List (Move Crossing)
 endMoves inside = cond inside [] (flush ∷ [])
 
+-- of one event: its point, then the flush
 abbrev pub movesOf : Decision → List (Move Crossing)
 movesOf d = pointMoves (d .point) ++ endMoves (d .inside)
 
--- the lambda of the next event, or 1
+-- the lambda of the next event, or 1 where there is none
 abbrev pub nextLambda : List EdgeEvent → Float
 nextLambda [] = one64
 nextLambda (e ∷ es) = e .lambda
 
--- the events in order, after one at `previous`
+-- of events in order, after one at `previous`
 unfoldable pub eventsMoves : List Float → Cells → Leg → Float → List EdgeEvent → List (Move Crossing)
 eventsMoves g k l previous [] = []
-eventsMoves g k l previous (e ∷ es) = movesOf (decide g k l previous e (nextLambda es)) ++ eventsMoves g k l (e .lambda) es
+eventsMoves g k l previous (e ∷ es) =
+    movesOf (decide g k l previous e (nextLambda es)) ++ eventsMoves g k l (e .lambda) es
 
--- `append_edge_crossings`: the leg's events, and the line's end where it leaves the grid
+-- of a leg: those of its events, from 0 on, and a flush if b is not within EPS of the grid
 unfoldable pub legMoves : List Float → Cells → Leg → List (Move Crossing)
 legMoves g k l = eventsMoves g k l zero64 (sortedEdgeEvents k l) ++ endMoves (paramInBounds k (l .b))

@@ -1,4 +1,4 @@
-// The walk along a leg: which of its events become points, and where a line ends.
+// The walk along a leg (Rules 7.1): what each event pushes, and when the line is flushed.
 use crossing::Crossing;
 use crossing::EdgePoint;
 use crossing::edge_point;
@@ -15,8 +15,8 @@ use param::Leg;
 use param::param_in_bounds;
 use refusal::Refusal;
 ghost use mathlib.Core.Bool.{cond};
-ghost use mathlib.Core.Path.{_≡_};
 ghost use Prim.Native.Nat.{_≤_};
+ghost use mathlib.Core.Path.{_≡_};
 ghost use lib.Dec.{ltb};
 ghost use lib.ListN.{length, getD};
 ghost use lib.Ieee.{nan};
@@ -34,14 +34,15 @@ pub enum EventPoint {
     Stop,
 }
 
-// What an event does to the lines: its point, and whether the leg is inside the grid after it; where it is not, the line
-// ends.
+// What an event does to the lines: its point, and whether the leg is inside the grid after it; where it is not, the
+// pending line is flushed.
 pub struct Decision {
     pub point: EventPoint,
     pub inside: bool,
 }
 
-// Whether the leg is inside the grid before the event at `lambda`, the event before it at `previous`.
+// Whether the leg is inside the grid before the event at `lambda`: by its middle since the event before, at `previous`,
+// or, where that is too near, by the event's own point.
 fn before_inside(cells: Cells, leg: Leg, previous: f64, lambda: f64) -> bool
     ensures { λ r. ⌜ r ≡ beforeInside cells leg previous lambda ⌝ }
 {
@@ -51,7 +52,7 @@ fn before_inside(cells: Cells, leg: Leg, previous: f64, lambda: f64) -> bool
     param_in_bounds(cells, leg.at(lambda))
 }
 
-// Whether it is inside after the event, the next event at `next`.
+// Whether it is inside after the event: by its middle up to the next one, at `next`, or, where that is too near, by b.
 fn after_inside(cells: Cells, leg: Leg, lambda: f64, next: f64) -> bool
     ensures { λ r. ⌜ r ≡ afterInside cells leg lambda next ⌝ }
 {
@@ -61,7 +62,7 @@ fn after_inside(cells: Cells, leg: Leg, lambda: f64, next: f64) -> bool
     param_in_bounds(cells, leg.b)
 }
 
-// One event between its neighbours: a point where the leg is inside before or after it.
+// One event between its neighbours: it has a point if the leg is inside before or after it.
 fn decide(
     grid: &[f64],
     cells: Cells,
@@ -106,7 +107,8 @@ fn draw_event(
     decision: Decision,
 ) -> Penned
     requires { ⌜ PenFits (now points) pen ⌝ }
-    ensures { λ r. ⌜ afterwards r (lists (now (points .exit)) (now (starts .exit)) (now (sides .exit)) (now (fractions .exit)))
+    ensures { λ r. ⌜ afterwards r
+        (lists (now (points .exit)) (now (starts .exit)) (now (sides .exit)) (now (fractions .exit)))
         ≡ pageAfter (onPage (movesOf decision)
         (page (lists (now (points .entry)) (now (starts .entry)) (now (sides .entry)) (now (fractions .entry))) pen)) ⌝ }
 {
@@ -133,7 +135,7 @@ fn lambda_or_one(lambdas: &[f64], count: usize, i: usize) -> f64
     1.0
 }
 
-// A leg: its events, found in the two scratch lists, and the line's end where it leaves the grid.
+// A leg: its events, found in the two scratch lists, and a flush if it ends outside the grid.
 pub fn append_edge_crossings(
     lambdas: &mut [f64],
     codes: &mut [u32],
@@ -149,7 +151,8 @@ pub fn append_edge_crossings(
     requires { ⌜ (length (now lambdas) ≡ 1023) × (length (now codes) ≡ 1023) ⌝ }
     requires { ⌜ GridFits (now grid) cells ⌝ }
     requires { ⌜ PenFits (now points) pen ⌝ }
-    ensures { λ r. ⌜ afterwards r (lists (now (points .exit)) (now (starts .exit)) (now (sides .exit)) (now (fractions .exit)))
+    ensures { λ r. ⌜ afterwards r
+        (lists (now (points .exit)) (now (starts .exit)) (now (sides .exit)) (now (fractions .exit)))
         ≡ pageAfter (onPage (legMoves (now (grid .entry)) cells leg)
         (page (lists (now (points .entry)) (now (starts .entry)) (now (sides .entry)) (now (fractions .entry))) pen)) ⌝ }
 {

@@ -6,7 +6,13 @@ use Rattle.crossing.proofs.between.Tie as tie
 returns : tie.Need-returns
 returns c =
     let b = c .before .before .before in
-    rw (c .blend .ensures, c .before .before .point-at .ensures, c .before .point-at2 .ensures, b .before .point-number .ensures, b .point-number2 .ensures)
+    rw (
+      c .blend .ensures,
+      c .before .before .point-at .ensures,
+      c .before .point-at2 .ensures,
+      b .before .point-number .ensures,
+      b .point-number2 .ensures,
+    )
 
 pub between-spec : {M : Type 1} → statement M
 between-spec =

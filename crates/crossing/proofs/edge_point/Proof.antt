@@ -1,5 +1,5 @@
--- `crossing::edge_point` meets its contract: its cases are those of `edgePoint`, at the variants that the matches found. The side stands in the grid by the
--- requires, and the cell that `step_index` gives is one of the steps.
+-- `crossing::edge_point` meets its contract: its cases are those of `edgePoint`, at the variants that the matches
+-- found. The side stands in the grid by the requires, and the cell that `step_index` gives is one of the steps.
 use Prim.Native.Nat.{_≤_, _<_}
 use native.Mathlib.Omega.{arith}
 use denote.Ref.{now}
@@ -10,7 +10,8 @@ use borrow.Author.Needs.{needs}
 use Rattle.crossing.proofs.edge_point.Statement.{statement}
 use Rattle.crossing.proofs.edge_point.Tie as tie
 
--- the start, from where the match finds a U line, a V line, a diagonal; and that line, from where the cell on it is found
+-- the start, from where the match finds a U line, a V line, a diagonal; and that line, from where the cell on it is
+-- found
 abbrev start-u : tie.After-edge → tie.Start
 start-u e = e .before .before .before
 
@@ -39,7 +40,8 @@ side-v c = inside-v (start-v c .args .cells) (c .edge2 .given .1) (start-v c .pr
 cell-v : (c : tie.After-u) → c .u .given .0 .0 < start-v (line-v c) .args .cells .m
 cell-v c = cell-inside _ _ (start-v (line-v c) .pre .0 .0) (c .before .before .step-index2 .ensures) (c .u .given .1)
 
-side-diagonal : (c : tie.After-edge3) → let k = start-d c .args .cells in (c .edge3 .given .0 .0 < k .m) × (c .edge3 .given .0 .1 .0 < k .n)
+side-diagonal : (c : tie.After-edge3) → let k = start-d c .args .cells in
+    (c .edge3 .given .0 .0 < k .m) × (c .edge3 .given .0 .1 .0 < k .n)
 side-diagonal c = inside-diagonal (start-d c .args .cells) (c .edge3 .given .1) (start-d c .pre .1)
 
 between-requires : tie.Need-between-requires

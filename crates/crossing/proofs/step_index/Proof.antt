@@ -17,13 +17,15 @@ unfolding eps
 returns-3 c =
     let a = c .before .before in
     let o = a .before .before in
-    index-close _ _ (o .before .before .if1 .left) (o .before .to-f64 .ensures) (o .if2 .left) (a .before .clamp .ensures) (a .abs .ensures) (c .before .if3 .taken) (c .to-f642 .ensures)
+    index-close _ _ (o .before .before .if1 .left) (o .before .to-f64 .ensures) (o .if2 .left)
+    (a .before .clamp .ensures) (a .abs .ensures) (c .before .if3 .taken) (c .to-f642 .ensures)
 
 cast-i : tie.Need-cast-i
 cast-i c =
     let a = c .before .before in
     let o = a .before .before in
-    floor-casts _ _ (o .before .to-f64 .ensures) (a .before .clamp .ensures) (c .floor-i64 .ensures) (record { sfits = c .floor-i64 .ok })
+    floor-casts _ _ (o .before .to-f64 .ensures) (a .before .clamp .ensures) (c .floor-i64 .ensures)
+    (record { sfits = c .floor-i64 .ok })
 
 returns-4 : tie.Need-returns-4
 unfolding eps
@@ -31,8 +33,10 @@ returns-4 c =
     let f = c .before in
     let a = f .before .before in
     let o = a .before .before in
-    index-far _ _ (o .before .before .if1 .left) (o .before .to-f64 .ensures) (o .if2 .left) (a .before .clamp .ensures) (a .abs .ensures) (f .before .if3 .left)
-    (floor-cast-is _ _ (o .before .to-f64 .ensures) (a .before .clamp .ensures) (f .floor-i64 .ensures) (record { sfits = f .floor-i64 .ok })) (c .to-f643 .ensures)
+    index-far _ _ (o .before .before .if1 .left) (o .before .to-f64 .ensures) (o .if2 .left)
+    (a .before .clamp .ensures) (a .abs .ensures) (f .before .if3 .left)
+    (floor-cast-is _ _ (o .before .to-f64 .ensures) (a .before .clamp .ensures) (f .floor-i64 .ensures)
+    (record { sfits = f .floor-i64 .ok })) (c .to-f643 .ensures)
 
 pub step-index-spec : {M : Type 1} → statement M
 step-index-spec =

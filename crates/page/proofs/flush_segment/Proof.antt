@@ -17,4 +17,5 @@ returns-3 c p d f = flush-keeps (lists p _ d f) _ (c .before .before .pre) (c .b
 pub flush-segment-spec : {M : Type 1} → statement M
 flush-segment-spec =
     tie.close
-    (tie.spec (λ c. search needs) returns returns-2 (λ c. search needs) (λ c. search needs) (λ c. search needs) (λ c. search needs) returns-3)
+    (tie.spec (λ c. search needs) returns returns-2 (λ c. search needs) (λ c. search needs) (λ c. search needs)
+    (λ c. search needs) returns-3)

@@ -32,7 +32,8 @@ far j s =
 returns : tie.Need-returns
 returns c s =
     let a = c .before in
-    push-close eps _ (lists _ s _ _) _ (a .before .point-at .ensures) (a .all-close .ensures) (a .before .before .before .if1 .taken) (c .if2 .taken)
+    push-close eps _ (lists _ s _ _) _ (a .before .point-at .ensures) (a .all-close .ensures)
+    (a .before .before .before .if1 .taken) (c .if2 .taken)
 
 returns-2 : tie.Need-returns-2
 returns-2 c s = push-full eps _ (lists _ s _ _) _ (far (c .before) s) (omega arith)
@@ -47,7 +48,8 @@ returns-5 : tie.Need-returns-5
 returns-5 c s =
     let w = c .before .before .before .before .before .before in
     let e = w .before .before .before .before in
-    push-writes eps _ (lists _ s _ _) _ (far (e .before .before .before) s) (omega (arith, e .before .before .if3 .left, e .before .if4 .left, e .if5 .left)) (w .write-crossing .ensures s)
+    push-writes eps _ (lists _ s _ _) _ (far (e .before .before .before) s)
+    (omega (arith, e .before .before .if3 .left, e .before .if4 .left, e .if5 .left)) (w .write-crossing .ensures s)
 
 pub push-segment-point-spec : {M : Type 1} → statement M
 push-segment-point-spec =

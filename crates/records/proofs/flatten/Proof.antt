@@ -1,6 +1,7 @@
--- `records::flatten` meets its contract: a walk of its MIR, by hand, since the borrow checker covers no slice of structs. Written by tools/walks/walks.py.
--- A turn copies a record out of the slice and has `put_sample` put it; all that is known of `put_sample` is its contract. The loop's invariant at i, which is at most the length:
--- the pairs and marks of the first i records are put. What is left of the records falls.
+-- `records::flatten` meets its contract: each turn of its loop puts one record more, and what is left of them falls.
+-- It goes through the MIR by hand, since the borrow checker covers no slice of structs; tools/walks/walks.py writes it.
+-- A turn copies a record out of the slice and has `put_sample` put it, of which only the contract is known. The loop's
+-- invariant at i, which is at most the length: the pairs and marks of the first i records are put.
 use mathlib.Core.Path.{_≡_, refl, sym, ap, subst}
 use Prim.Native.Nat.{ℕ, suc, _+_, _-_, _*_, _<_, _≤_, _^_}
 use native.Mathlib.Nat.{le-refl, eq-or-lt-of-le}

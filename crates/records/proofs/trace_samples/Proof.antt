@@ -1,6 +1,9 @@
--- `records::trace_samples` meets its contract: a walk of its MIR, by hand, since the borrow checker covers no slice of structs. Written by tools/walks/walks.py.
--- All that is known of `flatten` and `trace_flattened` is their contracts. The two lists are locals: they are lent by `&mut` to `flatten` and by `&` to `trace_flattened`, each for a
--- lifetime made for the call. The outputs are given to `trace_flattened` for good. Subscripts are the parameters' places, from 0 for the grid to 7 for the fractions.
+-- `records::trace_samples` meets its contract: what `flatten` leaves in the two lists is what `trace_flattened` asks
+-- for, and of both only the contracts are known.
+-- It goes through the MIR by hand, since the borrow checker covers no slice of structs; tools/walks/walks.py writes it.
+-- The two lists are locals: they are lent by `&mut` to `flatten` and by `&` to `trace_flattened`, each for a lifetime
+-- made for the call. The outputs are given to `trace_flattened` for good. Subscripts are the parameters' places, from 0 for
+-- the grid to 7 for the fractions.
 use mathlib.Core.Path.{_≡_, refl, sym, ap, subst}
 use Prim.Native.Nat.{ℕ, _<_, _^_}
 use mathlib.Core.List.{List, [], _∷_}

@@ -1,4 +1,5 @@
--- `walk::append_edge_crossings` meets its contract. The invariant says what is left of the leg: the events from i on, and its end, from the page so far.
+-- `walk::append_edge_crossings` meets its contract. The invariant says what is left of the leg: the events from i on,
+-- and its end, from the page so far.
 use Prim.Native.Nat.{_≤_, _-_}
 use mathlib.Core.Path.{_≡_, _∙_}
 use native.Mathlib.Omega.{arith}
@@ -15,14 +16,18 @@ use Rattle.walk.proofs.append_edge_crossings.Statement.{statement}
 use Rattle.walk.proofs.append_edge_crossings.Tie as tie
 
 abbrev Inv-loop : tie.InvT-loop
-Inv-loop lambdas codes grid cells leg points₀ starts₀ sides₀ fractions₀ count pen₀ previous₀ i₀ points starts sides fractions pen previous i =
-    (i ≤ count) × (length points ≡ length points₀) × (length starts ≡ length starts₀) × (length sides ≡ length sides₀) × (length fractions ≡ length fractions₀)
+Inv-loop lambdas codes grid cells leg points₀ starts₀ sides₀ fractions₀ count pen₀ previous₀ i₀ points starts sides
+    fractions pen previous i =
+    (i ≤ count) × (length points ≡ length points₀) × (length starts ≡ length starts₀) × (length sides ≡ length sides₀)
+    × (length fractions ≡ length fractions₀)
     × PenFits points pen
     × (left grid cells leg (eventsIn lambdas codes count) zero64 (page (lists points₀ starts₀ sides₀ fractions₀) pen₀)
-    ≡ left grid cells leg (drop i (eventsIn lambdas codes count)) previous (page (lists points starts sides fractions) pen))
+    ≡ left grid cells leg (drop i (eventsIn lambdas codes count)) previous
+    (page (lists points starts sides fractions) pen))
 
 abbrev μ-loop : tie.MeasureT-loop
-μ-loop lambdas codes grid cells leg points₀ starts₀ sides₀ fractions₀ count pen₀ previous₀ i₀ points starts sides fractions pen previous i = count - i
+μ-loop lambdas codes grid cells leg points₀ starts₀ sides₀ fractions₀ count pen₀ previous₀ i₀ points starts sides
+    fractions pen previous i = count - i
 
 -- ---- places
 
@@ -50,16 +55,28 @@ codes-kept l = l .before .before
 below : (l : tie.At-loop Inv-loop μ-loop) → let o = sorted l .sorted-edge-events in o .result ≤ length (o .last .0)
 below l = omega (arith, sorted l .sorted-edge-events .ensures .0, lambdas-kept l .lambdas .given, started l .pre .0 .0)
 
-alike : (l : tie.At-loop Inv-loop μ-loop) → let o = sorted l .sorted-edge-events in length (o .last .0) ≡ length (o .last .1 .0)
-alike l = omega (arith, lambdas-kept l .lambdas .given, codes-kept l .codes .given, started l .pre .0 .0, started l .pre .0 .1)
+alike : (l : tie.At-loop Inv-loop μ-loop) → let o = sorted l .sorted-edge-events in
+    length (o .last .0) ≡ length (o .last .1 .0)
+alike l =
+    omega (
+      arith,
+      lambdas-kept l .lambdas .given,
+      codes-kept l .codes .given,
+      started l .pre .0 .0,
+      started l .pre .0 .1,
+    )
 
 -- the whole leg is what is left of it before the first event
-whole : (l : tie.At-loop Inv-loop μ-loop) → let a = started l .args in let w = page (lists (now (a .points)) (now (a .starts)) (now (a .sides)) (now (a .fractions))) (a .pen) in
+whole : (l : tie.At-loop Inv-loop μ-loop) → let a = started l .args in
+    let w = page (lists (now (a .points)) (now (a .starts)) (now (a .sides)) (now (a .fractions))) (a .pen) in
     let o = sorted l .sorted-edge-events in
-    onPage (legMoves (now (a .grid)) (a .cells) (a .leg)) w ≡ left (now (a .grid)) (a .cells) (a .leg) (eventsIn (o .last .0) (o .last .1 .0) (o .result)) zero64 w
+    onPage (legMoves (now (a .grid)) (a .cells) (a .leg)) w
+    ≡ left (now (a .grid)) (a .cells) (a .leg) (eventsIn (o .last .0) (o .last .1 .0) (o .result)) zero64 w
 whole l =
     let a = started l .args in
-    leg-starts (now (a .grid)) (a .cells) (a .leg) (page (lists (now (a .points)) (now (a .starts)) (now (a .sides)) (now (a .fractions))) (a .pen)) (sorted l .sorted-edge-events .ensures .1)
+    leg-starts (now (a .grid)) (a .cells) (a .leg)
+    (page (lists (now (a .points)) (now (a .starts)) (now (a .sides)) (now (a .fractions))) (a .pen))
+    (sorted l .sorted-edge-events .ensures .1)
 
 decide-requires : tie.Need-decide-requires Inv-loop μ-loop
 decide-requires c κs =
@@ -70,7 +87,8 @@ decide-requires c κs =
     let o = sorted l .sorted-edge-events in (
       s .pre .1 .0,
       event-inside (o .last .0) (o .last .1 .0) (o .result) (l .loop .i) (below l) (alike l) (s .args .cells)
-          (leg-inside (s .args .cells) (s .args .leg) (s .pre .1 .0 .0) (s .pre .1 .0 .1) (o .ensures .1)) (n .loop-test .taken) (e .event-at .ensures),
+          (leg-inside (s .args .cells) (s .args .leg) (s .pre .1 .0 .0) (s .pre .1 .0 .1) (o .ensures .1))
+          (n .loop-test .taken) (e .event-at .ensures),
     )
 
 abbrev looping : tie.After-draw-event Inv-loop μ-loop → tie.At-loop Inv-loop μ-loop
@@ -96,8 +114,10 @@ returns c =
     let l = looping d in
     let a = started l .args in
     let o = sorted l .sorted-edge-events in
-    turn-stops (now (a .grid)) (a .cells) (a .leg) (o .last .0) (o .last .1 .0) (o .result) (l .loop .i) (below l) (alike l) (looped e .loop-test .taken) _ _
-    (e .before .before .before .event-at .ensures) (e .before .lambda-or-one .ensures) (e .decide .ensures) (whole l ∙ l .loop .inv .6) (d .draw-event .ensures) (c .before .refusal .given .1)
+    turn-stops (now (a .grid)) (a .cells) (a .leg) (o .last .0) (o .last .1 .0) (o .result) (l .loop .i) (below l)
+    (alike l) (looped e .loop-test .taken) _ _
+    (e .before .before .before .event-at .ensures) (e .before .lambda-or-one .ensures) (e .decide .ensures)
+    (whole l ∙ l .loop .inv .6) (d .draw-event .ensures) (c .before .refusal .given .1)
 
 add-i : tie.Need-add-i Inv-loop μ-loop
 add-i c =
@@ -113,13 +133,20 @@ loop-again c =
     let o = sorted l .sorted-edge-events in
     let w = page (lists (l .loop .points) (l .loop .starts) (l .loop .sides) (l .loop .fractions)) (l .loop .pen) in (
       omega (arith, looped e .loop-test .taken),
-      omega (arith, c .before .before .before .before .before .before .before .before .before .before .points .given, l .loop .inv .1),
+      omega (
+        arith,
+        c .before .before .before .before .before .before .before .before .before .before .points .given,
+        l .loop .inv .1,
+      ),
       omega (arith, c .before .before .before .before .before .before .before .before .starts .given, l .loop .inv .2),
       omega (arith, c .before .before .before .before .before .before .sides .given, l .loop .inv .3),
       omega (arith, c .before .before .before .before .fractions .given, l .loop .inv .4),
-      fits-down (onPage (movesOf (e .decide .result)) w) (d .draw-event .ensures) (c .before .drawn .given .1) (moves-fit (movesOf (e .decide .result)) w (l .loop .inv .5)),
-      turn-goes (now (a .grid)) (a .cells) (a .leg) (o .last .0) (o .last .1 .0) (o .result) (l .loop .i) (below l) (alike l) (looped e .loop-test .taken) _ _
-          (e .before .before .before .event-at .ensures) (e .before .lambda-or-one .ensures) (e .decide .ensures) (l .loop .inv .6) (d .draw-event .ensures) (c .before .drawn .given .1),
+      fits-down (onPage (movesOf (e .decide .result)) w) (d .draw-event .ensures) (c .before .drawn .given .1)
+          (moves-fit (movesOf (e .decide .result)) w (l .loop .inv .5)),
+      turn-goes (now (a .grid)) (a .cells) (a .leg) (o .last .0) (o .last .1 .0) (o .result) (l .loop .i) (below l)
+          (alike l) (looped e .loop-test .taken) _ _
+          (e .before .before .before .event-at .ensures) (e .before .lambda-or-one .ensures) (e .decide .ensures)
+          (l .loop .inv .6) (d .draw-event .ensures) (c .before .drawn .given .1),
     )
 
 flush-unless-requires : tie.Need-flush-unless-requires Inv-loop μ-loop
@@ -132,7 +159,11 @@ returns-2 c =
     let l = b .before .before in
     let a = started l .args in
     let o = sorted l .sorted-edge-events in
-    rw (whole l ∙ l .loop .inv .6 ∙ leg-ends (now (a .grid)) (a .cells) (a .leg) (o .last .0) (o .last .1 .0) (o .result) (l .loop .i) (below l) (alike l) _ _ (b .before .loop-test .left), ← b .param-in-bounds .ensures)
+    rw (
+      whole l ∙ l .loop .inv .6 ∙ leg-ends (now (a .grid)) (a .cells) (a .leg) (o .last .0) (o .last .1 .0)
+          (o .result) (l .loop .i) (below l) (alike l) _ _ (b .before .loop-test .left),
+      ← b .param-in-bounds .ensures,
+    )
     (f .flush-unless .ensures _ _ _)
 
 pub append-edge-crossings-spec : {M : Type 1} → statement M

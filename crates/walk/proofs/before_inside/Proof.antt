@@ -11,7 +11,8 @@ returns c = before-far _ _ _ _ (c .before .before .if1 .taken) (c .before .at .e
 
 returns-2 : tie.Need-returns-2
 unfolding eps
-returns-2 c = before-near _ _ _ _ (c .before .before .if1 .left) (c .before .at2 .ensures) (c .param-in-bounds2 .ensures)
+returns-2 c =
+    before-near _ _ _ _ (c .before .before .if1 .left) (c .before .at2 .ensures) (c .param-in-bounds2 .ensures)
 
 pub before-inside-spec : {M : Type 1} → statement M
 before-inside-spec =

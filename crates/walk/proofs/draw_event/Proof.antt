@@ -1,4 +1,5 @@
--- `walk::draw_event` meets its contract: proofs/Drawn.antt has what is done by what was decided, and after a push the pen still fits.
+-- `walk::draw_event` meets its contract: proofs/Drawn.antt has what is done by what was decided, and after a push the
+-- pen still fits.
 use denote.Ref.{now}
 use Rattle.float.specs.Consts.{eps}
 use Rattle.page.specs.Page.{lists, Page, page, pushPage}
@@ -10,7 +11,8 @@ use Rattle.walk.proofs.draw_event.Tie as tie
 
 -- the lists as they were lent
 abbrev lent : tie.Start → Page
-lent s = let a = s .args in page (lists (now (a .points)) (now (a .starts)) (now (a .sides)) (now (a .fractions))) (a .pen)
+lent s =
+    let a = s .args in page (lists (now (a .points)) (now (a .starts)) (now (a .sides)) (now (a .fractions))) (a .pen)
 
 -- where the point is known, the start, and where the push has ended
 abbrev pointed : tie.After-push-segment-point → tie.After-point
@@ -26,19 +28,22 @@ flush-unless-requires : tie.Need-flush-unless-requires
 flush-unless-requires c κs =
     let p = pushed (c .before .before) in
     let w = lent (started p) in
-    fits-down (pushPage eps _ w) (p .push-segment-point .ensures (now (started p .args .starts))) (c .before .before .pushed .given .1) (push-fits eps _ w (started p .pre)) .0
+    fits-down (pushPage eps _ w) (p .push-segment-point .ensures (now (started p .args .starts)))
+    (c .before .before .pushed .given .1) (push-fits eps _ w (started p .pre)) .0
 
 returns : tie.Need-returns
 returns c =
     let d = c .before .before .before .before .before in
     let p = pushed d in
-    draws-point (started p .args .decision) (lent (started p)) (pointed p .point .given .1) (p .push-segment-point .ensures (now (started p .args .starts))) (d .pushed .given .1)
+    draws-point (started p .args .decision) (lent (started p)) (pointed p .point .given .1)
+    (p .push-segment-point .ensures (now (started p .args .starts))) (d .pushed .given .1)
     (c .before .before .flush-unless .ensures _ _ _)
 
 returns-2 : tie.Need-returns-2
 returns-2 c =
     let p = c .before .before .before .before .before .before .before .before .before in
-    draws-full (started p .args .decision) (lent (started p)) (pointed p .point .given .1) (p .push-segment-point .ensures (now (started p .args .starts))) (c .before .refusal .given .1)
+    draws-full (started p .args .decision) (lent (started p)) (pointed p .point .given .1)
+    (p .push-segment-point .ensures (now (started p .args .starts))) (c .before .refusal .given .1)
 
 returns-3 : tie.Need-returns-3
 returns-3 c =
@@ -47,7 +52,9 @@ returns-3 c =
     draws-end (s .args .decision) (lent s) (e .enum-told .given .1) (c .before .before .flush-unless2 .ensures _ _ _)
 
 returns-4 : tie.Need-returns-4
-returns-4 c = let s = c .before .before .before .before .before .before in draws-stop (s .args .decision) (lent s) (c .enum-told2 .given .1)
+returns-4 c =
+    let s = c .before .before .before .before .before .before in draws-stop (s .args .decision) (lent s)
+    (c .enum-told2 .given .1)
 
 pub draw-event-spec : {M : Type 1} → statement M
 draw-event-spec =

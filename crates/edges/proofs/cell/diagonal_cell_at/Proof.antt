@@ -1,11 +1,13 @@
--- `edges::cell::diagonal_cell_at` meets its contract: the cells are those of the definition, at the floors, and one that is not tried has no fit.
+-- `edges::cell::diagonal_cell_at` meets its contract: the cells are those of the definition, at the floors, and one
+-- that is not tried has no fit.
 use mathlib.Core.Path.{_≡_, sym, _∙_}
 use mathlib.Core.Logic.{⊎-elim}
 use mir.Syntax.{w64}
 use mir.ValLaws.{toZ-ofZ}
 use Rattle.edges.specs.declared.cell.DiagonalCell.the-variants.{NoCell}
 use Rattle.edges.specs.Cell.{tryCell, diagonalCellAt}
-use Rattle.edges.proofs.Index.{FirstOf, not-in-u, not-in-v, four-cells, first-fits, second-fits, third-fits, fourth-left}
+use Rattle.edges.proofs.Index.{FirstOf, not-in-u, not-in-v, four-cells, first-fits, second-fits, third-fits}
+use Rattle.edges.proofs.Index.{fourth-left}
 use borrow.Author.Needs.{needs}
 use Rattle.edges.proofs.cell.diagonal_cell_at.Statement.{statement}
 use Rattle.edges.proofs.cell.diagonal_cell_at.Tie as tie
@@ -29,7 +31,8 @@ cells e =
     four-cells (a .cells) (a .point)
     (toZ-ofZ w64 (x .floor-i64 .result) (record { sfits = x .floor-i64 .ok }) ∙ x .floor-i64 .ensures)
     (toZ-ofZ w64 (y .floor-i642 .result) (record { sfits = y .floor-i642 .ok }) ∙ y .floor-i642 .ensures)
-    (e .before .before .before .index-before .ensures) (e .before .before .index-of .ensures) (e .before .index-before2 .ensures) (e .index-of2 .ensures)
+    (e .before .before .before .index-before .ensures) (e .before .before .index-of .ensures)
+    (e .before .index-before2 .ensures) (e .index-of2 .ensures)
 
 -- neither cell of the earlier u fits
 before-none : (c : tie.Joined1) →
@@ -42,7 +45,8 @@ before-none c =
     let p = start e .args .point in
     let u0 = e .before .before .before .index-before .result in
     ⊎-elim (λ w. (sym (w .1 .ensures) ∙ w .3 .given .1, sym (w .4 .ensures) ∙ w .6 .given .1))
-    (λ w. let out = sym (c .before .is-in-cell .ensures) ∙ w .left in (not-in-u p u0 (e .before .index-before2 .result) out, not-in-u p u0 (e .index-of2 .result) out)) (c .if1 .came)
+    (λ w. let out = sym (c .before .is-in-cell .ensures) ∙ w .left in
+    (not-in-u p u0 (e .before .index-before2 .result) out, not-in-u p u0 (e .index-of2 .result) out)) (c .if1 .came)
 
 returns : tie.Need-returns
 returns c =
@@ -53,7 +57,8 @@ returns-2 : tie.Need-returns-2
 returns-2 c =
     let s = c .before .before .before in
     let f = s .before .before .before in
-    second-fits (cells (f .before .before .before)) (sym (f .try-cell .ensures) ∙ s .before .enum-told .given .1) (sym (s .try-cell2 .ensures) ∙ c .before .u2 .given .1)
+    second-fits (cells (f .before .before .before)) (sym (f .try-cell .ensures) ∙ s .before .enum-told .given .1)
+    (sym (s .try-cell2 .ensures) ∙ c .before .u2 .given .1)
 
 returns-3 : tie.Need-returns-3
 returns-3 c =
@@ -67,7 +72,10 @@ returns-4 c =
     let e = j .before .before in
     let u1 = e .before .before .index-of .result in
     let v0 = e .before .index-before2 .result in
-    let out = ⊎-elim (λ w. sym (w .1 .ensures) ∙ w .3 .given .1) (λ w. not-in-v (start e .args .point) u1 v0 (sym (c .before .before .is-in-cell2 .ensures) ∙ w .left)) (c .before .if2 .came) in
+    let out =
+    ⊎-elim (λ w. sym (w .1 .ensures) ∙ w .3 .given .1)
+    (λ w. not-in-v (start e .args .point) u1 v0 (sym (c .before .before .is-in-cell2 .ensures) ∙ w .left))
+    (c .before .if2 .came) in
     fourth-left (cells e) (before-none j) out (c .try-cell4 .ensures)
 
 pub diagonal-cell-at-spec : {M : Type 1} → statement M

@@ -1,4 +1,5 @@
--- `edges::cell::index_of` meets its contract: the number that the code reads back from z's bits is z, and the laws are in proofs/Index.antt.
+-- `edges::cell::index_of` meets its contract: the number that the code reads back from z's bits is z, and the laws
+-- are in proofs/Index.antt.
 use mathlib.Core.Path.{_≡_}
 use mathlib.Core.Bool.{true}
 use lib.IntN.{pos}
@@ -17,7 +18,11 @@ not-below : (c : tie.Then1) → leZ (pos 0) (c .before .args .z) ≡ true
 not-below c = rw (back (c .before)) at (c .if1 .taken)
 
 cast-k : tie.Need-cast-k
-cast-k c = rw (back (c .before)) (nonneg-of (c .before .args .z) (not-below c), abs-fits (c .before .args .z) (c .before .fits .z))
+cast-k c =
+    rw (back (c .before)) (
+      nonneg-of (c .before .args .z) (not-below c),
+      abs-fits (c .before .args .z) (c .before .fits .z),
+    )
 
 returns : tie.Need-returns
 returns c =

@@ -10,13 +10,15 @@ returns : tie.Need-returns
 returns c =
     let j = c .before .before .before in
     let i = j .before .before .before in
-    try-decides (i .before .before .args .point) (i .i .given .1) (j .j .given .1) (sym (c .before .on-diagonal .ensures) ∙ c .if1 .taken)
+    try-decides (i .before .before .args .point) (i .i .given .1) (j .j .given .1)
+    (sym (c .before .on-diagonal .ensures) ∙ c .if1 .taken)
 
 returns-2 : tie.Need-returns-2
 returns-2 c =
     let j = c .before .before .before in
     let i = j .before .before .before in
-    try-decides (i .before .before .args .point) (i .i .given .1) (j .j .given .1) (sym (c .before .on-diagonal .ensures) ∙ c .if1 .left)
+    try-decides (i .before .before .args .point) (i .i .given .1) (j .j .given .1)
+    (sym (c .before .on-diagonal .ensures) ∙ c .if1 .left)
 
 returns-3 : tie.Need-returns-3
 unfolding tryCell

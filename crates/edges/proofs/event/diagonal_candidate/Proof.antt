@@ -1,4 +1,5 @@
--- `edges::event::diagonal_candidate` meets its contract: where there is a lambda, the point there is in bounds and on a cell's diagonal, or there is no event.
+-- `edges::event::diagonal_candidate` meets its contract: where there is a lambda, the point there is in bounds and on
+-- a cell's diagonal, or there is no event.
 use mathlib.Core.Path.{_≡_, ap, sym, _∙_}
 use Rattle.basics.proofs.Tests.{held, failed}
 use Rattle.edges.specs.Cell.{diagonalCellAt}
@@ -26,24 +27,31 @@ returns-2 c =
     let p = c .before .before in
     let l = lambda-found p in
     let a = start l .args in
-    crossing-out (a .cells) (a .leg) (l .lambda-at .ensures) (p .before .before .lambda .given .1) (p .at .ensures) (failed (c .before .param-in-bounds .ensures) (c .if1 .taken))
+    crossing-out (a .cells) (a .leg) (l .lambda-at .ensures) (p .before .before .lambda .given .1) (p .at .ensures)
+    (failed (c .before .param-in-bounds .ensures) (c .if1 .taken))
 
 -- in bounds, the cell at the point decides
 in-bounds : (i : tie.Else1) →
     let p = i .before .before in
     let a = start (lambda-found p) .args in
-    diagonalEvent (p .before .before .lambda .given .0 .0) (diagonalCellAt (a .cells) (p .at .result)) ≡ diagonalCandidate (a .cells) (a .leg) (a .sum)
+    diagonalEvent (p .before .before .lambda .given .0 .0) (diagonalCellAt (a .cells) (p .at .result))
+    ≡ diagonalCandidate (a .cells) (a .leg) (a .sum)
 in-bounds i =
     let p = i .before .before in
     let l = lambda-found p in
     let a = start l .args in
-    crossing-in (a .cells) (a .leg) (l .lambda-at .ensures) (p .before .before .lambda .given .1) (p .at .ensures) (held (i .before .param-in-bounds .ensures) (i .if1 .left))
+    crossing-in (a .cells) (a .leg) (l .lambda-at .ensures) (p .before .before .lambda .given .1) (p .at .ensures)
+    (held (i .before .param-in-bounds .ensures) (i .if1 .left))
 
 returns-3 : tie.Need-returns-3
-returns-3 c = let d = c .before .before in ap (diagonalEvent _) (sym (c .enum-told2 .given .1) ∙ d .diagonal-cell-at .ensures) ∙ in-bounds (d .before)
+returns-3 c =
+    let d = c .before .before in ap (diagonalEvent _) (sym (c .enum-told2 .given .1) ∙ d .diagonal-cell-at .ensures)
+    ∙ in-bounds (d .before)
 
 returns-4 : tie.Need-returns-4
-returns-4 c = let d = c .before .before .before in ap (diagonalEvent _) (sym (c .before .u .given .1) ∙ d .diagonal-cell-at .ensures) ∙ in-bounds (d .before)
+returns-4 c =
+    let d = c .before .before .before in ap (diagonalEvent _) (sym (c .before .u .given .1)
+    ∙ d .diagonal-cell-at .ensures) ∙ in-bounds (d .before)
 
 pub diagonal-candidate-spec : {M : Type 1} → statement M
 diagonal-candidate-spec =

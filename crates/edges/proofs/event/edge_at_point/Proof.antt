@@ -30,14 +30,18 @@ no-u : (e : tie.After-enum-told) → let a = start (bounded e) .args in integerS
 no-u e = sym (e .before .before .integer-step .ensures) ∙ e .enum-told .given .1
 
 -- off the lines, the cell at the point decides
-on-no-line : (e : tie.After-enum-told2) → let a = start (bounded (off-u e)) .args in diagonalAt (diagonalCellAt (a .cells) (a .point)) ≡ edgeAtPoint (a .cells) (a .point)
+on-no-line : (e : tie.After-enum-told2) → let a = start (bounded (off-u e)) .args in
+    diagonalAt (diagonalCellAt (a .cells) (a .point)) ≡ edgeAtPoint (a .cells) (a .point)
 on-no-line e =
     let i = bounded (off-u e) in
     let a = start i .args in
-    edge-diagonal (a .cells) (a .point) (inside i) (no-u (off-u e)) (sym (e .before .before .integer-step2 .ensures) ∙ e .enum-told2 .given .1)
+    edge-diagonal (a .cells) (a .point) (inside i) (no-u (off-u e))
+    (sym (e .before .before .integer-step2 .ensures) ∙ e .enum-told2 .given .1)
 
 returns : tie.Need-returns
-returns c = let a = c .before .before .args in edge-out (a .cells) (a .point) (failed (c .before .param-in-bounds .ensures) (c .if1 .taken))
+returns c =
+    let a = c .before .before .args in edge-out (a .cells) (a .point)
+    (failed (c .before .param-in-bounds .ensures) (c .if1 .taken))
 
 returns-2 : tie.Need-returns-2
 returns-2 c =
@@ -50,13 +54,18 @@ returns-3 c =
     let s = c .before .before .before in
     let i = bounded (s .before) in
     let a = start i .args in
-    edge-v (a .cells) (a .point) (inside i) (no-u (s .before)) (sym (s .integer-step2 .ensures) ∙ c .before .v .given .1)
+    edge-v (a .cells) (a .point) (inside i) (no-u (s .before))
+    (sym (s .integer-step2 .ensures) ∙ c .before .v .given .1)
 
 returns-4 : tie.Need-returns-4
-returns-4 c = let s = c .before .before .before in ap diagonalAt (sym (c .before .u2 .given .1) ∙ s .diagonal-cell-at .ensures) ∙ on-no-line (s .before)
+returns-4 c =
+    let s = c .before .before .before in ap diagonalAt (sym (c .before .u2 .given .1) ∙ s .diagonal-cell-at .ensures)
+    ∙ on-no-line (s .before)
 
 returns-5 : tie.Need-returns-5
-returns-5 c = let s = c .before .before in ap diagonalAt (sym (c .enum-told3 .given .1) ∙ s .diagonal-cell-at .ensures) ∙ on-no-line (s .before)
+returns-5 c =
+    let s = c .before .before in ap diagonalAt (sym (c .enum-told3 .given .1) ∙ s .diagonal-cell-at .ensures)
+    ∙ on-no-line (s .before)
 
 pub edge-at-point-spec : {M : Type 1} → statement M
 edge-at-point-spec =

@@ -12,7 +12,8 @@ abbrev start : tie.After-lambda-at → tie.Start
 start l = l .before .before .before
 
 -- the lambda that was found is the line's
-found : (l : tie.After-lambda-at) → let a = start l .args in l .lambda-at .result ≡ lambdaAt (a .step) (along (a .axis) (a .leg .a)) (change (a .axis) (a .leg))
+found : (l : tie.After-lambda-at) → let a = start l .args in
+    l .lambda-at .result ≡ lambdaAt (a .step) (along (a .axis) (a .leg .a)) (change (a .axis) (a .leg))
 found l = cc
 
 returns : tie.Need-returns
@@ -28,7 +29,8 @@ returns-2 c =
     let l = t .before .before in
     let a = start l .args in
     line-on (a .cells) (a .leg) (found l) (t .lambda .given .1) (p .at .ensures) (a .axis) (a .step)
-    (c .before .before .before .across .ensures) (c .before .before .steps-off .ensures) (c .before .line-at .ensures) (c .on-line .ensures)
+    (c .before .before .before .across .ensures) (c .before .before .steps-off .ensures) (c .before .line-at .ensures)
+    (c .on-line .ensures)
 
 pub line-candidate-spec : {M : Type 1} → statement M
 line-candidate-spec =

@@ -16,13 +16,15 @@ tests : (c : tie.After-to-f64) →
     let step = c .before .before .round .result in
     let a = c .before .before .before .args in
     lt (c .before .abs .result) eps && (le zero64 step && le step (c .to-f64 .result))
-    ≡ lt (absolute (sub binary64 (a .value) (rounded (a .value)))) eps && (le zero64 (rounded (a .value)) && le (rounded (a .value)) (natFloat (a .steps)))
+    ≡ lt (absolute (sub binary64 (a .value) (rounded (a .value)))) eps
+    && (le zero64 (rounded (a .value)) && le (rounded (a .value)) (natFloat (a .steps)))
 tests c = cc
 
 returns : tie.Need-returns
 unfolding integerStep eps
 returns c =
-    simp (sym (tests (c .before .before)) ∙ c .before .if1 .taken) (ap Step (c .to-usize .ensures ∙ ap (toUnsigned 64) (c .before .before .before .before .round .ensures)))
+    simp (sym (tests (c .before .before)) ∙ c .before .if1 .taken)
+    (ap Step (c .to-usize .ensures ∙ ap (toUnsigned 64) (c .before .before .before .before .round .ensures)))
 
 returns-2 : tie.Need-returns-2
 unfolding integerStep eps
@@ -31,4 +33,5 @@ returns-2 c = simp (sym (tests (c .before)) ∙ c .if1 .left)
 pub integer-step-spec : {M : Type 1} → statement M
 integer-step-spec =
     tie.close
-    (tie.spec (λ c κs. search needs) (λ c κs. search needs) (λ c κs. search needs) (λ c κs. search needs) returns returns-2)
+    (tie.spec (λ c κs. search needs) (λ c κs. search needs) (λ c κs. search needs)
+    (λ c κs. search needs) returns returns-2)

@@ -18,4 +18,5 @@ unfolding edgeOf
 returns-3 c = simp (le-ltb _ _ (c .before .if1 .left), le-ltb _ _ (c .if2 .left))
 
 pub edge-of-spec : {M : Type 1} → statement M
-edge-of-spec = tie.close (tie.spec returns (λ c. search needs) returns-2 (λ c. search needs) (λ c. search needs) returns-3)
+edge-of-spec =
+    tie.close (tie.spec returns (λ c. search needs) returns-2 (λ c. search needs) (λ c. search needs) returns-3)

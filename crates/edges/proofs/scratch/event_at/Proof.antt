@@ -8,7 +8,9 @@ use Rattle.edges.proofs.scratch.event_at.Statement.{statement}
 use Rattle.edges.proofs.scratch.event_at.Tie as tie
 
 returns : tie.Need-returns
-returns c = let a = c .before .before .before .before .before .args in ap (event (getD (a .lambdas .now) (a .i) nan)) (c .before .edge-of .ensures)
+returns c =
+    let a = c .before .before .before .before .before .args in ap (event (getD (a .lambdas .now) (a .i) nan))
+    (c .before .edge-of .ensures)
 
 pub event-at-spec : {M : Type 1} → statement M
 event-at-spec =

@@ -1,4 +1,5 @@
--- `edges::scratch::insert_event` meets its contract: its lambda and its code are put at the place that the search found, which is the event's.
+-- `edges::scratch::insert_event` meets its contract: its lambda and its code are put at the place that the search
+-- found, which is the event's.
 use Prim.Native.Nat.{_≤_}
 use native.Mathlib.Omega.{arith}
 use lib.ListN.{length}
@@ -23,8 +24,14 @@ returns c =
     let place = found .place-of .result in
     let code = codes .before .code-of in
     let room : count ≤ length ls = omega (arith, s .pre .0) in
-    let put = events-put ls cs count place (e .lambda) (code .result) _ _ (s .pre .1) room (lambdas .insert-lambda .ensures) (codes .insert-code .ensures) in
-    let inserted = rw (event-back e (code .ensures) (s .pre .2 .0), placed e ls cs count place (s .pre .1) room (s .pre .2) (s .pre .3) (found .place-of .ensures)) at put in
+    let put =
+    events-put ls cs count place (e .lambda) (code .result) _ _ (s .pre .1) room (lambdas .insert-lambda .ensures)
+    (codes .insert-code .ensures) in
+    let inserted =
+    rw (
+      event-back e (code .ensures) (s .pre .2 .0),
+      placed e ls cs count place (s .pre .1) room (s .pre .2) (s .pre .3) (found .place-of .ensures),
+    ) at put in
     (inserted, sorted-insert e (eventsIn ls cs count) (s .pre .2) (s .pre .3) inserted)
 
 pub insert-event-spec : {M : Type 1} → statement M

@@ -17,4 +17,5 @@ returns-3 c = ap precedes (sym (c .enum-told3 .given .1) ∙ c .before .before .
 pub precedes-spec : {M : Type 1} → statement M
 precedes-spec =
     tie.close
-    (tie.spec (λ c κs. search needs) (λ c. search needs) (λ c. search needs) (λ c. search needs) returns returns-2 returns-3)
+    (tie.spec (λ c κs. search needs) (λ c. search needs) (λ c. search needs)
+    (λ c. search needs) returns returns-2 returns-3)

@@ -13,8 +13,12 @@ insert-event-requires c κs =
 
 returns : tie.Need-returns
 returns c =
-    let put = c .before .before .before .before in
-    (search needs, push-yes _ (put .before .before .before .before .candidate .given .1) (put .insert-event .ensures .0), put .insert-event .ensures .1)
+    let put = c .before .before .before .before in (
+      search needs,
+      push-yes _ (put .before .before .before .before .candidate .given .1)
+          (put .insert-event .ensures .0),
+      put .insert-event .ensures .1,
+    )
 
 returns-2 : tie.Need-returns-2
 returns-2 c = (search needs, push-no _ (c .enum-told .given .1), c .before .before .before .before .pre .3)

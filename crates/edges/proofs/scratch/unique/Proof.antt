@@ -1,4 +1,5 @@
--- `edges::scratch::unique` meets its contract: at each turn what is kept, with what is left from i on, makes the answer.
+-- `edges::scratch::unique` meets its contract: at each turn what is kept, with what is left from i on, makes the
+-- answer.
 use Prim.Native.Nat.{_-_}
 use Rattle.float.specs.Consts.{eps}
 use Rattle.edges.proofs.Kept.{Keeping, keeping-starts, keeping-none, keeping-dropped, keeping-kept, keeping-ends}
@@ -7,7 +8,8 @@ use Rattle.edges.proofs.scratch.unique.Statement.{statement}
 use Rattle.edges.proofs.scratch.unique.Tie as tie
 
 abbrev Inv-loop : tie.InvT-loop
-Inv-loop lambdas₀ codes₀ count kept₀ last₀ i₀ lambdas codes kept last i = Keeping lambdas₀ codes₀ count lambdas codes kept last i
+Inv-loop lambdas₀ codes₀ count kept₀ last₀ i₀ lambdas codes kept last i =
+    Keeping lambdas₀ codes₀ count lambdas codes kept last i
 
 abbrev μ-loop : tie.MeasureT-loop
 μ-loop lambdas₀ codes₀ count kept₀ last₀ i₀ lambdas codes kept last i = count - i
@@ -25,14 +27,16 @@ unfolding eps
 loop-again c =
     let t = c .before .before .before in
     let s = t .before .before .before .before .before .before in
-    keeping-dropped (s .pre .1) (s .pre .0) (t .before .loop .inv) (t .loop-test .taken) (rw (c .before .abs .ensures) at (c .if2 .taken))
+    keeping-dropped (s .pre .1) (s .pre .0) (t .before .loop .inv) (t .loop-test .taken)
+    (rw (c .before .abs .ensures) at (c .if2 .taken))
 
 loop-again-2 : tie.Need-loop-again-2 Inv-loop μ-loop
 unfolding eps
 loop-again-2 c =
     let t = c .before .before .before .before in
     let s = t .before .before .before .before .before .before in
-    keeping-kept (s .pre .1) (s .pre .0) (t .before .loop .inv) (t .loop-test .taken) (rw (c .before .before .abs .ensures) at (c .before .if2 .left))
+    keeping-kept (s .pre .1) (s .pre .0) (t .before .loop .inv) (t .loop-test .taken)
+    (rw (c .before .before .abs .ensures) at (c .before .if2 .left))
 
 returns-2 : tie.Need-returns-2 Inv-loop μ-loop
 returns-2 c =

@@ -10,7 +10,8 @@ use borrow.Author.Needs.{needs}
 use Rattle.edges.proofs.sorted.first_sum.Statement.{statement}
 use Rattle.edges.proofs.sorted.first_sum.Tie as tie
 
-reached : (c : tie.After-count-of) → let a = c .before .before .before .args in c .count-of .result ≡ count (ceilZ (lowSum (a .leg)))
+reached : (c : tie.After-count-of) → let a = c .before .before .before .args in
+    c .count-of .result ≡ count (ceilZ (lowSum (a .leg)))
 reached c = cc (toZ-ofZ w64 (c .before .ceil-i64 .result) (record { sfits = c .before .ceil-i64 .ok }))
 
 returns : tie.Need-returns

@@ -10,7 +10,8 @@ use borrow.Author.Needs.{needs}
 use Rattle.edges.proofs.sorted.past_sum.Statement.{statement}
 use Rattle.edges.proofs.sorted.past_sum.Tie as tie
 
-reached : (c : tie.After-count-of) → let a = c .before .before .before .args in c .count-of .result ≡ count (floorZ (highSum (a .leg)))
+reached : (c : tie.After-count-of) → let a = c .before .before .before .args in
+    c .count-of .result ≡ count (floorZ (highSum (a .leg)))
 reached c = cc (toZ-ofZ w64 (c .before .floor-i64 .result) (record { sfits = c .before .floor-i64 .ok }))
 
 returns : tie.Need-returns

@@ -34,8 +34,17 @@ returns c =
     let us = us-pushed (vs .before) in
     let ends = ends-pushed (us .before) in
     let s = start ends in (
-      omega (arith, s .pre .u-steps, s .pre .v-steps, ends .push-ends .ensures .0, us .push-lines .ensures .0, vs .push-lines2 .ensures .0, diagonals .push-diagonals .ensures .0),
-      groups-sorted (s .args .cells) (s .args .leg) (ends .push-ends .ensures .1) (us .push-lines .ensures .1) (vs .push-lines2 .ensures .1) (diagonals .push-diagonals .ensures .1),
+      omega (
+        arith,
+        s .pre .u-steps,
+        s .pre .v-steps,
+        ends .push-ends .ensures .0,
+        us .push-lines .ensures .0,
+        vs .push-lines2 .ensures .0,
+        diagonals .push-diagonals .ensures .0,
+      ),
+      groups-sorted (s .args .cells) (s .args .leg) (ends .push-ends .ensures .1) (us .push-lines .ensures .1)
+          (vs .push-lines2 .ensures .1) (diagonals .push-diagonals .ensures .1),
     )
 
 pub push-candidates-spec : {M : Type 1} → statement M

@@ -1,4 +1,5 @@
--- `edges::sorted::push_diagonals` meets its contract: the diagonals from sum on, sorted into the events so far, give what is asked.
+-- `edges::sorted::push_diagonals` meets its contract: the diagonals from sum on, sorted into the events so far, give
+-- what is asked.
 use mathlib.Core.Path.{ap}
 use Prim.Native.Nat.{_≤_, _+_, _-_}
 use native.Mathlib.Omega.{arith}
@@ -16,7 +17,8 @@ use Rattle.edges.proofs.sorted.push_diagonals.Tie as tie
 abbrev Inv-loop : tie.InvT-loop
 Inv-loop lambdas₀ codes₀ count cells leg total₀ first past sum₀ lambdas codes total sum =
     (1 ≤ first) × (past ≤ cells .m + cells .n)
-    × Gathering (diagonalCandidate cells leg) first past (sortInto (diagonals cells leg) (eventsIn lambdas₀ codes₀ count)) count lambdas codes total sum
+    × Gathering (diagonalCandidate cells leg) first past
+    (sortInto (diagonals cells leg) (eventsIn lambdas₀ codes₀ count)) count lambdas codes total sum
 
 abbrev μ-loop : tie.MeasureT-loop
 μ-loop lambdas₀ codes₀ count cells leg total₀ first past sum₀ lambdas codes total sum = past - sum
@@ -31,8 +33,11 @@ changed e = e .before .before .before
 returns : tie.Need-returns Inv-loop μ-loop
 unfolding eps
 returns c =
-    let a = start (c .before) .args in
-    (search needs, diagonals-none (a .cells) (a .leg) (eventsIn (a .lambdas .now) (a .codes .now) (a .count)) (failed (ap (lt eps) (c .before .abs .ensures)) (c .if1 .taken)))
+    let a = start (c .before) .args in (
+      search needs,
+      diagonals-none (a .cells) (a .leg) (eventsIn (a .lambdas .now) (a .codes .now) (a .count))
+          (failed (ap (lt eps) (c .before .abs .ensures)) (c .if1 .taken)),
+    )
 
 loop-holds : tie.Need-loop-holds Inv-loop μ-loop
 unfolding eps
@@ -49,7 +54,10 @@ loop-holds c =
         few = search needs;
         lambdas-length = s .pre .0 .lambdas-length;
         codes-length = s .pre .0 .codes-length;
-        left = diagonals-start (a .cells) (a .leg) started (held (ap (lt eps) (changed c .abs .ensures)) (f .before .if1 .left)) (f .first-sum .ensures) (c .past-sum .ensures);
+        left =
+            diagonals-start (a .cells) (a .leg) started
+            (held (ap (lt eps) (changed c .abs .ensures)) (f .before .if1 .left)) (f .first-sum .ensures)
+            (c .past-sum .ensures);
         sorted = s .pre .1;
       },
     )
@@ -58,15 +66,24 @@ push-candidate-requires : tie.Need-push-candidate-requires Inv-loop μ-loop
 push-candidate-requires c κs =
     let l = c .before .before .before .before in
     let s = start (changed (l .before)) in
-    let a = s .args in
-    (search needs, search needs, diagonal-storable (a .cells) (s .pre .0 .u-steps) (s .pre .0 .v-steps) (a .leg) (l .loop .sum) (c .diagonal-candidate .ensures), l .loop .inv .2 .sorted)
+    let a = s .args in (
+      search needs,
+      search needs,
+      diagonal-storable (a .cells) (s .pre .0 .u-steps) (s .pre .0 .v-steps) (a .leg) (l .loop .sum)
+          (c .diagonal-candidate .ensures),
+      l .loop .inv .2 .sorted,
+    )
 
 loop-again : tie.Need-loop-again Inv-loop μ-loop
 loop-again c =
     let p = c .before .before .before .before in
     let t = p .before .before .before .before in
-    let l = t .before .loop in
-    (l .inv .0, l .inv .1, gather-turn (l .inv .2) (t .loop-test .taken) (p .before .diagonal-candidate .ensures) (search needs) (search needs) (p .push-candidate .ensures))
+    let l = t .before .loop in (
+      l .inv .0,
+      l .inv .1,
+      gather-turn (l .inv .2) (t .loop-test .taken) (p .before .diagonal-candidate .ensures) (search needs)
+          (search needs) (p .push-candidate .ensures),
+    )
 
 returns-2 : tie.Need-returns-2 Inv-loop μ-loop
 returns-2 c = (search needs, gather-ends (c .before .loop .inv .2) (c .loop-test .left))

@@ -25,7 +25,8 @@ push-candidate-requires c κs =
     let s = start p in (
       search needs,
       search needs,
-      end-storable (s .args .cells) (s .pre .u-steps) (s .pre .v-steps) zero64 (s .args .leg .a) zero-on-leg (p .before .before .before .edge-at-point .ensures) (p .before .before .end-candidate .ensures),
+      end-storable (s .args .cells) (s .pre .u-steps) (s .pre .v-steps) zero64 (s .args .leg .a) zero-on-leg
+          (p .before .before .before .edge-at-point .ensures) (p .before .before .end-candidate .ensures),
       sorted-none,
     )
 
@@ -36,7 +37,8 @@ push-candidate-requires-2 c κs =
     let s = start p in (
       search needs,
       search needs,
-      end-storable (s .args .cells) (s .pre .u-steps) (s .pre .v-steps) one64 (s .args .leg .b) one-on-leg (p .before .edge-at-point2 .ensures) (p .end-candidate2 .ensures),
+      end-storable (s .args .cells) (s .pre .u-steps) (s .pre .v-steps) one64 (s .args .leg .b) one-on-leg
+          (p .before .edge-at-point2 .ensures) (p .end-candidate2 .ensures),
       first .push-candidate .ensures .2,
     )
 
@@ -47,7 +49,8 @@ returns c =
     let p = found first in
     let a = start p .args in (
       omega (arith, first .push-candidate .ensures .0, second .push-candidate2 .ensures .0),
-      ends-pushed (a .cells) (a .leg) (p .before .before .before .edge-at-point .ensures) (p .before .edge-at-point2 .ensures) (p .before .before .end-candidate .ensures) (p .end-candidate2 .ensures)
+      ends-pushed (a .cells) (a .leg) (p .before .before .before .edge-at-point .ensures)
+          (p .before .edge-at-point2 .ensures) (p .before .before .end-candidate .ensures) (p .end-candidate2 .ensures)
           (first .push-candidate .ensures .1) (second .push-candidate2 .ensures .1),
       second .push-candidate2 .ensures .2,
     )

@@ -1,4 +1,5 @@
--- `edges::sorted::push_lines` meets its contract: the lines from `step` on, sorted into the events so far, give what is asked.
+-- `edges::sorted::push_lines` meets its contract: the lines from `step` on, sorted into the events so far, give what
+-- is asked.
 use mathlib.Core.Path.{_≡_}
 use Prim.Native.Nat.{_-_}
 use lib.Ieee.{lt}
@@ -7,14 +8,16 @@ use Rattle.basics.proofs.Tests.{held, failed}
 use Rattle.edges.specs.Events.{change, lineCandidate, moves, lines, sortInto}
 use Rattle.edges.specs.Scratch.{eventsIn, Storable}
 use Rattle.edges.proofs.Storable.{line-storable}
-use Rattle.edges.proofs.Gather.{if-event, push-yes, push-no, Gathering, gather-turn, gather-ends, lines-none, lines-start}
+use Rattle.edges.proofs.Gather.{if-event, push-yes, push-no, Gathering, gather-turn, gather-ends, lines-none}
+use Rattle.edges.proofs.Gather.{lines-start}
 use borrow.Author.Needs.{needs}
 use Rattle.edges.proofs.sorted.push_lines.Statement.{statement}
 use Rattle.edges.proofs.sorted.push_lines.Tie as tie
 
 abbrev Inv-loop : tie.InvT-loop
 Inv-loop lambdas₀ codes₀ count axis cells leg total₀ step₀ step-end lambdas codes total step =
-    Gathering (lineCandidate axis cells leg) 0 step-end (sortInto (lines axis cells leg) (eventsIn lambdas₀ codes₀ count)) count lambdas codes total step
+    Gathering (lineCandidate axis cells leg) 0 step-end
+    (sortInto (lines axis cells leg) (eventsIn lambdas₀ codes₀ count)) count lambdas codes total step
 
 abbrev μ-loop : tie.MeasureT-loop
 μ-loop lambdas₀ codes₀ count axis cells leg total₀ step₀ step-end lambdas codes total step = step-end - step
@@ -27,7 +30,8 @@ abbrev changed : tie.After-steps-on Inv-loop μ-loop → tie.After-abs Inv-loop 
 changed e = e .before .before
 
 -- what is tested is whether the axis moves
-test : (e : tie.After-abs Inv-loop μ-loop) → let a = start e .args in lt eps (e .abs .result) ≡ moves (change (a .axis) (a .leg))
+test : (e : tie.After-abs Inv-loop μ-loop) → let a = start e .args in
+    lt eps (e .abs .result) ≡ moves (change (a .axis) (a .leg))
 test e = cc
 
 returns : tie.Need-returns Inv-loop μ-loop
@@ -35,8 +39,11 @@ unfolding eps
 returns c =
     let s = start (c .before) in
     let a = s .args in
-    let started = eventsIn (a .lambdas .now) (a .codes .now) (a .count) in
-    (search needs, lines-none (a .axis) (a .cells) (a .leg) started (failed (test (c .before)) (c .if1 .taken)), s .pre .1)
+    let started = eventsIn (a .lambdas .now) (a .codes .now) (a .count) in (
+      search needs,
+      lines-none (a .axis) (a .cells) (a .leg) started (failed (test (c .before)) (c .if1 .taken)),
+      s .pre .1,
+    )
 
 loop-holds : tie.Need-loop-holds Inv-loop μ-loop
 unfolding eps
@@ -50,7 +57,9 @@ loop-holds c =
       few = search needs;
       lambdas-length = s .pre .0 .lambdas-length;
       codes-length = s .pre .0 .codes-length;
-      left = lines-start (a .axis) (a .cells) (a .leg) started (held (test (changed c)) (c .before .if1 .left)) (c .steps-on .ensures);
+      left =
+          lines-start (a .axis) (a .cells) (a .leg) started (held (test (changed c)) (c .before .if1 .left))
+          (c .steps-on .ensures);
       sorted = s .pre .1;
     }
 
@@ -58,7 +67,8 @@ loop-again : tie.Need-loop-again Inv-loop μ-loop
 loop-again c =
     let t = c .before .before .before in
     let g = t .before .loop .inv in
-    gather-turn g (t .loop-test .taken) (c .before .before .line-candidate .ensures) (g .lambdas-length) (g .codes-length) (search needs, push-no _ (c .enum-told .given .1), g .sorted)
+    gather-turn g (t .loop-test .taken) (c .before .before .line-candidate .ensures) (g .lambdas-length)
+    (g .codes-length) (search needs, push-no _ (c .enum-told .given .1), g .sorted)
 
 insert-event-requires : tie.Need-insert-event-requires Inv-loop μ-loop
 insert-event-requires c κs =
@@ -71,7 +81,8 @@ insert-event-requires c κs =
       search needs,
       search needs,
       if-event Storable (e .event .given .1)
-          (line-storable (a .cells) (s .pre .0 .u-steps) (s .pre .0 .v-steps) (a .leg) (a .axis) (l .step) (n .steps-on .ensures) (t .loop-test .taken) (e .before .before .line-candidate .ensures)),
+          (line-storable (a .cells) (s .pre .0 .u-steps) (s .pre .0 .v-steps) (a .leg) (a .axis) (l .step)
+          (n .steps-on .ensures) (t .loop-test .taken) (e .before .before .line-candidate .ensures)),
       l .inv .sorted,
     )
 
@@ -80,7 +91,12 @@ loop-again-2 c =
     let i = c .before .before .before .before in
     let e = i .before .before .before .before in
     let t = e .before .before .before in
-    gather-turn (t .before .loop .inv) (t .loop-test .taken) (e .before .before .line-candidate .ensures) (search needs) (search needs) (search needs, push-yes _ (e .event .given .1) (i .insert-event .ensures .0), i .insert-event .ensures .1)
+    gather-turn (t .before .loop .inv) (t .loop-test .taken) (e .before .before .line-candidate .ensures)
+    (search needs) (search needs) (
+      search needs,
+      push-yes _ (e .event .given .1) (i .insert-event .ensures .0),
+      i .insert-event .ensures .1,
+    )
 
 returns-2 : tie.Need-returns-2 Inv-loop μ-loop
 returns-2 c = let g = c .before .loop .inv in (search needs, gather-ends g (c .loop-test .left), g .sorted)

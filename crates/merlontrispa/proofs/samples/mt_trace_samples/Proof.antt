@@ -1,6 +1,8 @@
--- `merlontrispa::samples::mt_trace_samples` meets its contract: a walk of its MIR, by hand, since the borrow checker covers no slice of structs. Written by tools/walks/walks.py.
--- All that is known of `trace_samples` and `trace_to_c` is their contracts. The outputs are given to `trace_samples` for good.
--- Subscripts are the parameters' places, from 0 for the grid to 7 for the fractions.
+-- `merlontrispa::samples::mt_trace_samples` meets its contract: it hands `trace_samples` what it was given, and
+-- `trace_to_c` the answer; of both only the contracts are known.
+-- It goes through the MIR by hand, since the borrow checker covers no slice of structs; tools/walks/walks.py writes it.
+-- The outputs are given to `trace_samples` for good. Subscripts are the parameters' places, from 0 for the grid to 7 for
+-- the fractions.
 use mathlib.Core.Path.{_≡_, refl}
 use Prim.Native.Nat.{ℕ, _<_, _^_}
 use mathlib.Core.List.{List, [], _∷_}
@@ -191,7 +193,7 @@ module _ {M : Type 1} (𝓤 : URA M) (H : Heap 𝓤) (A : Atoms 𝓤) (W : Given
       owned ! usize (Is usize) (uint-makes 𝓤 H A W w64) d₂ _ (refl, g₂) $ fjoin ! $ owned ! usize (Is usize) (uint-makes 𝓤 H A W w64) d₁ _ (refl, g₁) $ fjoin ! $ move ! (1 ∷ 0 ∷ []) $ fjoin ! $ frame ! $
       done !
 
-  -- ---- `trace_samples`, which takes what this function takes: that the caller has what it asks, and what there is after it
+  -- ---- `trace_samples`, which takes the same: that the caller has what it asks, and what there is after it
   abbrev to-rec : Rec 𝓤 H A mem run .Ghost
   to-rec = ((κs, qs, tt, a, at), tt)
 

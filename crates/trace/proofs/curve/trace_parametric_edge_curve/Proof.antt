@@ -1,5 +1,5 @@
--- `trace::curve::trace_parametric_edge_curve` meets its contract. The invariant says what is left: the moves of all samples are, from the page so far, those of
--- the samples from i on.
+-- `trace::curve::trace_parametric_edge_curve` meets its contract. The invariant says what is left: the moves of all
+-- samples are, from the page so far, those of the samples from i on.
 use Prim.Native.Nat.{_≤_, _-_}
 use mathlib.Core.Path.{_≡_, _∙_}
 use native.Mathlib.Omega.{arith}
@@ -15,14 +15,19 @@ use Rattle.trace.proofs.curve.trace_parametric_edge_curve.Statement.{st
 use Rattle.trace.proofs.curve.trace_parametric_edge_curve.Tie as tie
 
 abbrev Inv-loop : tie.InvT-loop
-Inv-loop grid cells pairs marks points₀ starts₀ sides₀ fractions₀ lambdas₀ codes₀ pen₀ previous₀ i₀ points starts sides fractions lambdas codes pen previous i =
-    (i ≤ length marks) × (length points ≡ length points₀) × (length starts ≡ length starts₀) × (length sides ≡ length sides₀) × (length fractions ≡ length fractions₀)
+Inv-loop grid cells pairs marks points₀ starts₀ sides₀ fractions₀ lambdas₀ codes₀ pen₀ previous₀ i₀ points starts
+    sides fractions lambdas codes pen previous i =
+    (i ≤ length marks) × (length points ≡ length points₀) × (length starts ≡ length starts₀)
+    × (length sides ≡ length sides₀) × (length fractions ≡ length fractions₀)
     × (length lambdas ≡ 1023) × (length codes ≡ 1023) × PenFits points pen
-    × (onPage (traceMoves grid cells (samplesOf marks pairs) Nowhere) (page (lists points₀ starts₀ sides₀ fractions₀) (penAt 0 0 0))
-    ≡ onPage (traceMoves grid cells (drop i (samplesOf marks pairs)) previous) (page (lists points starts sides fractions) pen))
+    × (onPage (traceMoves grid cells (samplesOf marks pairs) Nowhere)
+    (page (lists points₀ starts₀ sides₀ fractions₀) (penAt 0 0 0))
+    ≡ onPage (traceMoves grid cells (drop i (samplesOf marks pairs)) previous)
+    (page (lists points starts sides fractions) pen))
 
 abbrev μ-loop : tie.MeasureT-loop
-μ-loop grid cells pairs marks points₀ starts₀ sides₀ fractions₀ lambdas₀ codes₀ pen₀ previous₀ i₀ points starts sides fractions lambdas codes pen previous i = length marks - i
+μ-loop grid cells pairs marks points₀ starts₀ sides₀ fractions₀ lambdas₀ codes₀ pen₀ previous₀ i₀ points starts sides
+    fractions lambdas codes pen previous i = length marks - i
 
 -- ---- places
 
@@ -41,7 +46,8 @@ abbrev refused : tie.After-known-told2 Inv-loop μ-loop → tie.After-trace-samp
 refused c = c .before .before .before .before .before .before .before .before .before .before .before .before .before
 
 abbrev went-on : tie.After-after-sample Inv-loop μ-loop → tie.After-trace-sample Inv-loop μ-loop
-went-on c = c .before .before .before .before .before .before .before .before .before .before .before .before .before .before
+went-on c =
+    c .before .before .before .before .before .before .before .before .before .before .before .before .before .before
 
 trace-sample-requires : tie.Need-trace-sample-requires Inv-loop μ-loop
 trace-sample-requires c κs =
@@ -54,8 +60,10 @@ returns c =
     let v = visited t in
     let l = looped v .before in
     let s = started l in
-    trace-stops (now (s .args .grid)) (s .args .cells) (now (s .args .marks)) (now (s .args .pairs)) (l .loop .i) (s .pre .1 .0) _ _ (looped v .loop-test .taken)
-    (v .before .point-of .ensures) (v .visit-of .ensures) (l .loop .inv .8) (t .trace-sample .ensures) (c .before .refusal .given .1)
+    trace-stops (now (s .args .grid)) (s .args .cells) (now (s .args .marks)) (now (s .args .pairs)) (l .loop .i)
+    (s .pre .1 .0) _ _ (looped v .loop-test .taken)
+    (v .before .point-of .ensures) (v .visit-of .ensures) (l .loop .inv .8) (t .trace-sample .ensures)
+    (c .before .refusal .given .1)
 
 add-i : tie.Need-add-i Inv-loop μ-loop
 add-i c =
@@ -73,14 +81,21 @@ loop-again c =
     let w = page (lists (l .loop .points) (l .loop .starts) (l .loop .sides) (l .loop .fractions)) (l .loop .pen) in (
       omega (arith, looped v .loop-test .taken),
       omega (arith, c .before .before .before .before .before .before .before .before .before .before .before .points .given, l .loop .inv .1),
-      omega (arith, c .before .before .before .before .before .before .before .before .before .starts .given, l .loop .inv .2),
+      omega (
+        arith,
+        c .before .before .before .before .before .before .before .before .before .starts .given,
+        l .loop .inv .2,
+      ),
       omega (arith, c .before .before .before .before .before .before .before .sides .given, l .loop .inv .3),
       omega (arith, c .before .before .before .before .before .fractions .given, l .loop .inv .4),
       search needs,
       search needs,
-      fits-down (onPage ms w) (t .trace-sample .ensures) (c .before .before .traced .given .1) (moves-fit ms w (l .loop .inv .7)),
-      trace-goes (now (a .grid)) (a .cells) (now (a .marks)) (now (a .pairs)) (l .loop .i) (s .pre .1 .0) _ _ (looped v .loop-test .taken) (v .before .point-of .ensures)
-          (v .visit-of .ensures) (l .loop .inv .8) (t .trace-sample .ensures) (c .before .before .traced .given .1) (c .after-sample .ensures),
+      fits-down (onPage ms w) (t .trace-sample .ensures) (c .before .before .traced .given .1)
+          (moves-fit ms w (l .loop .inv .7)),
+      trace-goes (now (a .grid)) (a .cells) (now (a .marks)) (now (a .pairs)) (l .loop .i) (s .pre .1 .0) _ _
+          (looped v .loop-test .taken) (v .before .point-of .ensures)
+          (v .visit-of .ensures) (l .loop .inv .8) (t .trace-sample .ensures) (c .before .before .traced .given .1)
+          (c .after-sample .ensures),
     )
 
 flush-segment-requires : tie.Need-flush-segment-requires Inv-loop μ-loop
@@ -91,7 +106,8 @@ returns-2 c =
     let l = c .before .before .before .before .before in
     let s = started l in
     let a = s .args in
-    rw (l .loop .inv .8 ∙ trace-flushes (now (a .grid)) (a .cells) (now (a .marks)) (now (a .pairs)) (l .loop .i) (s .pre .1 .0) _ _ (c .before .before .before .before .loop-test .left))
+    rw (l .loop .inv .8 ∙ trace-flushes (now (a .grid)) (a .cells) (now (a .marks)) (now (a .pairs)) (l .loop .i)
+    (s .pre .1 .0) _ _ (c .before .before .before .before .loop-test .left))
     (c .before .before .flush-segment .ensures _ _ _)
 
 pub trace-parametric-edge-curve-spec : {M : Type 1} → statement M

@@ -8,7 +8,8 @@ use Rattle.trace.proofs.curve.trace_sample.Tie as tie
 
 -- the lists as they were lent
 abbrev lent : tie.Start → Page
-lent s = let a = s .args in page (lists (now (a .points)) (now (a .starts)) (now (a .sides)) (now (a .fractions))) (a .pen)
+lent s =
+    let a = s .args in page (lists (now (a .points)) (now (a .starts)) (now (a .sides)) (now (a .fractions))) (a .pen)
 
 -- where the visit is known to be a leg, and the start
 abbrev visited : tie.After-append-edge-crossings → tie.After-visit
@@ -29,7 +30,9 @@ returns-2 c =
     sample-leg _ _ (lent (started (visited t))) (visited t .visit .given .1) (t .append-edge-crossings .ensures)
 
 returns-3 : tie.Need-returns-3
-returns-3 c = sample-first _ _ (lent (c .before .before .before .before .before .before .before .before .before)) (c .enum-told2 .given .1)
+returns-3 c =
+    sample-first _ _ (lent (c .before .before .before .before .before .before .before .before .before))
+    (c .enum-told2 .given .1)
 
 pub trace-sample-spec : {M : Type 1} → statement M
 trace-sample-spec =

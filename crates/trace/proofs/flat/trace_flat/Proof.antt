@@ -1,4 +1,5 @@
--- `trace::flat::trace_flat` meets its contract: proofs/Ended.antt has `traceFlat` by what the call did, and demand 3 holds of every grid.
+-- `trace::flat::trace_flat` meets its contract: proofs/Ended.antt has `traceFlat` by what the call did, and demand 3
+-- holds of every grid.
 use Prim.Native.Nat.{_*_, _<_}
 use native.Mathlib.Omega.{arith}
 use denote.Ref.{now}
@@ -40,7 +41,8 @@ fits c =
     omega (
       arith,
       c .count-in .ensures,
-      counted (now (a .grid)) (a .m) (a .n) (now (a .pairs)) (now (a .marks)) (lent s) (t .trace-parametric-edge-curve .ensures),
+      counted (now (a .grid)) (a .m) (a .n) (now (a .pairs)) (now (a .marks)) (lent s)
+          (t .trace-parametric-edge-curve .ensures),
       c .before .before .before .before .before .before .before .before .points .given,
       lent-short s,
     )
@@ -48,14 +50,18 @@ fits c =
 returns : tie.Need-returns
 returns c =
     let k = c .before .before .before in
-    let a = started k .args in
-    (refused-before (now (a .grid)) (a .m) (a .n) (now (a .pairs)) (now (a .marks)) (lent (started k)) (k .check-trace .ensures) (c .before .refusal .given .1), demand3 _ _ _)
+    let a = started k .args in (
+      refused-before (now (a .grid)) (a .m) (a .n) (now (a .pairs)) (now (a .marks)) (lent (started k))
+          (k .check-trace .ensures) (c .before .refusal .given .1),
+      demand3 _ _ _,
+    )
 
 trace-parametric-edge-curve-requires : tie.Need-trace-parametric-edge-curve-requires
 trace-parametric-edge-curve-requires c κs =
     let e = c .before .before .before .before in
     let a = started (checked e) .args in
-    passes (now (a .grid)) (a .m) (a .n) (now (a .pairs)) (now (a .marks)) (checked e .check-trace .ensures) (e .enum-told .given .1)
+    passes (now (a .grid)) (a .m) (a .n) (now (a .pairs)) (now (a .marks)) (checked e .check-trace .ensures)
+    (e .enum-told .given .1)
 
 mul-zero-floats : tie.Need-mul-zero-floats
 mul-zero-floats c = omega (arith, fits (c .before))
@@ -76,8 +82,10 @@ returns-2 c =
     let e = told t in
     let k = checked e in
     let a = started k .args in (
-      zeroed (now (a .grid)) (a .m) (a .n) (now (a .pairs)) (now (a .marks)) (lent (started k)) (t .trace-parametric-edge-curve .ensures) (k .check-trace .ensures) (e .enum-told .given .1)
-          (c .answer-of .ensures) (n .count-in .ensures) (s .before .lines-in .ensures) (p .zero-floats .ensures) (s .zero-numbers .ensures) (d .zero-numbers2 .ensures) (f .zero-floats2 .ensures),
+      zeroed (now (a .grid)) (a .m) (a .n) (now (a .pairs)) (now (a .marks)) (lent (started k))
+          (t .trace-parametric-edge-curve .ensures) (k .check-trace .ensures) (e .enum-told .given .1)
+          (c .answer-of .ensures) (n .count-in .ensures) (s .before .lines-in .ensures) (p .zero-floats .ensures)
+          (s .zero-numbers .ensures) (d .zero-numbers2 .ensures) (f .zero-floats2 .ensures),
       demand3 _ _ _,
     )
 

@@ -11,7 +11,9 @@ returns-2 : tie.Need-returns-2
 returns-2 c = pairs-other (c .before .before .args .pairs .now) (c .before .before .args .marks .now) (c .if2 .taken)
 
 returns-3 : tie.Need-returns-3
-returns-3 c = lengths-fit (c .before .before .args .pairs .now) (c .before .before .args .marks .now) (c .before .if1 .left) (c .if2 .left)
+returns-3 c =
+    lengths-fit (c .before .before .args .pairs .now) (c .before .before .args .marks .now) (c .before .if1 .left)
+    (c .if2 .left)
 
 pub check-lengths-spec : {M : Type 1} → statement M
 check-lengths-spec = tie.close (tie.spec returns (λ c. search needs) returns-2 returns-3)

@@ -14,21 +14,24 @@ returns-2 : tie.Need-returns-2
 returns-2 c =
     let t = c .before .before in
     let g = t .before .before in
-    mark-refused _ _ _ _ _ (g .before .check-lengths .ensures) (g .check-grid .ensures) (t .enum-told .given .1) (failed (c .before .marks-fit .ensures) (c .if1 .taken))
+    mark-refused _ _ _ _ _ (g .before .check-lengths .ensures) (g .check-grid .ensures) (t .enum-told .given .1)
+    (failed (c .before .marks-fit .ensures) (c .if1 .taken))
 
 pairs-fit-requires : tie.Need-pairs-fit-requires
 pairs-fit-requires c κs =
     let t = c .before .before in
     let g = t .before .before in
     let a = g .before .before .before .before .before .args in
-    pairs-twice (a .grid .now) (a .m) (a .n) (a .pairs .now) (a .marks .now) (g .before .check-lengths .ensures) (g .check-grid .ensures) (t .enum-told .given .1)
+    pairs-twice (a .grid .now) (a .m) (a .n) (a .pairs .now) (a .marks .now) (g .before .check-lengths .ensures)
+    (g .check-grid .ensures) (t .enum-told .given .1)
 
 returns-3 : tie.Need-returns-3
 returns-3 c =
     let e = c .before .before in
     let t = e .before .before in
     let g = t .before .before in
-    sample-refused _ _ _ _ _ (g .before .check-lengths .ensures) (g .check-grid .ensures) (t .enum-told .given .1) (held (e .before .marks-fit .ensures) (e .if1 .left))
+    sample-refused _ _ _ _ _ (g .before .check-lengths .ensures) (g .check-grid .ensures) (t .enum-told .given .1)
+    (held (e .before .marks-fit .ensures) (e .if1 .left))
     (failed (c .before .pairs-fit .ensures) (c .if2 .taken))
 
 returns-4 : tie.Need-returns-4
@@ -36,7 +39,8 @@ returns-4 c =
     let e = c .before .before in
     let t = e .before .before in
     let g = t .before .before in
-    check-passes _ _ _ _ _ (g .before .check-lengths .ensures) (g .check-grid .ensures) (t .enum-told .given .1) (held (e .before .marks-fit .ensures) (e .if1 .left))
+    check-passes _ _ _ _ _ (g .before .check-lengths .ensures) (g .check-grid .ensures) (t .enum-told .given .1)
+    (held (e .before .marks-fit .ensures) (e .if1 .left))
     (held (c .before .pairs-fit .ensures) (c .if2 .left))
 
 pub check-trace-spec : {M : Type 1} → statement M

@@ -15,10 +15,15 @@ abbrev μ-loop : tie.MeasureT-loop
 μ-loop marks i₀ i = length marks - i
 
 returns : tie.Need-returns Inv-loop μ-loop
-returns c = sym (c .before .before .before .loop .inv .1 ∙ mark-wrong _ _ (c .before .before .loop-test .taken) (c .if1 .taken))
+returns c =
+    sym (c .before .before .before .loop .inv .1 ∙ mark-wrong _ _ (c .before .before .loop-test .taken) (c .if1 .taken))
 
 loop-again : tie.Need-loop-again Inv-loop μ-loop
-loop-again c = (search needs, c .before .before .before .loop .inv .1 ∙ mark-fits _ _ (c .before .before .loop-test .taken) (c .if1 .left))
+loop-again c = (
+  search needs,
+  c .before .before .before .loop .inv .1
+      ∙ mark-fits _ _ (c .before .before .loop-test .taken) (c .if1 .left),
+)
 
 returns-2 : tie.Need-returns-2 Inv-loop μ-loop
 returns-2 c = sym (c .before .loop .inv .1 ∙ marks-end _ _ (c .loop-test .left))

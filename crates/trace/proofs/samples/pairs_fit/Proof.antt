@@ -18,12 +18,18 @@ abbrev μ-loop : tie.MeasureT-loop
 returns : tie.Need-returns Inv-loop μ-loop
 returns c =
     let o = c .before .before .before .before .before in
-    sym (o .before .loop .inv .1 ∙ pair-wrong _ _ _ (o .loop-test .taken) (o .before .before .before .before .pre) (c .before .sample-fits .ensures) (not-true _ (c .if1 .taken)))
+    sym (o .before .loop .inv .1
+    ∙ pair-wrong _ _ _ (o .loop-test .taken) (o .before .before .before .before .pre)
+    (c .before .sample-fits .ensures) (not-true _ (c .if1 .taken)))
 
 loop-again : tie.Need-loop-again Inv-loop μ-loop
 loop-again c =
-    let o = c .before .before .before .before .before in
-    (search needs, o .before .loop .inv .1 ∙ pair-fits _ _ _ (o .loop-test .taken) (o .before .before .before .before .pre) (c .before .sample-fits .ensures) (not-false _ (c .if1 .left)))
+    let o = c .before .before .before .before .before in (
+      search needs,
+      o .before .loop .inv .1
+          ∙ pair-fits _ _ _ (o .loop-test .taken) (o .before .before .before .before .pre)
+          (c .before .sample-fits .ensures) (not-false _ (c .if1 .left)),
+    )
 
 returns-2 : tie.Need-returns-2 Inv-loop μ-loop
 returns-2 c = sym (c .before .loop .inv .1 ∙ pairs-end _ _ _ (c .loop-test .left))
