@@ -1,4 +1,4 @@
-// Triangles and flipped pairs of a grid, from the seams that are found in it.
+// Triangles and flipped pairs of a grid, from the seams that are found in it (Rules 4).
 use corner::Surface;
 use cyclic::seam::SeamSearch;
 use refusal::Check;
@@ -35,7 +35,7 @@ pub struct MeshCounts {
     pub pairs: usize,
 }
 
-// Refusals 1, 2, 3 and 4. The room is that of an M and N that pass 1.
+// Refusals 1, 2, 3 and 4 (Rules 11.2). The room is that of an M and N that pass 1.
 fn check_mesh(grid: &[f64], m: usize, n: usize, triangles: &[usize], flipped: &[usize]) -> Check
     ensures { λ r. ⌜ r ≡ meshCheck (now (grid .entry)) m n (now (triangles .entry)) (now (flipped .entry)) ⌝ }
 {
@@ -46,7 +46,7 @@ fn check_mesh(grid: &[f64], m: usize, n: usize, triangles: &[usize], flipped: &[
     grid::check_grid(grid, m, n, room)
 }
 
-// The u seam compares column u = 0 with u = M, the v seam row v = 0 with v = N.
+// The seam of columns 0 and M, and that of rows 0 and N (Rules 4.1).
 fn find_seams(grid: &[f64], m: usize, n: usize) -> Seams
     requires { ⌜ Accepted (now grid) m n ⌝ }
     ensures { λ r. ⌜ (r .u ≡ uSearch (now (grid .entry)) m n) × (r .v ≡ vSearch (now (grid .entry)) m n) ⌝ }

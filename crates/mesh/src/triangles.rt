@@ -1,4 +1,4 @@
-// The triangles of a joined surface: two of each cell, u outer, v inner, each only if its three numbers differ.
+// The triangles of a joined surface (Rules 4.3): two of each cell, in cell order, less those with two equal numbers.
 use crate::corner::Surface;
 use crate::corner::cell_corners;
 ghost use mathlib.Core.Path.{_≡_};

@@ -88,7 +88,8 @@ dir-not AxisV rising diagonal t = refl
 abbrev pub Plain : Seam → Type 0
 Plain m = (m ≡ unjoined) ⊎ (m ≡ forward 0)
 
--- Where the columns are closed, a seam takes points inside a column to points inside it; request 8's second round of the rules does without.
+-- Where the columns are closed, a seam takes points inside a column to points inside it. Corners that pass the rules
+-- twice do not need this.
 abbrev pub KeepsInside : Rule → Seam → Bool → ℕ → Type 0
 KeepsInside once m c n = c ≡ true → (b : ℕ) → b < n → inverse m n b < n
 KeepsInside twice m c n = Unit {0}
@@ -150,7 +151,8 @@ strip s h a w =
 
 -- ---- the covered joinings
 
--- beside a seam that is forward at offset 0, under 01's rule, a seam takes no point inside a column to its end
+-- beside a seam that is forward at offset 0, a corner passing the rules once, a seam takes no point inside a column to its
+-- end
 inside-mapping : (m : Seam) (n : ℕ) → Beside once m n → (b : ℕ) → b < n → inverse m n b < n
 inside-mapping unjoined n h b k = absurd h
 inside-mapping (forward o) n h b k = ⊎-elim (λ w. omega arith) (λ w. omega arith) (inv-forward o n b h (omega arith))

@@ -353,7 +353,7 @@ J-number : (s : Shape) (u v : ℕ) → v ≤ s .N → Jₙ s (u * (s .N + 1) + v
 unfolding Jₙ
 J-number s u v h = let k : v < s .N + 1 = omega arith in rw (digits-div u k, digits-mod u k)
 
--- p and q are the numbers of the two ends of a grid edge: "Beside each point stand the numbers of p and q"
+-- Rules 7.2: p and q, as a trace hands them out: the numbers of the two ends of a grid edge
 pub record EdgeNumbers (s : Shape) (p q : ℕ) : Type 0 where
   pub u : ℕ
   pub v : ℕ

@@ -1,5 +1,6 @@
--- Demand 3 for the seams that are found. A search tries offsets below the steps of its rows only, so a mapping that it finds has its row's steps
--- and an offset below them; with that, 01's list of joinings is the one that the theorem on shapes is proved for.
+-- Demand 3 for the seams that are found. A search tries offsets below the steps of its rows only, so a mapping that it
+-- finds has its row's steps and an offset below them; with that, a covered joining (Rules 5.2) makes a shape that the
+-- theorem is proved for.
 use Prim.Native.Nat.{ℕ, _+_, _*_, _≤_}
 use mathlib.Core.Path.{_≡_, refl, ap}
 use mathlib.Core.Logic.{inl, inr}
@@ -42,7 +43,7 @@ pub inverse-of : (k : CyclicMapping) (b : ℕ) → inverse (ofMapping k) (stepsO
 inverse-of (Forward o steps) b = refl
 inverse-of (Reverse o steps) b = refl
 
--- ---- 01's list of joinings
+-- ---- covered joinings
 
 at-zero : (k : CyclicMapping) → ForwardAtZero k → ofMapping k ≡ forward 0
 at-zero (Forward o steps) e = ap forward e

@@ -108,7 +108,7 @@ insert-here p (r ∷ rs) =
 
 -- ---- ascending
 
--- "ascending by the first and then the second, each pair once", as a property of a list
+-- Rules 4.4: the order of the list, as a property of it
 abbrev pub Before : Pair → Pair → Type 0
 Before p q = (p .low < q .low) ⊎ ((p .low ≡ q .low) × (p .high < q .high))
 

@@ -199,7 +199,7 @@ corner-once : (s : Shape) (row : ℕ) (p q : Point) → vRule s (uRule s p) ≡ 
 unfolding cornerBy
 corner-once s row p q e f = ⊎-elim (λ t. rw (t .0) e) (λ t. rw (t .0) (f (t .1))) (eqb-cases (row + 1) (s .N))
 
--- in request 8 every corner is J's point
+-- where corners pass the rules twice, every corner is J's point
 twice-corner : (s : Shape) (row : ℕ) (p : Point) → cornerBy twice s row p ≡ joinedBy twice s p
 unfolding cornerBy joinedBy
 twice-corner s row p = refl

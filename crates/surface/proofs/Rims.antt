@@ -1,5 +1,6 @@
--- The rims and the edges of a strip, as 01 words them: a rim's sides are those between neighbouring points of its first or last column or row,
--- and every edge between neighbouring grid points, or along a cell's diagonal, is a side of some cell.
+-- The rims and the edges of a strip, as Rules 5.3 and 7.2 say them: a rim's sides are those between neighbouring points of
+-- its first or last column or row, and every edge between neighbouring grid points, or along a cell's diagonal, is a
+-- side of some cell.
 use Prim.Native.Nat.{ℕ, _+_, _-_, _≤_, _<_}
 use mathlib.Core.Path.{_≡_, refl}
 use mathlib.Core.Logic.{_⊎_, inl, inr, ⊎-elim}
@@ -29,7 +30,7 @@ module _ {S : Strip} (numbered : Numbered S) where
   open Strip S using (X, Y, closed, seam, split)
   open Numbered numbered using (P, P-is)
 
-  -- 01's words for a side on a rim
+  -- a side on a rim, as Rules 5.3 say it
   abbrev pub RimOf : ℕ → ℕ → Type 0
   RimOf a b =
       ((seam ≡ unjoined) × ((y : ℕ) × (y < Y) × (Same a b (P 0 y) (P 0 (y + 1)) ⊎ Same a b (P X y) (P X (y + 1)))))

@@ -1,4 +1,5 @@
--- A surface seen along an axis: its triangles, rims, edges and flipped pairs are those of the strip, with u and v in their places or exchanged.
+-- A surface seen along an axis is a strip: its triangles, rims, edges and flipped pairs are the strip's, with u and v in
+-- their places or exchanged.
 --
 use Prim.Native.Nat.{ℕ, _-_, _≤_, _<_}
 use mathlib.Core.Path.{_≡_, sym, ap, _∙_}
@@ -115,7 +116,7 @@ module _ (s : Shape) (steps : HasSteps s) (a : Axis) (w : SeenAlong a s) where
   abbrev by-J : Numbered S
   by-J = record { P = P; P-is = P-is }
 
--- 01's rims are the strip's, and its edges are sides of the strip's cells
+-- the surface's rims are the strip's, and its edges are sides of the strip's cells
 pub rim-seen : (s : Shape) (steps : HasSteps s) (a : Axis) (w : SeenAlong a s) (p q : ℕ) → Rim s p q → OnRim (strip s steps a w) p q
 unfolding strip
 rim-seen s steps AxisU w p q (inl r) = rim-to (by-J s steps AxisU w) p q (inl r)

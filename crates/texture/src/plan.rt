@@ -1,4 +1,4 @@
-// The plan of a texture: rays, and samples per ray.
+// The plan of a texture: rays, and samples per ray (Rules 10.1, 10.2).
 use float::cast::to_f64;
 use float::cast::to_usize;
 use float::consts::EPS;
@@ -44,7 +44,7 @@ pub fn texture_radius(m: usize, n: usize) -> f64
     max(to_f64(m), to_f64(n)) * 0.5 * SQRT_2
 }
 
-// A spacing that is not finite, or at most EPS, becomes 1.0.
+// 1.0 stands for a spacing that is not finite or not above EPS.
 pub fn texture_spacing(spacing: f64) -> f64
     ensures { λ r. ⌜ r ≡ textureSpacing spacing ⌝ }
 {

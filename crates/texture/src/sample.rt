@@ -1,4 +1,4 @@
-// The angle of a ray's sample, and its point from a lent cosine and sine.
+// The angle of a ray's sample, and its point from a lent cosine and sine (Rules 10.3, 10.4).
 use crate::plan::ParametricSurfaceTexture;
 use crate::plan::PlanAnswer;
 use crate::plan::plan;
