@@ -1,6 +1,6 @@
-// Flipped pairs (Rules 4.4): the triangles on both sides of a reversed seam. An axis stands for a seam: AxisU for the one
-// that joins u = 0 and u = M, AxisV for the one that joins v = 0 and v = N. Its low rim is the first of the two, its
-// high rim the other.
+// Flipped pairs (Rules 4.4): the triangles on both sides of a reversed seam. An axis stands for a seam: AxisU for the
+// one that joins u = 0 and u = M, AxisV for the one that joins v = 0 and v = N. Its low rim is the first of the two,
+// its high rim the other.
 use crate::corner::Surface;
 use crate::corner::cell_corners;
 use crate::pairs::insert_pair;

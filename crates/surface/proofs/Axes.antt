@@ -1,5 +1,6 @@
--- A covered joining is a strip when it is seen along one of its two seams: the other seam is unjoined or joins each point to the one opposite, so
--- it closes the columns or leaves them open, and no more. Along u the columns are those of u, along v those of v.
+-- A covered joining is a strip when it is seen along one of its two seams: the other seam is unjoined or joins each
+-- point to the one opposite, so it closes the columns or leaves them open, and no more. Along u the columns are those
+-- of u, along v those of v.
 use Prim.Native.Nat.{ℕ, zero, suc, _+_, _*_, _≤_, _<_}
 use mathlib.Core.Path.{_≡_, refl, sym, ap, _∙_}
 use mathlib.Core.Logic.{_⊎_, inl, inr, ⊎-elim}
@@ -8,7 +9,8 @@ use native.Mathlib.Omega.{arith}
 use lib.Arith.{digits-div, digits-mod}
 use Rattle.param.specs.declared.Axis.{Axis}
 use Rattle.param.specs.declared.Axis.the-variants.{AxisU, AxisV}
-use Rattle.surface.specs.Surface.{Seam, unjoined, forward, reverse, joined, reversed, inverse, Rule, once, twice, Split, falling, rising, Shape, number, at, StepsAround, NoneOfTwo}
+use Rattle.surface.specs.Surface.{Seam, unjoined, forward, reverse, joined, reversed, inverse, Rule, once, twice}
+use Rattle.surface.specs.Surface.{Split, falling, rising, Shape, number, at, StepsAround, NoneOfTwo}
 use Rattle.surface.specs.Rims.{stepsOf as rows}
 use Rattle.surface.proofs.Covered.{AtZero, Beside, Covered, neither, only-u, only-v, both-u, both-v}
 use Rattle.surface.proofs.Steps.{Fits, Offset, inv-forward, inv-reverse}
@@ -58,7 +60,8 @@ turn-kind AxisV straight = refl
 turn-kind AxisV across = refl
 turn-kind AxisV diagonal = refl
 
--- which half has a side, and which way it runs along it; a falling diagonal starts at its other end when u and v change places
+-- which half has a side, and which way it runs along it; a falling diagonal starts at its other end when u and v change
+-- places
 abbrev pub sideHalf : Axis → Split → Kind → Bool → Bool
 sideHalf a d k t = cellHalf d (kindOf a k) t
 
@@ -151,8 +154,8 @@ strip s h a w =
 
 -- ---- the covered joinings
 
--- beside a seam that is forward at offset 0, a corner passing the rules once, a seam takes no point inside a column to its
--- end
+-- beside a seam that is forward at offset 0, a corner passing the rules once, a seam takes no point inside a column to
+-- its end
 inside-mapping : (m : Seam) (n : ℕ) → Beside once m n → (b : ℕ) → b < n → inverse m n b < n
 inside-mapping unjoined n h b k = absurd h
 inside-mapping (forward o) n h b k = ⊎-elim (λ w. omega arith) (λ w. omega arith) (inv-forward o n b h (omega arith))

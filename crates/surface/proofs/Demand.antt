@@ -1,5 +1,6 @@
 -- Demand 3 for every covered joining. Seen along one of its seams the surface is a strip, in which all is said of
--- halves of cells (Owners, Directions); what is left is to say it of triangle numbers, which are the slots' since no triangle is left out.
+-- halves of cells (Owners, Directions); what is left is to say it of triangle numbers, which are the slots' since no
+-- triangle is left out.
 --
 use Prim.Native.Nat.{ℕ, _+_, _-_, _*_, _≤_, _<_}
 use mathlib.Core.Path.{_≡_, refl, sym, ap, _∙_}
@@ -12,17 +13,24 @@ use lib.ListN.{length}
 use borrow.Author.Tests.{ne-eqb}
 use Rattle.basics.proofs.Numbers.{lt-or-le}
 use Rattle.param.specs.declared.Axis.{Axis}
-use Rattle.surface.specs.Surface.{Seam, unjoined, forward, reverse, reversed, Shape, J, Triangle, slot, proper, slots, triangles, Pair, pair, ordered, triangleNumber, stepOn, process, flipped, Follows, nth, Owns, OwnedOnce, OwnedTwice, Rim, SameWay, GridEdge, along-u, along-v, number, at, Jₙ, StepsAround, NoneOfTwo, Meets, falls, rises}
+use Rattle.surface.specs.Surface.{Seam, unjoined, forward, reverse, reversed, Shape, J, Triangle, slot, proper}
+use Rattle.surface.specs.Surface.{slots, triangles, Pair, pair, ordered, triangleNumber, stepOn, process, flipped}
+use Rattle.surface.specs.Surface.{Follows, nth, Owns, OwnedOnce, OwnedTwice, Rim, SameWay, GridEdge, along-u}
+use Rattle.surface.specs.Surface.{along-v, number, at, Jₙ, StepsAround, NoneOfTwo, Meets, falls, rises}
 use Rattle.surface.specs.Rims.{lowOf, highOf}
 use Rattle.surface.proofs.Covered.{Covered}
 use Rattle.surface.proofs.Steps.{Fits, laidOn, on-below}
 use Rattle.surface.proofs.Strip.{Strip, ThreeAround, reversed-joined, straight}
 use Rattle.surface.proofs.CellSides.{Cell}
 use Rattle.surface.proofs.Owners.{Holds, SameTri, Other, owned}
-use Rattle.surface.proofs.Directions.{Runs, Turn, runs-holds, holds-flip, holds-runs, runs-differ, same-way, turn-shared}
-use Rattle.surface.proofs.Axes.{xOf, yOf, turn-x, turn-y, SeenAlong, HasSteps, around-seen, none-seen, strip, covered-along}
-use Rattle.surface.proofs.Seen.{to-runs, from-runs, seen-cell, rim-seen, seen-rim, edge-seen, low-index, high-index, flipped-seen}
-use Rattle.surface.proofs.Triangles.{index, halfAt, uAt, vAt, slot-at, uAt-lt, vAt-lt, index-at, index-lt, uAt-index, vAt-index, halfAt-index, kept-length, kept-at}
+use Rattle.surface.proofs.Directions.{Runs, Turn, runs-holds, holds-flip, holds-runs, runs-differ, same-way}
+use Rattle.surface.proofs.Directions.{turn-shared}
+use Rattle.surface.proofs.Axes.{xOf, yOf, turn-x, turn-y, SeenAlong, HasSteps, around-seen, none-seen, strip}
+use Rattle.surface.proofs.Axes.{covered-along}
+use Rattle.surface.proofs.Seen.{to-runs, from-runs, seen-cell, rim-seen, seen-rim, edge-seen, low-index}
+use Rattle.surface.proofs.Seen.{high-index, flipped-seen}
+use Rattle.surface.proofs.Triangles.{index, halfAt, uAt, vAt, slot-at, uAt-lt, vAt-lt, index-at, index-lt}
+use Rattle.surface.proofs.Triangles.{uAt-index, vAt-index, halfAt-index, kept-length, kept-at}
 use Rattle.surface.proofs.Pairs.{step-on, pair-eq, mem-in, AllLaid, process-to, process-from}
 
 pub proper-of : (t : Triangle) → (t .a ≡ t .b → ⊥) → (t .a ≡ t .c → ⊥) → (t .b ≡ t .c → ⊥) → proper t ≡ true

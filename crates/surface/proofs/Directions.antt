@@ -1,5 +1,6 @@
--- Which way a triangle runs along its sides. Of the two that share a side, one runs along it from the first end of its name to the second and the
--- other back. Only across a reversed seam the ends lie the other way round on one side, and there the two run the same way.
+-- Which way a triangle runs along its sides. Of the two that share a side, one runs along it from the first end of its
+-- name to the second and the other back. Only across a reversed seam the ends lie the other way round on one side, and
+-- there the two run the same way.
 use Prim.Native.Nat.{ℕ, _+_, _<_}
 use mathlib.Core.Path.{_≡_, refl, sym, _∙_}
 use mathlib.Core.Logic.{_⊎_, inl, inr, ⊎-elim}
@@ -10,9 +11,13 @@ use borrow.Author.Tests.{eqb-true, eq-eqb}
 use Rattle.surface.specs.Surface.{reversed, Same}
 use Rattle.basics.proofs.Tests.{and-both}
 use Rattle.surface.proofs.Steps.{laidOn, on-below}
-use Rattle.surface.proofs.Strip.{Strip, ThreeAround, reversed-joined, Kind, straight, across, diagonal, nameFrom, nameTo, fromY, toX, toY, Valid, x-le, toX-le, fromY-le, toY-le, turned, colOf, stepAt, col-ne, next-ne}
-use Rattle.surface.proofs.CellSides.{Cell, sideFrom, sideTo, nameX, nameY, turnedAt, valid, named, far-col, far-step}
-use Rattle.surface.proofs.Owners.{not-self, SideAt, side-flip, Holds, firstEnd, lastEnd, name-ends, compare, SameTri, Opposite}
+use Rattle.surface.proofs.Strip.{Strip, ThreeAround, reversed-joined, Kind, straight, across, diagonal, nameFrom}
+use Rattle.surface.proofs.Strip.{nameTo, fromY, toX, toY, Valid, x-le, toX-le, fromY-le, toY-le, turned, colOf}
+use Rattle.surface.proofs.Strip.{stepAt, col-ne, next-ne}
+use Rattle.surface.proofs.CellSides.{Cell, sideFrom, sideTo, nameX, nameY, turnedAt, valid, named, far-col}
+use Rattle.surface.proofs.CellSides.{far-step}
+use Rattle.surface.proofs.Owners.{not-self, SideAt, side-flip, Holds, firstEnd, lastEnd, name-ends, compare}
+use Rattle.surface.proofs.Owners.{SameTri, Opposite}
 
 -- a to b is c to d, or d to c where w is false
 abbrev pub Along : Bool → ℕ → ℕ → ℕ → ℕ → Type 0
@@ -110,7 +115,8 @@ module _ (S : Strip) where
 
   -- ---- turns
 
-  -- across a reversed seam: half h has a low side of column 0, and half h′ the high side of the last column that lies on it the other way round
+  -- across a reversed seam: half h has a low side of column 0, and half h′ the high side of the last column that lies
+  -- on it the other way round
   pub record Turn (h : Bool) (x y : ℕ) (h′ : Bool) (x′ y′ : ℕ) : Type 0 where
     pub rev : reversed seam ≡ true
     pub below : y′ < Y

@@ -1,17 +1,18 @@
--- The two triangles of a cell by its sides: which of them has a side, and whether it runs along it from its first end to its second. Here a
--- straight side is a step of v and a side across is a step of u.
+-- The two triangles of a cell by its sides: which of them has a side, and whether it runs along it from its first end
+-- to its second. Here a straight side is a step of v and a side across is a step of u.
 use Prim.Native.Nat.{ℕ, _+_, _-_, _*_, _<_}
 use mathlib.Core.Path.{_≡_, refl}
 use mathlib.Core.Logic.{inl, inr}
 use mathlib.Core.Bool.{Bool, true, false, not, cond}
 use native.Mathlib.Omega.{arith}
-use Rattle.surface.specs.Surface.{Split, falling, rising, Shape, corner, halfOf, slots, bySplit, lowU, highU, lowV, highV, Follows}
+use Rattle.surface.specs.Surface.{Split, falling, rising, Shape, corner, halfOf, slots, bySplit, lowU, highU}
+use Rattle.surface.specs.Surface.{lowV, highV, Follows}
 use Rattle.surface.proofs.Strip.{Kind, straight, across, diagonal}
 use Rattle.surface.proofs.CellSides.{shift, endsOf}
 use Rattle.surface.proofs.Triangles.{halfNum, index, index-lt}
 
--- the half that has the low (false) or high (true) side of a kind; of a diagonal the low one is the first half's. The split
--- matters for the straight sides only.
+-- the half that has the low (false) or high (true) side of a kind; of a diagonal the low one is the first half's. The
+-- split matters for the straight sides only.
 abbrev pub cellHalf : Split → Kind → Bool → Bool
 cellHalf d across t = t
 cellHalf d diagonal t = t

@@ -18,7 +18,8 @@ use Rattle.cyclic.specs.Mapping as mapping
 use Rattle.cyclic.specs.Search.{Row, rowOf, Closeness, closeAt, searchRows}
 use Rattle.cyclic.proofs.Laws.{found-steps, found-below}
 use Rattle.surface.specs.Surface.{forward, inverse, Meets}
-use Rattle.surface.specs.Found.{uSearch, vSearch, ofMapping, surfaceWith, ForwardAtZero, CoveredJoining, SurfaceMeets, Maps}
+use Rattle.surface.specs.Found.{uSearch, vSearch, ofMapping, surfaceWith, ForwardAtZero, CoveredJoining}
+use Rattle.surface.specs.Found.{SurfaceMeets, Maps}
 use Rattle.surface.proofs.Covered.{Covered, neither, only-u, only-v, both-u, both-v}
 use Rattle.surface.proofs.Searches.{u-search, v-search}
 use Rattle.surface.proofs.Demand.{covered-meets}

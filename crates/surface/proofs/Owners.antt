@@ -1,5 +1,5 @@
--- Which triangles have a side: one where it lies on a rim, two elsewhere (`owned`), since the low side of a cell is the high side of one other and
--- the two halves of a cell share its diagonal.
+-- Which triangles have a side: one where it lies on a rim, two elsewhere (`owned`), since the low side of a cell is the
+-- high side of one other and the two halves of a cell share its diagonal.
 use Prim.Native.Nat.{ℕ}
 use mathlib.Core.Path.{_≡_, refl, sym, _∙_}
 use mathlib.Core.Logic.{_⊎_, inl, inr, ⊎-elim}
@@ -7,7 +7,8 @@ use mathlib.Core.Bool.{Bool, true, false, not, true≢false, false≢true}
 use native.Mathlib.Omega.{arith}
 use Rattle.surface.specs.Surface.{Same}
 use Rattle.surface.proofs.Strip.{Strip, ThreeAround, Kind, straight, across, diagonal, one-name, Agree}
-use Rattle.surface.proofs.CellSides.{Cell, sideFrom, sideTo, nameX, nameY, firstOf, lastOf, RimAt, valid, named, one-place, Partner, partner, rim-alone, partner-apart}
+use Rattle.surface.proofs.CellSides.{Cell, sideFrom, sideTo, nameX, nameY, firstOf, lastOf, RimAt, valid, named}
+use Rattle.surface.proofs.CellSides.{one-place, Partner, partner, rim-alone, partner-apart}
 
 pub same-sym : {a b c d : ℕ} → Same a b c d → Same c d a b
 same-sym (inl e) = inl (sym (e .0), sym (e .1))
@@ -106,7 +107,8 @@ module _ (S : Strip) where
         one-name S three (p .k) (q .k) (nameXOf p) (nameYOf p) (nameXOf q) (nameYOf q) (valid S (p .k) (p .t) x y (p .cell)) (valid S (q .k) (q .t) x′ y′ (q .cell))
         (same-trans (same-sym (name-ends p)) (name-ends q))
 
-    -- so it is the low side, or the high side, of both, which are one cell; or the low side of one and the high side of the other
+    -- so it is the low side, or the high side, of both, which are one cell; or the low side of one and the high side of
+    -- the other
     pub compare : {x y x′ y′ a b : ℕ} (p : SideAt x y a b) (q : SideAt x′ y′ a b) → ((q .k ≡ p .k) × (q .t ≡ p .t) × (x′ ≡ x) × (y′ ≡ y)) ⊎ Opposite p q
     compare {x} {y} {x′} {y′} p q =
         let e = agree p q in

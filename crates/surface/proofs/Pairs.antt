@@ -1,16 +1,19 @@
--- The list of flipped pairs: that `insert` keeps it ascending, what `process` puts into it, how long it is at most, and that its numbers are of
--- triangles in the list.
+-- The list of flipped pairs: that `insert` keeps it ascending, what `process` puts into it, how long it is at most, and
+-- that its numbers are of triangles in the list.
 use Prim.Native.Nat.{ℕ, zero, suc, _+_, _≤_, _<_}
 use mathlib.Core.Path.{_≡_, refl, sym, ap, _∙_}
 use mathlib.Core.Logic.{_⊎_, inl, inr, ⊎-elim}
 use mathlib.Core.Bool.{Bool, true, false, _&&_, cond}
-use mathlib.Core.List.{List, [], _∷_, List·Memᴰ, List·Memᴰ·head, List·Memᴰ·tail, List·Memᴰ·cases-cons, List·Memᴰ·not-nil}
+use mathlib.Core.List.{List, [], _∷_, List·Memᴰ, List·Memᴰ·head, List·Memᴰ·tail, List·Memᴰ·cases-cons}
+use mathlib.Core.List.{List·Memᴰ·not-nil}
 use native.Mathlib.Omega.{arith}
 use native.Mathlib.Nat.{eq-or-lt-of-le}
 use lib.Dec.{eqb, ltb}
 use lib.ListN.{length}
 use borrow.Author.Tests.{eq-eqb, ne-eqb, ltb-true, ltb-false, lt-ltb}
-use Rattle.surface.specs.Surface.{Seam, reverse, reversed, Shape, slot, proper, triangles, Pair, pair, ordered, insert, triangleNumber, stepOn, process, flipped, lowU, highU, lowV, highV, wrapEnds}
+use Rattle.surface.specs.Surface.{Seam, reverse, reversed, Shape, slot, proper, triangles, Pair, pair, ordered}
+use Rattle.surface.specs.Surface.{insert, triangleNumber, stepOn, process, flipped, lowU, highU, lowV, highV}
+use Rattle.surface.specs.Surface.{wrapEnds}
 use Rattle.basics.proofs.Tests.{and-both, cond-keeps, cond-case}
 use Rattle.basics.proofs.Numbers.{eqb-cases}
 use Rattle.cyclic.proofs.Mappings.{three}
@@ -149,7 +152,8 @@ insert-ascending p (r ∷ rs) a =
 
 -- ---- what `process` does to a list
 
--- A claim P on the list after so many steps holds at the end if it holds at the start and each step keeps it, whether it puts a pair down or not.
+-- A claim P on the list after so many steps holds at the end if it holds at the start and each step keeps it, whether
+-- it puts a pair down or not.
 module _ (s : Shape) (m : Seam) (steps : ℕ) (low high : ℕ → ℕ) (P : ℕ → List Pair → Type 0) where
   abbrev Skips : ℕ → Type 0
   Skips n = (y : ℕ) (qs : List Pair) → y < n → P y qs → P (suc y) qs

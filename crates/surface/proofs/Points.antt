@@ -1,7 +1,7 @@
--- J and the corner rule give the points of the strip. The rule of the strip's seam carries the last column to the first; the rule of the other seam
--- does no more than read the last row of a closed column as its first. One after the other, in either order, they give the strip's point, and no
--- further rule moves it. A corner in a row before the last leaves out the v rule, which has nothing to do there: a covered joining takes no
--- point inside a column to its end.
+-- J and the corner rule give the points of the strip. The rule of the strip's seam carries the last column to the
+-- first; the rule of the other seam does no more than read the last row of a closed column as its first. One after the
+-- other, in either order, they give the strip's point, and no further rule moves it. A corner in a row before the last
+-- leaves out the v rule, which has nothing to do there: a covered joining takes no point inside a column to its end.
 use Prim.Native.Nat.{ℕ, _+_, _≤_, _<_}
 use mathlib.Core.Path.{_≡_, refl, sym, ap, _∙_}
 use mathlib.Core.Logic.{inl, inr, ⊎-elim}
@@ -13,13 +13,16 @@ use Rattle.basics.proofs.Tests.{cond-keeps}
 use Rattle.basics.proofs.Numbers.{eqb-cases}
 use Rattle.param.specs.declared.Axis.{Axis}
 use Rattle.param.specs.declared.Axis.the-variants.{AxisU, AxisV}
-use Rattle.surface.specs.Surface.{Seam, joined, inverse, Point, at, Rule, once, twice, Shape, uRule, vRule, number, joinedBy, J, cornerBy, corner}
+use Rattle.surface.specs.Surface.{Seam, joined, inverse, Point, at, Rule, once, twice, Shape, uRule, vRule}
+use Rattle.surface.specs.Surface.{number, joinedBy, J, cornerBy, corner}
 use Rattle.surface.specs.Rims.{stepsOf as rows}
-use Rattle.surface.proofs.Steps.{wrap, wrap-open, wrap-closed, wrap-below, wrap-wrap, carried, carried-wrap, inv-forward-0}
+use Rattle.surface.proofs.Steps.{wrap, wrap-open, wrap-closed, wrap-below, wrap-wrap, carried, carried-wrap}
+use Rattle.surface.proofs.Steps.{inv-forward-0}
 use Rattle.surface.proofs.Strip.{Strip, colOf, rowOf, pointOf, row-below, col-below}
 use Rattle.surface.proofs.CellSides.{shift, shift-le, corners}
 use Rattle.surface.proofs.Halves.{cellCorners}
-use Rattle.surface.proofs.Axes.{columns, seamOf, closing, xOf, yOf, Plain, KeepsInside, SeenAlong, HasSteps, some, strip}
+use Rattle.surface.proofs.Axes.{columns, seamOf, closing, xOf, yOf, Plain, KeepsInside, SeenAlong, HasSteps}
+use Rattle.surface.proofs.Axes.{some, strip}
 
 -- ---- the two rules, by column and row
 

@@ -1,5 +1,5 @@
--- The rims and the edges of a strip, as Rules 5.3 and 7.2 say them: a rim's sides are those between neighbouring points of
--- its first or last column or row, and every edge between neighbouring grid points, or along a cell's diagonal, is a
+-- The rims and the edges of a strip, as Rules 5.3 and 7.2 say them: a rim's sides are those between neighbouring points
+-- of its first or last column or row, and every edge between neighbouring grid points, or along a cell's diagonal, is a
 -- side of some cell.
 use Prim.Native.Nat.{ℕ, _+_, _-_, _≤_, _<_}
 use mathlib.Core.Path.{_≡_, refl}

@@ -1,4 +1,5 @@
--- The two seam searches of a grid are searches of rows with a stride: a column is points that follow each other, a row is every (N+1)th point.
+-- The two seam searches of a grid are searches of rows with a stride: a column is points that follow each other, a row
+-- is every (N+1)th point.
 use Prim.Native.Nat.{ℕ, _+_, _-_, _*_, _≤_}
 use mathlib.Core.Path.{_≡_, ap, _∙_, fun-ext}
 use mathlib.Core.List.{List}

@@ -1,5 +1,5 @@
--- A surface seen along an axis is a strip: its triangles, rims, edges and flipped pairs are the strip's, with u and v in
--- their places or exchanged.
+-- A surface seen along an axis is a strip: its triangles, rims, edges and flipped pairs are the strip's, with u and v
+-- in their places or exchanged.
 --
 use Prim.Native.Nat.{ℕ, _-_, _≤_, _<_}
 use mathlib.Core.Path.{_≡_, sym, ap, _∙_}
@@ -8,16 +8,20 @@ use mathlib.Core.Bool.{Bool, true, false, not, true≢false, cond}
 use mathlib.Core.List.{[]}
 use Rattle.param.specs.declared.Axis.{Axis}
 use Rattle.param.specs.declared.Axis.the-variants.{AxisU, AxisV}
-use Rattle.surface.specs.Surface.{Seam, unjoined, joined, reversed, Split, falling, rising, Shape, J, halfOf, Follows, Rim, GridEdge, along-u, along-v, falls, rises, process, flipped}
+use Rattle.surface.specs.Surface.{Seam, unjoined, joined, reversed, Split, falling, rising, Shape, J, halfOf}
+use Rattle.surface.specs.Surface.{Follows, Rim, GridEdge, along-u, along-v, falls, rises, process, flipped}
 use Rattle.surface.specs.Rims.{stepsOf as rows, lowOf, highOf}
 use Rattle.surface.proofs.Strip.{Strip, Kind, straight, across, diagonal, pointOf}
 use Rattle.surface.proofs.CellSides.{Cell, corners, endsOf, sideFrom, sideTo}
 use Rattle.surface.proofs.Owners.{OnRim}
-use Rattle.surface.proofs.Rims.{Numbered, EdgeAt, edge-flip, rim-to, rim-from, edge-across, edge-straight, edge-falling, edge-rising}
+use Rattle.surface.proofs.Rims.{Numbered, EdgeAt, edge-flip, rim-to, rim-from, edge-across, edge-straight}
+use Rattle.surface.proofs.Rims.{edge-falling, edge-rising}
 use Rattle.surface.proofs.Directions.{Runs, along-ends, ends-along}
 use Rattle.surface.proofs.Triangles.{halfNum, index}
-use Rattle.surface.proofs.Halves.{cellDir, start, finish, cellCorners, follows-run, run-follows, lowU-index, highU-index, lowV-index, highV-index}
-use Rattle.surface.proofs.Axes.{columns, seamOf, closing, xOf, yOf, kindOf, turn-kind, sideHalf, sideDir, Plain, SeenAlong, HasSteps, strip}
+use Rattle.surface.proofs.Halves.{cellDir, start, finish, cellCorners, follows-run, run-follows, lowU-index}
+use Rattle.surface.proofs.Halves.{highU-index, lowV-index, highV-index}
+use Rattle.surface.proofs.Axes.{columns, seamOf, closing, xOf, yOf, kindOf, turn-kind, sideHalf, sideDir, Plain}
+use Rattle.surface.proofs.Axes.{SeenAlong, HasSteps, strip}
 use Rattle.surface.proofs.Points.{J-is, corner-is}
 
 -- ---- runs along a cell's sides

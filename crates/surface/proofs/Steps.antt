@@ -1,6 +1,6 @@
--- Steps along a row, and what a seam does to them. The inverse image carries the two ends of step y of row b to the two ends of one step of row a,
--- `laidOn`: in their order if the seam is forward, the other way round if it is reversed (`adj-forward`, `adj-reverse`). Every step of row a is
--- met by exactly one of row b (`on-inj`, `on-back`).
+-- Steps along a row, and what a seam does to them. The inverse image carries the two ends of step y of row b to the two
+-- ends of one step of row a, `laidOn`: in their order if the seam is forward, the other way round if it is reversed
+-- (`adj-forward`, `adj-reverse`). Every step of row a is met by exactly one of row b (`on-inj`, `on-back`).
 use Prim.Native.Nat.{ℕ, zero, suc, _+_, _-_, _≤_, _<_}
 use mathlib.Core.Path.{_≡_, refl, sym, ap, _∙_}
 use mathlib.Core.Logic.{_⊎_, inl, inr, ⊎-elim}
@@ -52,7 +52,8 @@ wrap-wrap false n i h = wrap-open n (wrap false n i)
 wrap-wrap true n i h =
     ⊎-elim (λ w. wrap-below true n (wrap true n i) (omega arith)) (λ w. ap (wrap true n) (w .0)) (wrap-closed n i)
 
--- one step on is not where it was, if a closed row has 2 steps, and two steps are not back, if it has 3; and steps end apart that start apart
+-- one step on is not where it was, if a closed row has 2 steps, and two steps are not back, if it has 3; and steps end
+-- apart that start apart
 pub step-ne : (c : Bool) (n i : ℕ) → (c ≡ true → 2 ≤ n) → i < n → wrap c n (i + 1) ≡ i → ⊥
 step-ne true n i h k e = let t = h refl in ⊎-elim (λ w. omega arith) (λ w. omega arith) (wrap-two true n (i + 1))
 step-ne false n i h k e = omega (arith, wrap-open n (i + 1))

@@ -1,6 +1,7 @@
--- A joined grid as a strip: columns 0 to X of points 0 to Y each, column X joined to column 0 by a seam or not at all, every column closed or
--- open. Each side has one name (`one-name`): two names with the same two ends, in either order, would need a step that ends where it starts or two
--- steps that go there and back, and where a way around is closed and has at least 3 steps, or is open, there are none.
+-- A joined grid as a strip: columns 0 to X of points 0 to Y each, column X joined to column 0 by a seam or not at all,
+-- every column closed or open. Each side has one name (`one-name`): two names with the same two ends, in either order,
+-- would need a step that ends where it starts or two steps that go there and back, and where a way around is closed and
+-- has at least 3 steps, or is open, there are none.
 use Prim.Native.Nat.{ℕ, _+_, _≤_, _<_}
 use mathlib.Core.Path.{_≡_, refl, sym, _∙_}
 use mathlib.Core.Logic.{_⊎_, inl, inr, ⊎-elim}
@@ -9,8 +10,10 @@ use native.Mathlib.Omega.{arith}
 use lib.Dec.{eqb}
 use borrow.Author.Tests.{ne-eqb}
 use Rattle.basics.proofs.Tests.{cond-keeps}
-use Rattle.surface.specs.Surface.{Seam, unjoined, forward, reverse, joined, reversed, Split, falling, rising, Same}
-use Rattle.surface.proofs.Steps.{wrap, wrap-below, wrap-le, wrap-wrap, step-ne, step-two, step-inj, Fits, laidOn, on-below, carried, adj-forward, adj-reverse, carried-le, carried-wrap}
+use Rattle.surface.specs.Surface.{Seam, unjoined, forward, reverse, joined, reversed, Split, falling, rising}
+use Rattle.surface.specs.Surface.{Same}
+use Rattle.surface.proofs.Steps.{wrap, wrap-below, wrap-le, wrap-wrap, step-ne, step-two, step-inj, Fits, laidOn}
+use Rattle.surface.proofs.Steps.{on-below, carried, adj-forward, adj-reverse, carried-le, carried-wrap}
 
 -- a side of a cell goes along a column, across to the next column, or along the cell's diagonal
 pub data Kind : Type 0 where
@@ -182,8 +185,9 @@ module _ (S : Strip) where
 
 -- ---- names of sides
 
--- The name of a side is its kind and (x, y): a straight side goes from (x, y) to the next row, a side across from (x, y) to what (x+1, y) is joined
--- to, a diagonal between the two other corners of its cell (falling) or from (x, y) to what (x+1, y+1) is joined to (rising).
+-- The name of a side is its kind and (x, y): a straight side goes from (x, y) to the next row, a side across from (x,
+-- y) to what (x+1, y) is joined to, a diagonal between the two other corners of its cell (falling) or from (x, y) to
+-- what (x+1, y+1) is joined to (rising).
 
 abbrev pub fromY : Strip → Kind → Split → ℕ → ℕ
 fromY S straight d y = y

@@ -1,5 +1,5 @@
--- The list of triangles: a slot emits one at most; slot 2·(u·N + v) + h is half h of cell (u, v) and no other; and where every slot emits its
--- triangle, slot i is triangle i.
+-- The list of triangles: a slot emits one at most; slot 2·(u·N + v) + h is half h of cell (u, v) and no other; and
+-- where every slot emits its triangle, slot i is triangle i.
 use Prim.Native.Nat.{ℕ, zero, suc, _+_, _*_, _/_, _%_, _≤_, _<_}
 use mathlib.Core.Path.{_≡_, refl, sym, _∙_}
 use mathlib.Core.Logic.{⊎-elim}

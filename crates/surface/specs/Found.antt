@@ -1,5 +1,5 @@
--- Rules 4.1 and 5.2: the seams that are found in a grid, the surface that they make of it, and whether they are a covered
--- joining; then demand 3 of the grid's lists (Rules 5.4).
+-- Rules 4.1 and 5.2: the seams that are found in a grid, the surface that they make of it, and whether they are a
+-- covered joining; then demand 3 of the grid's lists (Rules 5.4).
 use Prim.Native.Nat.{ℕ, _+_, _<_}
 use mathlib.Core.Path.{_≡_}
 use mathlib.Core.Logic.{_⊎_}

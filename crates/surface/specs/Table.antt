@@ -5,11 +5,15 @@ use mathlib.Core.Path.{_≡_, refl}
 use mathlib.Core.Bool.{Bool, true}
 use mathlib.Core.List.{[], _∷_}
 use Rattle.cyclic.specs.Mapping as mapping
-use Rattle.surface.specs.Surface.{Seam, unjoined, forward, reverse, Shape, Rule, once, twice, Split, falling, rising, cornerBy, corner, tri, halfOf, slot, slots, kept, triangles, triangleNumber, pair, stepOn, lowU, highU, lowV, highV, process, flipped, joinedBy, J, nth}
+use Rattle.surface.specs.Surface.{Seam, unjoined, forward, reverse, Shape, Rule, once, twice, Split, falling}
+use Rattle.surface.specs.Surface.{rising, cornerBy, corner, tri, halfOf, slot, slots, kept, triangles}
+use Rattle.surface.specs.Surface.{triangleNumber, pair, stepOn, lowU, highU, lowV, highV, process, flipped}
+use Rattle.surface.specs.Surface.{joinedBy, J, nth}
 
 -- all that a closed result computes through
 unfoldable computed : Bool
-unfolding mapping.inverse cornerBy corner halfOf slot slots kept triangles triangleNumber stepOn lowU highU lowV highV process flipped joinedBy J
+unfolding mapping.inverse cornerBy corner halfOf slot slots kept triangles triangleNumber stepOn lowU highU lowV highV
+    process flipped joinedBy J
 computed = true
 
 abbrev shape : ℕ → ℕ → Seam → Seam → Rule → Split → Shape
@@ -30,9 +34,9 @@ pub reversed-u : flipped (shape 3 3 (reverse 0) unjoined once falling) ≡ pair 
 unfolding computed
 reversed-u = refl
 
--- The v rule belongs to the last row of cells (Rules 4.2), as in the original. Where M = N = 3, the u seam is Reverse(0)
--- and the v seam Forward(0), corner (3, 0) of row 0 goes to (0, 3), number 3, and stays there; J takes it on to (0, 0),
--- number 0.
+-- The v rule belongs to the last row of cells (Rules 4.2), as in the original. Where M = N = 3, the u seam is
+-- Reverse(0) and the v seam Forward(0), corner (3, 0) of row 0 goes to (0, 3), number 3, and stays there; J takes it on
+-- to (0, 0), number 0.
 abbrev cracked : Shape
 cracked = shape 3 3 (reverse 0) (forward 0) once falling
 
@@ -63,7 +67,8 @@ two-around : triangles (shape 2 1 (forward 0) unjoined once falling) ≡ tri 0 2
 unfolding computed
 two-around = refl
 
--- and along a reversed seam of 2, `process_flipped` names triangle 2 twice, and triangle 0, which lies on triangle 11, not at all.
+-- and along a reversed seam of 2, `process_flipped` names triangle 2 twice, and triangle 0, which lies on triangle 11,
+-- not at all.
 two-along : flipped (shape 3 2 (reverse 0) unjoined once falling) ≡ pair 2 9 ∷ pair 2 11 ∷ []
 unfolding computed
 two-along = refl

@@ -1,5 +1,6 @@
--- Laws of samples: the first sample of a swirl and the last of a spiral are +0 away from the centre, and so at the centre bit for bit. The radius is finite and above 0, since it lies between that of 1 step
--- and that of 255; a finite value times 0 is a zero, and a value that is k / 2 stays when a zero is added (Zeros.antt).
+-- Laws of samples: the first sample of a swirl and the last of a spiral are +0 away from the centre, and so at the
+-- centre bit for bit. The radius is finite and above 0, since it lies between that of 1 step and that of 255; a finite
+-- value times 0 is a zero, and a value that is k / 2 stays when a zero is added (Zeros.antt).
 use mathlib.Core.Path.{_≡_, refl, sym, _∙_}
 use mathlib.Core.Bool.{Bool, true, false}
 use Prim.Native.Nat.{ℕ, _*_, _^_, _≤_, _<_}

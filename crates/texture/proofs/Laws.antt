@@ -1,5 +1,6 @@
--- Laws of plans: a swirl and a spiral have from 1 to 65,536 rays of from 2 to 65,536 samples, a spiral as many rays as arms, Grid none. A count is the cut of a larger of two, so it is at
--- least the second, and the tests bound it from above.
+-- Laws of plans: a swirl and a spiral have from 1 to 65,536 rays of from 2 to 65,536 samples, a spiral as many rays as
+-- arms, Grid none. A count is the cut of a larger of two, so it is at least the second, and the tests bound it from
+-- above.
 use mathlib.Core.Path.{_≡_, refl, sym}
 use mathlib.Core.Bool.{Bool, true, false, cond}
 use Prim.Native.Nat.{ℕ, zero, suc, _*_, _/_, _^_, _≤_, min, max}
@@ -21,7 +22,8 @@ use Rattle.refusal.specs.declared.Check.the-variants.{Passed}
 use Rattle.refusal.specs.Refusals.{ok}
 use Rattle.texture.specs.declared.plan.ParametricSurfaceTexture.{ParametricSurfaceTexture}
 use Rattle.texture.specs.declared.plan.ParametricSurfaceTexture.the-variants.{Grid, Swirl, Spiral}
-use Rattle.texture.specs.Plan.{two, swirlRays, radialSampleCount, spiralSampleCount, stepsAlong, raysOf, samplesPerRay, textureFits, maxCount, Plan, planOf, plan}
+use Rattle.texture.specs.Plan.{two, swirlRays, radialSampleCount, spiralSampleCount, stepsAlong, raysOf}
+use Rattle.texture.specs.Plan.{samplesPerRay, textureFits, maxCount, Plan, planOf, plan}
 use Rattle.texture.proofs.Plans.{checks, plan-passed}
 
 -- ---- the larger of two is at least the second

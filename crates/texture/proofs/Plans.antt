@@ -13,7 +13,8 @@ use Rattle.grid.specs.Grid.{stepsFit}
 use Rattle.refusal.proofs.Laws.{unless-passed}
 use Rattle.texture.specs.declared.plan.ParametricSurfaceTexture.{ParametricSurfaceTexture}
 use Rattle.texture.specs.declared.plan.ParametricSurfaceTexture.the-variants.{Swirl, Spiral}
-use Rattle.texture.specs.Plan.{textureSpacing, swirlRays, radialSampleCount, spiralSampleCount, raysOf, samplesPerRay, textureFits, maxCount, countsFit, planCheck, Plan, planOf, plan}
+use Rattle.texture.specs.Plan.{textureSpacing, swirlRays, radialSampleCount, spiralSampleCount, raysOf}
+use Rattle.texture.specs.Plan.{samplesPerRay, textureFits, maxCount, countsFit, planCheck, Plan, planOf, plan}
 
 module _ (m n : ℕ) {t : ParametricSurfaceTexture} {s : Float} where
   pub rays-swirl : {w x r : Float} → t ≡ Swirl s w → x ≡ textureSpacing s → r ≡ swirlRays m n x → r ≡ raysOf m n t

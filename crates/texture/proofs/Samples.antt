@@ -17,8 +17,10 @@ use Rattle.texture.specs.declared.plan.ParametricSurfaceTexture.{Paramet
 use Rattle.texture.specs.declared.plan.ParametricSurfaceTexture.the-variants.{Swirl, Spiral}
 use Rattle.texture.specs.declared.plan.PlanAnswer.{PlanAnswer}
 use Rattle.texture.specs.declared.plan.PlanAnswer.the-variants as answers
-use Rattle.texture.specs.Plan.{centre, textureRadius, textureSpacing, spiralTurns, raysOf, samplesPerRay, planCheck, Plan, planOf, plan, statedPlan}
-use Rattle.texture.specs.Sample.{part, baseAngle, turnOf, angleOf, distanceOf, pointOf, isThere, angle, directionFits, samplePoint}
+use Rattle.texture.specs.Plan.{centre, textureRadius, textureSpacing, spiralTurns, raysOf, samplesPerRay}
+use Rattle.texture.specs.Plan.{planCheck, Plan, planOf, plan, statedPlan}
+use Rattle.texture.specs.Sample.{part, baseAngle, turnOf, angleOf, distanceOf, pointOf, isThere, angle}
+use Rattle.texture.specs.Sample.{directionFits, samplePoint}
 use Rattle.texture.proofs.Plans.{plan-passed, plan-failed}
 
 module _ (m n count i : ℕ) {t : ParametricSurfaceTexture} {s : Float} where

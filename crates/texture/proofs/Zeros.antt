@@ -1,4 +1,5 @@
--- Zeros: a finite value times 0 is a zero of its sign, 0 over what is above 0 is 0, what is above 0 over itself is 1, and a value that its rounding keeps exactly stays when a zero is added.
+-- Zeros: a finite value times 0 is a zero of its sign, 0 over what is above 0 is 0, what is above 0 over itself is 1,
+-- and a value that its rounding keeps exactly stays when a zero is added.
 use mathlib.Core.Path.{_≡_, refl, sym, _∙_}
 use mathlib.Core.Bool.{Bool, true, false, true≢false}
 use Prim.Native.Nat.{ℕ, _+_, _-_, _*_, _<_}

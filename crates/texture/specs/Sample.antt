@@ -1,5 +1,5 @@
--- Rules 10.3 and 10.4: the angle of a ray's sample, and its u and v from a lent cosine and sine. In the original these are
--- the closures in `paths_swirl` and `paths_spiral`.
+-- Rules 10.3 and 10.4: the angle of a ray's sample, and its u and v from a lent cosine and sine. In the original these
+-- are the closures in `paths_swirl` and `paths_spiral`.
 use mathlib.Core.Bool.{Bool, _&&_}
 use Prim.Native.Nat.{ℕ}
 use lib.Dec.{ltb, leb}

@@ -14,7 +14,9 @@ use grid::steps_fit;
 use refusal::Refusal;
 ghost use mathlib.Core.Path.{_≡_};
 ghost use Prim.Native.Nat.{max};
-ghost use Rattle.texture.specs.Plan.{textureRadius, textureSpacing, upFrom, stepsAlong, swirlRays, radialSampleCount, spiralTurns, spiralSampleCount, raysOf, samplesPerRay, textureFits, plan, statedPlan};
+ghost use Rattle.texture.specs.Plan.{textureRadius, textureSpacing, upFrom, stepsAlong, swirlRays};
+ghost use Rattle.texture.specs.Plan.{radialSampleCount, spiralTurns, spiralSampleCount, raysOf, samplesPerRay};
+ghost use Rattle.texture.specs.Plan.{textureFits, plan, statedPlan};
 
 // The largest magnitude of a twist, and the most arms.
 const MAX_TWIST: f64 = 64.0;

@@ -1,4 +1,5 @@
--- In each arm the match says which answer it is, `seam_to_c` and `unjoined` give its seams, and `number` the number of a refusal.
+-- In each arm the match says which answer it is, `seam_to_c` and `unjoined` give its seams, and `number` the number of
+-- a refusal.
 use borrow.Author.Needs.{needs}
 use Rattle.merlontrispa.proofs.meshes.mesh_to_c.Statement.{statement}
 use Rattle.merlontrispa.proofs.meshes.mesh_to_c.Tie as tie
