@@ -8,6 +8,13 @@ use Rattle.merlontrispa.specs.Seams.{foundSeam}
 
 -- Rules 8.3: a refusal comes with its number alone, so there is no seam, after no comparison, and counts are 0
 abbrev pub meshAnswer : Answer Meshed → MeshAnswer
-meshAnswer (ok c) = record { refusal = 0; u = foundSeam (c .u); v = foundSeam (c .v); triangles = c .triangles; pairs = c .pairs }
+meshAnswer (ok c) =
+    record { refusal = 0; u = foundSeam (c .u); v = foundSeam (c .v); triangles = c .triangles; pairs = c .pairs }
 meshAnswer (refused k) =
-    record { refusal = k; u = foundSeam (searched Unjoined 0); v = foundSeam (searched Unjoined 0); triangles = 0; pairs = 0 }
+    record {
+      refusal = k;
+      u = foundSeam (searched Unjoined 0);
+      v = foundSeam (searched Unjoined 0);
+      triangles = 0;
+      pairs = 0;
+    }

@@ -24,7 +24,8 @@ indexAnswer a = record { refusal = answerNumber a; index = valuesOr 0 a }
 
 -- a seam and the comparisons made: all zero but these where none was found
 abbrev pub foundIn : Seam → ℕ → FoundSeam
-foundIn (Joined m) k = record { found = true; reverse = isReverse m; offset = offsetOf m; steps = stepsOf m; comparisons = k }
+foundIn (Joined m) k =
+    record { found = true; reverse = isReverse m; offset = offsetOf m; steps = stepsOf m; comparisons = k }
 foundIn Unjoined k = record { found = false; reverse = false; offset = 0; steps = 0; comparisons = k }
 
 abbrev pub foundSeam : SeamSearch → FoundSeam

@@ -40,4 +40,10 @@ joinOf (Joined m) last line step = cond (eqb line last) (placed 0 (inverse m ste
 
 -- Rules 4.3: the numbers of what the four corners of cell (u, v) stand for
 abbrev pub cellOf : Shape → ℕ → ℕ → Cell
-cellOf s u v = record { i00 = corner s v u v; i10 = corner s v (u + 1) v; i01 = corner s v u (v + 1); i11 = corner s v (u + 1) (v + 1) }
+cellOf s u v =
+    record {
+      i00 = corner s v u v;
+      i10 = corner s v (u + 1) v;
+      i01 = corner s v u (v + 1);
+      i11 = corner s v (u + 1) (v + 1);
+    }

@@ -60,7 +60,8 @@ meshLists t f = record { triangles = t; flipped = f }
 abbrev pub written : Shape → MeshLists → Afterwards MeshCounts MeshLists
 written s lent =
     afterwards (record { triangles = length (triangles s); pairs = length (flipped s) })
-    (meshLists (filled 0 (triangleNumbers (triangles s)) (lent .triangles)) (filled 0 (pairNumbers (flipped s)) (lent .flipped)))
+    (meshLists (filled 0 (triangleNumbers (triangles s)) (lent .triangles))
+    (filled 0 (pairNumbers (flipped s)) (lent .flipped)))
 
 -- the counts, with the seams that were found
 abbrev pub meshed : SeamSearch → SeamSearch → MeshCounts → Answer Meshed

@@ -30,7 +30,9 @@ pub record Rims (axis : Axis) (s : Shape) (low high : List ℕ) : Type 0 where
 
 -- step i of the high rim with the step of the low rim that lies on it, if there is one
 abbrev pub flipStep : Axis → Shape → Seam → ℕ → List Pair → List Pair
-flipStep axis s m i ps = cond (ltb (stepOn m (stepsOf axis s) i) (stepsOf axis s)) (putDown s (lowOf axis s (stepOn m (stepsOf axis s) i)) (highOf axis s i) ps) ps
+flipStep axis s m i ps =
+    cond (ltb (stepOn m (stepsOf axis s) i) (stepsOf axis s))
+    (putDown s (lowOf axis s (stepOn m (stepsOf axis s) i)) (highOf axis s i) ps) ps
 
 -- steps 0 to n−1
 abbrev pub flipSteps : Axis → Shape → Seam → ℕ → List Pair → List Pair

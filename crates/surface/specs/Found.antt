@@ -46,7 +46,8 @@ Maps (Joined k) steps = (stepsOf k ≡ steps) × (offsetOf k < steps)
 
 -- the surface that two seam answers make of a grid with M and N steps
 abbrev pub surfaceWith : ℕ → ℕ → Seam → Seam → surface.Shape
-surfaceWith m n su sv = record { M = m; N = n; su = seamOf su; sv = seamOf sv; rule = surface.once; split = surface.falling }
+surfaceWith m n su sv =
+    record { M = m; N = n; su = seamOf su; sv = seamOf sv; rule = surface.once; split = surface.falling }
 
 -- the surface of a grid, with the seams that are found in it
 abbrev pub surfaceOf : List Float → ℕ → ℕ → surface.Shape

@@ -63,7 +63,8 @@ unfolding computed
 one-around = refl
 
 -- with 2, the side of 0 and 2, which is on the rim, belongs to two triangles, the first and the third;
-two-around : triangles (shape 2 1 (forward 0) unjoined once falling) ≡ tri 0 2 1 ∷ tri 2 3 1 ∷ tri 2 0 3 ∷ tri 0 1 3 ∷ []
+two-around : triangles (shape 2 1 (forward 0) unjoined once falling) ≡
+    tri 0 2 1 ∷ tri 2 3 1 ∷ tri 2 0 3 ∷ tri 0 1 3 ∷ []
 unfolding computed
 two-around = refl
 

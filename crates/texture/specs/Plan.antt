@@ -58,7 +58,8 @@ swirlRays m n spacing = upFrom one64 (div binary64 (mul binary64 tau (textureRad
 
 -- along the radius and, times it, the angle that the twist turns a ray by
 unfoldable pub radialSampleCount : ℕ → ℕ → Float → Float → Float
-radialSampleCount m n spacing twist = stepsAlong (mul binary64 (textureRadius m n) (add binary64 one64 (absolute (mul binary64 tau twist)))) spacing
+radialSampleCount m n spacing twist =
+    stepsAlong (mul binary64 (textureRadius m n) (add binary64 one64 (absolute (mul binary64 tau twist)))) spacing
 
 -- ---- `paths_spiral`
 
@@ -69,7 +70,10 @@ spiralTurns m n spacing = upFrom one64 (div binary64 (textureRadius m n) spacing
 -- along the radius and all turns, at half of it on average
 unfoldable pub spiralSampleCount : ℕ → ℕ → Float → Float
 spiralSampleCount m n spacing =
-    stepsAlong (add binary64 (textureRadius m n) (mul binary64 (mul binary64 (mul binary64 (textureRadius m n) tau) (spiralTurns m n spacing)) half64)) spacing
+    stepsAlong
+    (add binary64 (textureRadius m n)
+    (mul binary64 (mul binary64 (mul binary64 (textureRadius m n) tau) (spiralTurns m n spacing)) half64))
+    spacing
 
 -- ---- the plan
 

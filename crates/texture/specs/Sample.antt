@@ -33,8 +33,10 @@ baseAngle rays ray = mul binary64 (part ray rays) tau
 -- how far the angle of sample i of a ray is from the ray's, its samples being `count`
 abbrev pub turnOf : ParametricSurfaceTexture → ℕ → ℕ → ℕ → ℕ → Float
 turnOf Grid m n count i = zero64
-turnOf (Swirl spacing twist) m n count i = div binary64 (mul binary64 (mul binary64 tau twist) (natFloat i)) (natFloat count)
-turnOf (Spiral spacing arms) m n count i = mul binary64 (mul binary64 (part i count) tau) (spiralTurns m n (textureSpacing spacing))
+turnOf (Swirl spacing twist) m n count i =
+    div binary64 (mul binary64 (mul binary64 tau twist) (natFloat i)) (natFloat count)
+turnOf (Spiral spacing arms) m n count i =
+    mul binary64 (mul binary64 (part i count) tau) (spiralTurns m n (textureSpacing spacing))
 
 -- Rules 10.3: the angle of sample i of a ray
 unfoldable pub angleOf : ParametricSurfaceTexture → ℕ → ℕ → Plan → ℕ → ℕ → Float
@@ -43,7 +45,8 @@ angleOf t m n p ray i = add binary64 (baseAngle (p .rays) ray) (turnOf t m n (p 
 -- Rules 10.4: how far a sample is from the centre
 abbrev pub distanceOf : ParametricSurfaceTexture → ℕ → ℕ → ℕ → ℕ → Float
 distanceOf Grid m n count i = zero64
-distanceOf (Swirl spacing twist) m n count i = div binary64 (mul binary64 (textureRadius m n) (natFloat i)) (natFloat count)
+distanceOf (Swirl spacing twist) m n count i =
+    div binary64 (mul binary64 (textureRadius m n) (natFloat i)) (natFloat count)
 distanceOf (Spiral spacing arms) m n count i = mul binary64 (textureRadius m n) (sub binary64 one64 (part i count))
 
 -- Rules 10.4: the point that is so far from the centre, along the cosine and the sine
@@ -61,7 +64,8 @@ isThere p ray i = ltb ray (p .rays) && leb i (p .samples)
 -- the open call `angle`: refusals 1, 5, 6 and 8
 unfoldable pub angle : ParametricSurfaceTexture → ℕ → ℕ → ℕ → ℕ → Answer Float
 angle t m n ray i =
-    passing (planCheck t m n (unless (isThere (planOf t m n) ray i) refusals.NotThere Passed)) (ok (angleOf t m n (planOf t m n) ray i))
+    passing (planCheck t m n (unless (isThere (planOf t m n) ray i) refusals.NotThere Passed))
+    (ok (angleOf t m n (planOf t m n) ray i))
 
 -- Rules 11.1: refusal 7 is not given: both are from −1 to 1
 abbrev pub directionFits : Float → Float → Bool
@@ -70,7 +74,8 @@ directionFits cosine sine = atMost cosine one64 && atMost sine one64
 -- the open call `sample_point`: refusals 1, 5, 6, 7 and 8
 unfoldable pub samplePoint : ParametricSurfaceTexture → ℕ → ℕ → ℕ → ℕ → Float → Float → Answer ParamPoint
 samplePoint t m n ray i cosine sine =
-    passing (planCheck t m n (unless (directionFits cosine sine) refusals.Direction (unless (isThere (planOf t m n) ray i) refusals.NotThere Passed)))
+    passing (planCheck t m n (unless (directionFits cosine sine) refusals.Direction
+    (unless (isThere (planOf t m n) ray i) refusals.NotThere Passed)))
     (ok (pointOf t m n (planOf t m n .samples) i cosine sine))
 
 -- the number and the values of each case
