@@ -1,7 +1,7 @@
 // The corner rule (Rules 4.2): which grid point a corner of a cell stands for once the seams are joined.
 use cyclic::seam::Seam;
-ghost use mathlib.Core.Path.{_≡_};
 ghost use Prim.Native.Nat.{_+_, _≤_, _<_};
+ghost use mathlib.Core.Path.{_≡_};
 ghost use Rattle.surface.specs.Surface.{corner};
 ghost use Rattle.mesh.specs.Corners.{shapeOf, Bounded, Joins, joinOf, cellOf};
 

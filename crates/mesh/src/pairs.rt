@@ -1,6 +1,6 @@
 // An ascending list of pairs, each once, in the numbers of a lent list.
-ghost use mathlib.Core.Path.{_≡_};
 ghost use Prim.Native.Nat.{ℕ, _+_, _*_, _≤_, _<_};
+ghost use mathlib.Core.Path.{_≡_};
 ghost use lib.ListN.{length, getD};
 ghost use Rattle.basics.specs.Lists.{putAt};
 ghost use Rattle.surface.specs.Surface.{insert, pair};
