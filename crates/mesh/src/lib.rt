@@ -59,7 +59,8 @@ fn find_seams(grid: &[f64], m: usize, n: usize) -> Seams
 // The triangles and flipped pairs that two seams make, and zero past them.
 pub fn triangulate(surface: Surface, triangles: &mut [usize], flipped: &mut [usize]) -> MeshCounts
     requires { ⌜ Bounded surface ⌝ }
-    requires { ⌜ (6 * (surface .m * surface .n) ≤ length (now triangles)) × (2 * (surface .m + surface .n) ≤ length (now flipped)) ⌝ }
+    requires { ⌜ (6 * (surface .m * surface .n) ≤ length (now triangles))
+        × (2 * (surface .m + surface .n) ≤ length (now flipped)) ⌝ }
     ensures { λ r. ⌜ afterwards r (meshLists (now (triangles .exit)) (now (flipped .exit)))
         ≡ written (shapeOf surface) (meshLists (now (triangles .entry)) (now (flipped .entry))) ⌝ }
 {

@@ -106,10 +106,12 @@ digits-inj : (q r q′ r′ m : ℕ) → r < m → r′ < m → q * m + r ≡ q�
 digits-inj q r q′ r′ m h h′ e = (cc (digits-div q h, digits-div q′ h′), cc (digits-mod q h, digits-mod q′ h′))
 
 -- a point's number tells its column and its row
-pub number-inj : (a : Axis) (s : Shape) (x y x′ y′ : ℕ) → x ≤ columns a s → y ≤ rows a s → x′ ≤ columns a s → y′ ≤ rows a s →
+pub number-inj : (a : Axis) (s : Shape) (x y x′ y′ : ℕ) → x ≤ columns a s → y ≤ rows a s → x′ ≤ columns a s →
+    y′ ≤ rows a s →
     number s (at (xOf a x y) (yOf a x y)) ≡ number s (at (xOf a x′ y′) (yOf a x′ y′)) → (x ≡ x′) × (y ≡ y′)
 number-inj AxisU s x y x′ y′ h k h′ k′ e = digits-inj x y x′ y′ (s .N + 1) (omega arith) (omega arith) e
-number-inj AxisV s x y x′ y′ h k h′ k′ e = let r = digits-inj y x y′ x′ (s .N + 1) (omega arith) (omega arith) e in (r .1, r .0)
+number-inj AxisV s x y x′ y′ h k h′ k′ e =
+    let r = digits-inj y x y′ x′ (s .N + 1) (omega arith) (omega arith) e in (r .1, r .0)
 
 -- steps both ways, and 2 around wherever a seam joins
 pub record HasSteps (s : Shape) : Type 0 where
@@ -122,7 +124,8 @@ some AxisU s h = (h .u-some, h .v-some)
 some AxisV s h = (h .v-some, h .u-some)
 
 -- so many steps around, by columns and rows
-pub around-seen : (k : ℕ) (a : Axis) (s : Shape) → StepsAround k s → (joined (seamOf a s) ≡ true → k ≤ columns a s) × (joined (closing a s) ≡ true → k ≤ rows a s)
+pub around-seen : (k : ℕ) (a : Axis) (s : Shape) → StepsAround k s →
+    (joined (seamOf a s) ≡ true → k ≤ columns a s) × (joined (closing a s) ≡ true → k ≤ rows a s)
 around-seen k AxisU s h = h
 around-seen k AxisV s h = (h .1, h .0)
 
@@ -159,7 +162,8 @@ strip s h a w =
 inside-mapping : (m : Seam) (n : ℕ) → Beside once m n → (b : ℕ) → b < n → inverse m n b < n
 inside-mapping unjoined n h b k = absurd h
 inside-mapping (forward o) n h b k = ⊎-elim (λ w. omega arith) (λ w. omega arith) (inv-forward o n b h (omega arith))
-inside-mapping (reverse o) n h b k = ⊎-elim (λ w. omega arith) (λ w. omega arith) (inv-reverse o n b (h .0) (h .1) (omega arith))
+inside-mapping (reverse o) n h b k =
+    ⊎-elim (λ w. omega arith) (λ w. omega arith) (inv-reverse o n b (h .0) (h .1) (omega arith))
 
 offset-closed : (o n : ℕ) → o < n → Offset o true n
 offset-closed zero n h = tt
@@ -194,9 +198,15 @@ module _ (a : Axis) (s : Shape) where
 
   -- beside a seam that is forward at offset 0
   closed-columns : closing a s ≡ forward 0 → Beside (s .rule) (seamOf a s) (rows a s) → SeenAlong a s
-  closed-columns e b = record { fits = rw e (beside-fits (s .rule) (seamOf a s) (rows a s) b); plain = inr e; inside = keeps (s .rule) b }
+  closed-columns e b =
+      record {
+        fits = rw e (beside-fits (s .rule) (seamOf a s) (rows a s) b);
+        plain = inr e;
+        inside = keeps (s .rule) b;
+      }
     where
-      keeps : (r : Rule) → Beside r (seamOf a s) (rows a s) → KeepsInside r (seamOf a s) (joined (closing a s)) (rows a s)
+      keeps : (r : Rule) → Beside r (seamOf a s) (rows a s) →
+          KeepsInside r (seamOf a s) (joined (closing a s)) (rows a s)
       keeps once h = λ d i k. inside-mapping (seamOf a s) (rows a s) h i k
       keeps twice h = tt
 

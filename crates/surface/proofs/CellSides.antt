@@ -197,11 +197,18 @@ module _ (S : Strip) where
   pub partner : (k : Kind) (t : Bool) (x y : ℕ) → Cell S x y → RimAt S k t x y ⊎ Partner k t x y
   partner straight false x y c = go (lt-or-le 0 x) (unjoined-or-joined seam)
     where
-      go : (0 < x) ⊎ (x ≤ 0) → (seam ≡ unjoined) ⊎ (joined seam ≡ true) → RimAt S straight false x y ⊎ Partner straight false x y
+      go : (0 < x) ⊎ (x ≤ 0) → (seam ≡ unjoined) ⊎ (joined seam ≡ true) →
+          RimAt S straight false x y ⊎ Partner straight false x y
       -- the cell before it in the row of cells
       go (inl h) j =
           let e : x - 1 + 1 ≡ x = omega arith in
-          inr (record { x′ = x - 1; y′ = y; cell = (omega arith, c .1); same-x = rw e (col-below S x (c .0)); same-y = rw e (step-below S x y (c .0)) })
+          inr (record {
+            x′ = x - 1;
+            y′ = y;
+            cell = (omega arith, c .1);
+            same-x = rw e (col-below S x (c .0));
+            same-y = rw e (step-below S x y (c .0));
+          })
       go (inr h) (inl j) = inl (j, omega arith)
       -- from column 0, the cell of the last column that the seam lays on it
       go (inr h) (inr j) =
@@ -217,9 +224,17 @@ module _ (S : Strip) where
   partner straight true x y c = go (lt-or-le (x + 1) X) (unjoined-or-joined seam)
     where
       found : colOf S (x + 1) < X → Partner straight true x y
-      found h = record { x′ = colOf S (x + 1); y′ = stepAt S (x + 1) y; cell = (h, stepAt-lt S (x + 1) y (c .1)); same-x = refl; same-y = refl }
+      found h =
+          record {
+            x′ = colOf S (x + 1);
+            y′ = stepAt S (x + 1) y;
+            cell = (h, stepAt-lt S (x + 1) y (c .1));
+            same-x = refl;
+            same-y = refl;
+          }
 
-      go : (x + 1 < X) ⊎ (X ≤ x + 1) → (seam ≡ unjoined) ⊎ (joined seam ≡ true) → RimAt S straight true x y ⊎ Partner straight true x y
+      go : (x + 1 < X) ⊎ (X ≤ x + 1) → (seam ≡ unjoined) ⊎ (joined seam ≡ true) →
+          RimAt S straight true x y ⊎ Partner straight true x y
       go (inl h) j = inr (found (omega (arith, col-below S (x + 1) h)))
       go (inr h) (inl j) = inl (j, omega arith)
       go (inr h) (inr j) = let e : x + 1 ≡ X = omega arith in inr (found (rw e (omega (arith, far-col j))))
@@ -237,7 +252,8 @@ module _ (S : Strip) where
       found : next S y < Y → Partner across true x y
       found h = record { x′ = x; y′ = next S y; cell = (c .0, h); same-x = refl; same-y = refl }
 
-      go : (y + 1 < Y) ⊎ (Y ≤ y + 1) → (closed ≡ false) ⊎ (closed ≡ true) → RimAt S across true x y ⊎ Partner across true x y
+      go : (y + 1 < Y) ⊎ (Y ≤ y + 1) → (closed ≡ false) ⊎ (closed ≡ true) →
+          RimAt S across true x y ⊎ Partner across true x y
       go (inl h) j = inr (found (omega (arith, next-below y h)))
       go (inr h) (inl j) = inl (j, omega arith)
       go (inr h) (inr j) = inr (found (omega (arith, next-last y j (omega arith))))

@@ -62,11 +62,13 @@ covered m n (Joined (Forward o k)) (Joined j) p q (inr c) = both-u (p .1) (at-ze
 covered m n (Joined (Reverse o k)) (Joined j) p q (inr c) = both-u (omega (arith, c .0), p .1) (at-zero j (c .1))
 
 -- demand 3 of the surface that two seam answers make, found or given
-pub joining-meets : (m n : ℕ) (su sv : Seam) → 1 ≤ m → 1 ≤ n → Maps su n → Maps sv m → CoveredJoining su sv → Meets (surfaceWith m n su sv)
+pub joining-meets : (m n : ℕ) (su sv : Seam) → 1 ≤ m → 1 ≤ n → Maps su n → Maps sv m → CoveredJoining su sv →
+    Meets (surfaceWith m n su sv)
 joining-meets m n su sv hm hn p q c = covered-meets (surfaceWith m n su sv) hm hn (covered m n su sv p q c)
 
 -- demand 3 of the surface of a grid, with the seams that are found in it
 pub surface-meets : (g : List Float) (m n : ℕ) → SurfaceMeets g m n
 surface-meets g m n a c =
     let s = accepted-known g m n a .steps in
-    joining-meets m n (uSearch g m n .seam) (vSearch g m n .seam) (s .m-least) (s .n-least) (u-of-row g m n (s .n-least)) (v-of-row g m n (s .m-least)) c
+    joining-meets m n (uSearch g m n .seam) (vSearch g m n .seam) (s .m-least) (s .n-least)
+    (u-of-row g m n (s .n-least)) (v-of-row g m n (s .m-least)) c

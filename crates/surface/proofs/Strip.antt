@@ -107,7 +107,9 @@ module _ (S : Strip) where
 
   row-le : (x y : ℕ) → y ≤ Y → rowOf S x y ≤ Y
   unfolding rowOf
-  row-le x y h = cond-keeps (λ (z : ℕ). z ≤ Y) (crossing S x) _ _ (carried-le seam closed Y y (omega arith) fits h) (wrap-le closed Y y h)
+  row-le x y h =
+      cond-keeps (λ (z : ℕ). z ≤ Y) (crossing S x) _ _ (carried-le seam closed Y y (omega arith) fits h)
+      (wrap-le closed Y y h)
 
   pub col-le : (x : ℕ) → x ≤ X → colOf S x ≤ X
   unfolding colOf
@@ -250,7 +252,8 @@ module _ (S : Strip) where
 
   -- two names whose ends agree in order are one
   in-order : (k k′ : Kind) (d : Split) (x y x′ y′ : ℕ) → Valid S k x y → Valid S k′ x′ y′ →
-      x ≡ x′ → fromY S k d y ≡ fromY S k′ d y′ → toX S k x ≡ toX S k′ x′ → toY S k d x y ≡ toY S k′ d x′ y′ → Agree k k′ x y x′ y′
+      x ≡ x′ → fromY S k d y ≡ fromY S k′ d y′ → toX S k x ≡ toX S k′ x′ → toY S k d x y ≡ toY S k′ d x′ y′ →
+      Agree k k′ x y x′ y′
   in-order straight straight d x y x′ y′ v v′ p q r s = (refl, p, q)
   in-order straight across d x y x′ y′ v v′ p q r s = absurd (col-ne S x′ (v′ .0) (sym r ∙ p))
   in-order straight diagonal d x y x′ y′ v v′ p q r s = absurd (col-ne S x′ (v′ .0) (sym r ∙ p))
@@ -286,10 +289,14 @@ module _ (S : Strip) where
       Same (nameFrom S k x y) (nameTo S k x y) (nameFrom S k′ x′ y′) (nameTo S k′ x′ y′) → Agree k k′ x y x′ y′
   unfolding nameFrom nameTo
   one-name w k k′ x y x′ y′ v v′ (inl e) =
-      let p = inj _ _ _ _ (x-le k x y v) (fromY-le k split x y v) (x-le k′ x′ y′ v′) (fromY-le k′ split x′ y′ v′) (e .0) in
-      let q = inj _ _ _ _ (toX-le k x y v) (toY-le k split x y v) (toX-le k′ x′ y′ v′) (toY-le k′ split x′ y′ v′) (e .1) in
+      let p =
+      inj _ _ _ _ (x-le k x y v) (fromY-le k split x y v) (x-le k′ x′ y′ v′) (fromY-le k′ split x′ y′ v′) (e .0) in
+      let q =
+      inj _ _ _ _ (toX-le k x y v) (toY-le k split x y v) (toX-le k′ x′ y′ v′) (toY-le k′ split x′ y′ v′) (e .1) in
       in-order k k′ split x y x′ y′ v v′ (p .0) (p .1) (q .0) (q .1)
   one-name w k k′ x y x′ y′ v v′ (inr e) =
-      let p = inj _ _ _ _ (x-le k x y v) (fromY-le k split x y v) (toX-le k′ x′ y′ v′) (toY-le k′ split x′ y′ v′) (e .0) in
-      let q = inj _ _ _ _ (toX-le k x y v) (toY-le k split x y v) (x-le k′ x′ y′ v′) (fromY-le k′ split x′ y′ v′) (e .1) in
+      let p =
+      inj _ _ _ _ (x-le k x y v) (fromY-le k split x y v) (toX-le k′ x′ y′ v′) (toY-le k′ split x′ y′ v′) (e .0) in
+      let q =
+      inj _ _ _ _ (toX-le k x y v) (toY-le k split x y v) (x-le k′ x′ y′ v′) (fromY-le k′ split x′ y′ v′) (e .1) in
       absurd (in-turn w k k′ split x y x′ y′ v v′ (p .0) (p .1) (q .0) (q .1))
