@@ -1,4 +1,4 @@
--- What the contracts of the lengths cite.
+-- No rule: the length of a recorded list, in the array that it is read into.
 use Prim.Native.Nat.{ℕ, _≤_}
 use mathlib.Core.Path.{_≡_}
 use mathlib.Core.List.{List}

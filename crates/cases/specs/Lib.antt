@@ -1,2 +1,2 @@
--- What the contracts of this crate cite.
+-- No call here is open: Counts serves inner contracts only.
 pub mod Counts

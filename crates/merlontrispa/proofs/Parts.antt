@@ -13,16 +13,22 @@ use Rattle.refusal.specs.declared.Refusal.{Refusal}
 use Rattle.merlontrispa.specs.Lines.{partIn, Gets}
 
 module _ (points : List Float) (starts : List ℕ) (pointCount lineCount index : ℕ) where
-  pub there : {r : LineAnswer} {s e : ℕ} {line : List Float} → r ≡ Span s e → statedLine r ≡ lineSpan points starts pointCount lineCount index
-      → line ≡ lineAt points starts pointCount lineCount index → Gets points starts pointCount lineCount index (record { offset = 3 * s; length = length line })
+  pub there : {r : LineAnswer} {s e : ℕ} {line : List Float} → r ≡ Span s e →
+      statedLine r ≡ lineSpan points starts pointCount lineCount index
+      → line ≡ lineAt points starts pointCount lineCount index → Gets points starts pointCount lineCount index
+      (record { offset = 3 * s; length = length line })
   there {r} {s} {e} {line} p h q =
       let b = span-bounds points starts pointCount lineCount index p h in
-      let cut : take (3 * e - 3 * s) (drop (3 * s) points) ≡ lineAt points starts pointCount lineCount index = part-is points starts pointCount lineCount index p h in
-      let long : length line ≡ 3 * e - 3 * s = ap length (q ∙ sym cut) ∙ simp (length-take, length-drop) (omega arith) in
+      let cut : take (3 * e - 3 * s) (drop (3 * s) points) ≡ lineAt points starts pointCount lineCount index =
+      part-is points starts pointCount lineCount index p h in
+      let long : length line ≡ 3 * e - 3 * s =
+      ap length (q ∙ sym cut) ∙ simp (length-take, length-drop) (omega arith) in
       record { part = rw long (ap partIn (ap statedLine (sym p) ∙ h)); line = rw long cut }
 
-  pub not-there : {r : LineAnswer} {k : Refusal} {line : List Float} → r ≡ Refused k → statedLine r ≡ lineSpan points starts pointCount lineCount index
-      → line ≡ lineAt points starts pointCount lineCount index → Gets points starts pointCount lineCount index (record { offset = 0; length = length line })
+  pub not-there : {r : LineAnswer} {k : Refusal} {line : List Float} → r ≡ Refused k →
+      statedLine r ≡ lineSpan points starts pointCount lineCount index
+      → line ≡ lineAt points starts pointCount lineCount index → Gets points starts pointCount lineCount index
+      (record { offset = 0; length = length line })
   not-there {r} {k} {line} p h q =
       let none = part-is points starts pointCount lineCount index p h in
       let long : length line ≡ 0 = ap length (q ∙ sym none) in

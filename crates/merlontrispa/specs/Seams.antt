@@ -1,4 +1,4 @@
--- Mappings and seams as C sees them.
+-- Rules 3, for C: a mapping by its direction, offset and steps, and what a search finds.
 use Prim.Native.Nat.{ℕ}
 use mathlib.Core.Bool.{Bool, true, false}
 use Rattle.refusal.specs.Refusals.{Answer, answerNumber, valuesOr}
@@ -18,18 +18,19 @@ abbrev pub mappingOf : Bool → ℕ → ℕ → CyclicMapping
 mappingOf false o n = Forward o n
 mappingOf true o n = Reverse o n
 
--- "A refusal carries its number and no other value": its index is 0
+-- Rules 8.3: a refusal comes with its number alone, so the index is 0
 abbrev pub indexAnswer : Answer ℕ → IndexAnswer
 indexAnswer a = record { refusal = answerNumber a; index = valuesOr 0 a }
 
 -- a seam and the comparisons made: all zero but these where none was found
 abbrev pub foundIn : Seam → ℕ → FoundSeam
-foundIn (Joined m) k = record { found = true; reverse = isReverse m; offset = offsetOf m; steps = stepsOf m; comparisons = k }
+foundIn (Joined m) k =
+    record { found = true; reverse = isReverse m; offset = offsetOf m; steps = stepsOf m; comparisons = k }
 foundIn Unjoined k = record { found = false; reverse = false; offset = 0; steps = 0; comparisons = k }
 
 abbrev pub foundSeam : SeamSearch → FoundSeam
 foundSeam s = foundIn (s .seam) (s .comparisons)
 
--- on a refusal no seam, after no comparison
+-- Rules 8.3: likewise, no seam, after no comparison
 abbrev pub rowsAnswer : Answer SeamSearch → RowsAnswer
 rowsAnswer a = record { refusal = answerNumber a; seam = foundSeam (valuesOr (searched Unjoined 0) a) }

@@ -1,4 +1,4 @@
--- Textures, and what is answered of them, as C sees them.
+-- Rules 10, for C: a texture by its kind and numbers, and its plan, angles and sample points.
 use Prim.Native.Nat.{ℕ}
 use mathlib.Core.Bool.{cond}
 use lib.Dec.{eqb}
@@ -15,9 +15,10 @@ use Rattle.merlontrispa.specs.declared.textures.RayPoint.{RayPoint}
 
 -- the texture of a kind, a spacing, a twist and arms: kind 0 is Grid, 1 Swirl, every other Spiral
 abbrev pub textureOf : ℕ → Float → Float → ℕ → ParametricSurfaceTexture
-textureOf kind spacing twist arms = cond (eqb kind 0) Grid (cond (eqb kind 1) (Swirl spacing twist) (Spiral spacing arms))
+textureOf kind spacing twist arms =
+    cond (eqb kind 0) Grid (cond (eqb kind 1) (Swirl spacing twist) (Spiral spacing arms))
 
--- "A refusal carries its number and no other value": its counts, its angle and its point are 0
+-- Rules 8.3: a refusal comes with its number alone, so counts, angle and point are 0
 abbrev pub rayCounts : Answer Plan → RayCounts
 rayCounts (ok p) = record { refusal = 0; rays = p .rays; samples = p .samples }
 rayCounts (refused k) = record { refusal = k; rays = 0; samples = 0 }

@@ -1,4 +1,4 @@
--- A Vector as the struct that C sees.
+-- Rules 2.2, for C: a Vector as a struct.
 use Rattle.vector.specs.declared.Vector.{Vector}
 use Rattle.merlontrispa.specs.declared.vectors.Components.{Components}
 

@@ -73,7 +73,8 @@ pub extern "C" fn mt_grid_paths(
     starts: &mut [usize],
 ) -> PathsAnswer
     ensures { λ r. ⌜ afterwards r (pathLists (now (points .exit)) (now (starts .exit)))
-        ≡ answering pathsAnswer (gridPaths (now (grid .entry)) m n (pathLists (now (points .entry)) (now (starts .entry)))) ⌝ }
+        ≡ answering pathsAnswer (gridPaths (now (grid .entry)) m n
+        (pathLists (now (points .entry)) (now (starts .entry)))) ⌝ }
 {
     paths_to_c(path::grid_paths(grid, m, n, points, starts))
 }
@@ -86,7 +87,8 @@ pub extern "C" fn mt_line_span(
     line_count: usize,
     index: usize,
 ) -> SpanAnswer
-    ensures { λ r. ⌜ r ≡ spanAnswer (lineSpan (now (points .entry)) (now (starts .entry)) «point_count» «line_count» index) ⌝ }
+    ensures { λ r. ⌜ r
+        ≡ spanAnswer (lineSpan (now (points .entry)) (now (starts .entry)) «point_count» «line_count» index) ⌝ }
 {
     span_to_c(path::line_span(points, starts, point_count, line_count, index))
 }

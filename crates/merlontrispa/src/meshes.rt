@@ -62,7 +62,8 @@ pub extern "C" fn mt_triangulate_grid(
     flipped: &mut [usize],
 ) -> MeshAnswer
     ensures handed { λ r. ⌜ afterwards r (meshLists (now (triangles .exit)) (now (flipped .exit)))
-        ≡ answering meshAnswer (triangulateGrid (now (grid .entry)) m n (meshLists (now (triangles .entry)) (now (flipped .entry)))) ⌝ }
+        ≡ answering meshAnswer (triangulateGrid (now (grid .entry)) m n
+        (meshLists (now (triangles .entry)) (now (flipped .entry)))) ⌝ }
     ensures surface { λ _. ⌜ SurfaceMeets (now (grid .entry)) m n ⌝ }
 {
     mesh_to_c(mesh::triangulate_grid(grid, m, n, triangles, flipped))

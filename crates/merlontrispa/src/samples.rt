@@ -22,8 +22,10 @@ pub extern "C" fn mt_trace_samples(
     sides: &mut [usize],
     fractions: &mut [f64],
 ) -> PathsAnswer
-    ensures answer { λ r. ⌜ afterwards r (lists (now (points .exit)) (now (starts .exit)) (now (sides .exit)) (now (fractions .exit)))
-        ≡ answering pathsAnswer (traceFlat (now (grid .entry)) m n (pairsOf (now (samples .entry))) (marksOf (now (samples .entry)))
+    ensures answer { λ r. ⌜ afterwards r
+        (lists (now (points .exit)) (now (starts .exit)) (now (sides .exit)) (now (fractions .exit)))
+        ≡ answering pathsAnswer (traceFlat (now (grid .entry)) m n
+        (pairsOf (now (samples .entry))) (marksOf (now (samples .entry)))
         (lists (now (points .entry)) (now (starts .entry)) (now (sides .entry)) (now (fractions .entry)))) ⌝ }
     ensures demand { λ _. ⌜ Demand3 (now (grid .entry)) m n ⌝ }
 {

@@ -37,7 +37,8 @@ pub extern "C" fn mt_trace_flat(
     sides: &mut [usize],
     fractions: &mut [f64],
 ) -> PathsAnswer
-    ensures answer { λ r. ⌜ afterwards r (lists (now (points .exit)) (now (starts .exit)) (now (sides .exit)) (now (fractions .exit)))
+    ensures answer { λ r. ⌜ afterwards r
+        (lists (now (points .exit)) (now (starts .exit)) (now (sides .exit)) (now (fractions .exit)))
         ≡ answering pathsAnswer (traceFlat (now (grid .entry)) m n (now (pairs .entry)) (now (marks .entry))
         (lists (now (points .entry)) (now (starts .entry)) (now (sides .entry)) (now (fractions .entry)))) ⌝ }
     ensures demand { λ _. ⌜ Demand3 (now (grid .entry)) m n ⌝ }

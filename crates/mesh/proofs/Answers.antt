@@ -1,4 +1,5 @@
--- The open call's answer and lists: its refusals in order, what is known where none applies, and the lists that are handed over.
+-- The open call's answer and lists: its refusals in order, what is known where none applies, and the lists that are
+-- handed over.
 use Prim.Native.Nat.{ℕ, _+_, _*_, _≤_}
 use mathlib.Core.Path.{_≡_, sym, ap, _∙_}
 use mathlib.Core.List.{List, []}
@@ -27,7 +28,8 @@ use Rattle.surface.proofs.Joinings.{u-of-row, v-of-row}
 use Rattle.mesh.specs.declared.MeshCounts.{MeshCounts}
 use Rattle.mesh.specs.declared.Triangulation.{Triangulation}
 use Rattle.mesh.specs.declared.Triangulation.the-variants.{Triangulated, Refused}
-use Rattle.mesh.specs.Mesh.{triangleNumbers, pairNumbers, roomFits, meshCheck, meshLists, meshed, written, triangulateGrid, statedTriangulation}
+use Rattle.mesh.specs.Mesh.{triangleNumbers, pairNumbers, roomFits, meshCheck, meshLists, meshed, written}
+use Rattle.mesh.specs.Mesh.{triangulateGrid, statedTriangulation}
 use Rattle.mesh.specs.Corners.{Bounded}
 use Rattle.mesh.specs.Held.{trianglesIn, pairsIn}
 use Rattle.mesh.specs.Rims.{flips}

@@ -16,7 +16,7 @@ use Rattle.mesh.specs.Corners.{shapeOf, cellOf}
 use Rattle.mesh.specs.Held.{firsts, triangleAt, trianglesIn}
 use Rattle.mesh.proofs.Firsts.{length-firsts}
 
--- "the cell emits (i00,i10,i01), then (i10,i11,i01)"
+-- Rules 4.3: the triangles of a cell, by its corners
 abbrev pub firstOf : Cell → Triangle
 firstOf c = tri (c .i00) (c .i10) (c .i01)
 

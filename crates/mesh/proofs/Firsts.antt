@@ -1,4 +1,5 @@
--- The first values of a function as a list: its length, its values, and what it is after a value is put in; and as a list that they are written into one by one.
+-- The first values of a function as a list: its length, its values, and what it is after a value is put in; and as a
+-- list that they are written into one by one.
 use Prim.Native.Nat.{ℕ, zero, suc, _+_, _≤_, _<_}
 use mathlib.Core.Path.{_≡_, refl, sym, ap, _∙_}
 use mathlib.Core.Logic.{⊎-elim}

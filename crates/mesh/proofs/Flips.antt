@@ -16,7 +16,8 @@ use Rattle.cyclic.specs.declared.mapping.CyclicMapping.the-variants.{Forward, R
 use Rattle.cyclic.specs.declared.seam.Seam.{Seam as Found}
 use Rattle.cyclic.specs.declared.seam.Seam.the-variants.{Joined}
 use Rattle.cyclic.specs.Mapping as cyclic
-use Rattle.surface.specs.Surface.{Seam, Shape, Pair, ordered, insert, proper, slot, triangleNumber, stepOn, reversed, process, flipped, pair}
+use Rattle.surface.specs.Surface.{Seam, Shape, Pair, ordered, insert, proper, slot, triangleNumber, stepOn, reversed}
+use Rattle.surface.specs.Surface.{process, flipped, pair}
 use Rattle.surface.specs.Found.{ofMapping, seamOf, Maps}
 use Rattle.surface.specs.Rims.{stepsOf, lowOf, highOf}
 use Rattle.mesh.specs.declared.corner.Surface.{Surface}

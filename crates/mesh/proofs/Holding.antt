@@ -172,7 +172,8 @@ spot-end f k i p e passed =
     let none = drop-of-length-le (firsts f k) {i = k} (omega (arith, length-firsts f k)) in
     rw e at passed ∙ rw none
 
--- One more number, at place i, moved two places on: those below it stand where they did, those from it on two places further
+-- One more number, at place i, moved two places on: those below it stand where they did, those from it on two places
+-- further
 
 pub gap-below : (l l₀ : List ℕ) (i : ℕ) → ((k : ℕ) → k < i + 1 → getD l k 0 ≡ getD l₀ k 0) →
     (k : ℕ) → k < i → getD (set l (i + 2) (getD l i 0)) k 0 ≡ getD l₀ k 0

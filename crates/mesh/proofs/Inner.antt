@@ -1,4 +1,5 @@
--- A cell that touches neither the last u nor the last v: no rule applies to its corners, and its two triangles are proper.
+-- A cell that touches neither the last u nor the last v: no rule applies to its corners, and its two triangles are
+-- proper.
 use Prim.Native.Nat.{ℕ, _+_, _*_, _<_}
 use mathlib.Core.Path.{_≡_, sym, ap, _∙_}
 use mathlib.Core.Bool.{and-false}

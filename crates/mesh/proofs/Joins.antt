@@ -1,4 +1,4 @@
--- The corner rule by the code's steps: one rule for either seam gives 01's two, and stays within the grid.
+-- The corner rule by the code's steps: one rule for either seam gives the two of Rules 4.2, and stays within the grid.
 use Prim.Native.Nat.{ℕ, _+_, _≤_}
 use mathlib.Core.Path.{_≡_, refl}
 use mathlib.Core.Bool.{Bool, true, false, _&&_, cond}
@@ -58,7 +58,7 @@ join-within seam steps last line step e h most l = rw e (join-bounds seam steps 
 pub inverse-is : (m : CyclicMapping) (steps j : ℕ) → cyclic.stepsOf m ≡ steps → inverse (ofMapping m) steps j ≡ cyclic.inverse m j
 inverse-is m steps j e = rw (← e) (inverse-of m j)
 
--- 01's rule, of points that are given by their lines and steps
+-- the rules of Rules 4.2, of points that are given by their lines and steps
 rule-is : (f : Place → Point) (seam : Seam) (steps last line step : ℕ) → Maps seam steps →
     cond (joined (seamOf seam) && eqb line last) (f (placed 0 (inverse (seamOf seam) steps step))) (f (placed line step)) ≡ f (joinOf seam last line step)
 unfolding joinOf

@@ -1,4 +1,4 @@
--- The corner rule as the code takes it: one rule for either seam, and the corners of a cell (01, "Joining and triangles").
+-- Rules 4.2 as the code takes it: one rule for either seam, and the corners of a cell.
 use Prim.Native.Nat.{ℕ, _+_, _≤_}
 use mathlib.Core.Bool.{cond}
 use lib.Dec.{eqb}
@@ -32,11 +32,18 @@ pub record Bounded (s : Surface) : Type 0 where
 abbrev pub placed : ℕ → ℕ → Place
 placed line step = record { line = line; step = step }
 
--- "if its u is M and the u seam was found, v becomes the inverse image and u becomes 0", for either seam: its lines, and the steps along them
+-- Rules 4.2, for either seam by its lines and the steps along them: of a seam that was found, the last line is line 0
+-- again, and a step along it the inverse image of that step
 unfoldable pub joinOf : Seam → ℕ → ℕ → ℕ → Place
 joinOf Unjoined last line step = placed line step
 joinOf (Joined m) last line step = cond (eqb line last) (placed 0 (inverse m step)) (placed line step)
 
--- "With i00, i10, i01, i11 for corners (u,v), (u+1,v), (u,v+1), (u+1,v+1)"
+-- Rules 4.3: the numbers of what the four corners of cell (u, v) stand for
 abbrev pub cellOf : Shape → ℕ → ℕ → Cell
-cellOf s u v = record { i00 = corner s v u v; i10 = corner s v (u + 1) v; i01 = corner s v u (v + 1); i11 = corner s v (u + 1) (v + 1) }
+cellOf s u v =
+    record {
+      i00 = corner s v u v;
+      i10 = corner s v (u + 1) v;
+      i01 = corner s v u (v + 1);
+      i11 = corner s v (u + 1) (v + 1);
+    }

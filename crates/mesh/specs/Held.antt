@@ -1,4 +1,4 @@
--- What a list of numbers holds: triangles, three numbers each, and pairs, two numbers each.
+-- Rules 8.1: what a list of numbers holds: triangles, three numbers each, and flipped pairs, two each.
 use Prim.Native.Nat.{ℕ, zero, suc, _+_, _*_, _≤_}
 use mathlib.Core.Path.{_≡_}
 use mathlib.Core.List.{List, [], _∷_, _++_}

@@ -1,4 +1,4 @@
--- The definitions that the contracts of this crate cite.
+-- The contract of the open call cites Mesh. Corners, Held and Rims serve inner contracts only.
 pub mod Mesh
 pub mod Corners
 pub mod Held

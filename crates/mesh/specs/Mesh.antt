@@ -1,4 +1,4 @@
--- What triangulation answers and leaves in the lent lists (01, "Joining and triangles", "Who sends the caller back").
+-- Rules 4, 8 and 11 of `triangulate_grid`: what it answers and leaves in the two lent lists, or which refusal it gives.
 use Prim.Native.Nat.{ℕ, _+_, _*_}
 use mathlib.Core.Bool.{Bool, _&&_}
 use mathlib.Core.List.{List, [], _∷_}
@@ -35,16 +35,16 @@ pub record Meshed : Type 0 where
   pub triangles : ℕ
   pub pairs : ℕ
 
--- 01's number and values of each case
+-- the number and the values of each case
 abbrev pub statedTriangulation : Triangulation → Answer Meshed
 statedTriangulation (Triangulated u v t f) = ok (record { u = u; v = v; triangles = t; pairs = f })
 statedTriangulation (Refused k) = refused (numberOf k)
 
--- not "triangles list under 6·M·N, flipped list under 2·(M+N)"
+-- Rules 11.1: refusal 3 is not given: both lists have room for whatever the grid may need
 abbrev pub roomFits : ℕ → ℕ → List ℕ → List ℕ → Bool
 roomFits m n t f = leb (6 * (m * n)) (length t) && leb (2 * (m + n)) (length f)
 
--- refusals 1, 2, 3 and 4
+-- Rules 11.2: refusals 1, 2, 3 and 4, in this order
 unfoldable pub meshCheck : List Float → ℕ → ℕ → List ℕ → List ℕ → Check
 meshCheck g m n t f = gridCheck g m n (unless (roomFits m n t f) Room Passed)
 
@@ -56,17 +56,18 @@ pub record MeshLists : Type 0 where
 abbrev pub meshLists : List ℕ → List ℕ → MeshLists
 meshLists t f = record { triangles = t; flipped = f }
 
--- the lists that 01's rules give for a surface, and the counts of what stands in them
+-- Rules 8.2: the lists with a surface's triangles and flipped pairs, zero past them, and the counts of both
 abbrev pub written : Shape → MeshLists → Afterwards MeshCounts MeshLists
 written s lent =
     afterwards (record { triangles = length (triangles s); pairs = length (flipped s) })
-    (meshLists (filled 0 (triangleNumbers (triangles s)) (lent .triangles)) (filled 0 (pairNumbers (flipped s)) (lent .flipped)))
+    (meshLists (filled 0 (triangleNumbers (triangles s)) (lent .triangles))
+    (filled 0 (pairNumbers (flipped s)) (lent .flipped)))
 
 -- the counts, with the seams that were found
 abbrev pub meshed : SeamSearch → SeamSearch → MeshCounts → Answer Meshed
 meshed u v c = ok (record { u = u; v = v; triangles = c .triangles; pairs = c .pairs })
 
--- the open call, reference `triangulate_grid` up to what it hands to the mesh builder; "Numbers 1 to 10 leave output lists untouched"
+-- the open call; a refusal leaves the lists as they were (Rules 8.3)
 unfoldable pub triangulateGrid : List Float → ℕ → ℕ → MeshLists → Afterwards (Answer Meshed) MeshLists
 triangulateGrid g m n lent =
     ifPassed (meshCheck g m n (lent .triangles) (lent .flipped)) lent

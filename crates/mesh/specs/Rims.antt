@@ -1,4 +1,4 @@
--- The rims of a seam and their triangles, for either seam (01, "Flipped pairs follow `process_flipped` for reversed seams").
+-- Rules 4.4 as the code takes it: the rims of a seam and their triangles, for either seam.
 use Prim.Native.Nat.{ℕ, _+_, _*_, _≤_, _<_}
 use mathlib.Core.Path.{_≡_}
 use mathlib.Core.Bool.{Bool, true, false, cond}
@@ -30,12 +30,14 @@ pub record Rims (axis : Axis) (s : Shape) (low high : List ℕ) : Type 0 where
 
 -- step i of the high rim with the step of the low rim that lies on it, if there is one
 abbrev pub flipStep : Axis → Shape → Seam → ℕ → List Pair → List Pair
-flipStep axis s m i ps = cond (ltb (stepOn m (stepsOf axis s) i) (stepsOf axis s)) (putDown s (lowOf axis s (stepOn m (stepsOf axis s) i)) (highOf axis s i) ps) ps
+flipStep axis s m i ps =
+    cond (ltb (stepOn m (stepsOf axis s) i) (stepsOf axis s))
+    (putDown s (lowOf axis s (stepOn m (stepsOf axis s) i)) (highOf axis s i) ps) ps
 
 -- steps 0 to n−1
 abbrev pub flipSteps : Axis → Shape → Seam → ℕ → List Pair → List Pair
 flipSteps axis s m n ps = process s m (stepsOf axis s) (lowOf axis s) (highOf axis s) n ps
 
--- "for reversed seams"
+-- the flipped pairs of a seam, if it is reversed
 abbrev pub flips : Axis → Shape → Seam → List Pair → List Pair
 flips axis s m ps = cond (reversed m) (flipSteps axis s m (stepsOf axis s) ps) ps

@@ -1,7 +1,7 @@
-// The corner rule: which grid point a corner of a cell stands for once the seams are joined.
+// The corner rule (Rules 4.2): which grid point a corner of a cell stands for once the seams are joined.
 use cyclic::seam::Seam;
-ghost use mathlib.Core.Path.{_≡_};
 ghost use Prim.Native.Nat.{_+_, _≤_, _<_};
+ghost use mathlib.Core.Path.{_≡_};
 ghost use Rattle.surface.specs.Surface.{corner};
 ghost use Rattle.mesh.specs.Corners.{shapeOf, Bounded, Joins, joinOf, cellOf};
 
@@ -19,7 +19,7 @@ pub struct Place {
     pub step: usize,
 }
 
-// The numbers of a cell's corners: (u, v), (u+1, v), (u, v+1), (u+1, v+1).
+// The numbers of what a cell's four corners stand for, each named by its steps from the cell's first, in u and in v.
 pub struct Cell {
     pub i00: usize,
     pub i10: usize,

@@ -1,5 +1,5 @@
-// Flipped pairs: the triangles on both sides of a reversed seam (`process_flipped`). An axis stands for a seam: AxisU for
-// the one that joins u = 0 and u = M, AxisV for the one that joins v = 0 and v = N. Its low rim is the first of the two,
+// Flipped pairs (Rules 4.4): the triangles on both sides of a reversed seam. An axis stands for a seam: AxisU for the
+// one that joins u = 0 and u = M, AxisV for the one that joins v = 0 and v = N. Its low rim is the first of the two,
 // its high rim the other.
 use crate::corner::Surface;
 use crate::corner::cell_corners;
@@ -8,8 +8,8 @@ use crate::triangles::differ;
 use cyclic::mapping::CyclicMapping;
 use cyclic::seam::Seam;
 use param::Axis;
-ghost use mathlib.Core.Path.{_≡_};
 ghost use Prim.Native.Nat.{ℕ, _+_, _*_, _≤_, _<_};
+ghost use mathlib.Core.Path.{_≡_};
 ghost use lib.ListN.{length, getD};
 ghost use Rattle.cyclic.specs.declared.seam.Seam.the-variants.{Joined};
 ghost use Rattle.surface.specs.Surface.{proper, slot, triangleNumber, wrapEnds, stepOn, flipped as allFlipped};
@@ -59,7 +59,8 @@ fn count_cell(surface: Surface, u: usize, v: usize, count: usize) -> usize
 fn count_row(surface: Surface, u: usize, start: usize, counts: &mut [usize])
     requires { ⌜ Bounded surface × (u < surface .m) × (surface .n < length (now counts)) ⌝ }
     requires { ⌜ start ≡ triangleNumber (shapeOf surface) (2 * (u * surface .n)) ⌝ }
-    ensures { λ _. ⌜ ((i : ℕ) → i ≤ surface .n → getD (now (counts .exit)) i 0 ≡ triangleNumber (shapeOf surface) (2 * (u * surface .n + i))) ⌝ }
+    ensures { λ _. ⌜ ((i : ℕ) → i ≤ surface .n → getD (now (counts .exit)) i 0
+        ≡ triangleNumber (shapeOf surface) (2 * (u * surface .n + i))) ⌝ }
 {
     let n = surface.n;
     let mut count = start;
@@ -144,9 +145,11 @@ fn flip_step(
     flipped: &mut [usize],
     count: usize,
 ) -> usize
-    requires { ⌜ Bounded surface × Maps (Joined mapping) (stepsOf axis (shapeOf surface)) × (i < stepsOf axis (shapeOf surface)) ⌝ }
+    requires { ⌜ Bounded surface × Maps (Joined mapping) (stepsOf axis (shapeOf surface))
+        × (i < stepsOf axis (shapeOf surface)) ⌝ }
     requires { ⌜ Rims axis (shapeOf surface) (now low) (now high) × (2 * count + 2 ≤ length (now flipped)) ⌝ }
-    ensures { λ r. ⌜ pairsIn r (now (flipped .exit)) ≡ flipStep axis (shapeOf surface) (ofMapping mapping) i (pairsIn count (now (flipped .entry))) ⌝ }
+    ensures { λ r. ⌜ pairsIn r (now (flipped .exit))
+        ≡ flipStep axis (shapeOf surface) (ofMapping mapping) i (pairsIn count (now (flipped .entry))) ⌝ }
 {
     let steps = rim_steps(surface, axis);
     let on = step_on(mapping, steps, i);
@@ -175,8 +178,11 @@ fn process_flipped(
     start: usize,
 ) -> usize
     requires { ⌜ Bounded surface × Maps (Joined mapping) (stepsOf axis (shapeOf surface)) ⌝ }
-    requires { ⌜ Rims axis (shapeOf surface) (now low) (now high) × (2 * (start + stepsOf axis (shapeOf surface)) ≤ length (now flipped)) ⌝ }
-    ensures { λ r. ⌜ pairsIn r (now (flipped .exit)) ≡ flipSteps axis (shapeOf surface) (ofMapping mapping) (stepsOf axis (shapeOf surface)) (pairsIn start (now (flipped .entry))) ⌝ }
+    requires { ⌜ Rims axis (shapeOf surface) (now low) (now high)
+        × (2 * (start + stepsOf axis (shapeOf surface)) ≤ length (now flipped)) ⌝ }
+    ensures { λ r. ⌜ pairsIn r (now (flipped .exit))
+        ≡ flipSteps axis (shapeOf surface) (ofMapping mapping) (stepsOf axis (shapeOf surface))
+        (pairsIn start (now (flipped .entry))) ⌝ }
 {
     let steps = rim_steps(surface, axis);
     let mut count = start;
@@ -199,8 +205,10 @@ fn flip_seam(
     count: usize,
 ) -> usize
     requires { ⌜ Bounded surface × Maps seam (stepsOf axis (shapeOf surface)) ⌝ }
-    requires { ⌜ Rims axis (shapeOf surface) (now low) (now high) × (2 * (count + stepsOf axis (shapeOf surface)) ≤ length (now flipped)) ⌝ }
-    ensures { λ r. ⌜ pairsIn r (now (flipped .exit)) ≡ flips axis (shapeOf surface) (seamOf seam) (pairsIn count (now (flipped .entry))) ⌝ }
+    requires { ⌜ Rims axis (shapeOf surface) (now low) (now high)
+        × (2 * (count + stepsOf axis (shapeOf surface)) ≤ length (now flipped)) ⌝ }
+    ensures { λ r. ⌜ pairsIn r (now (flipped .exit))
+        ≡ flips axis (shapeOf surface) (seamOf seam) (pairsIn count (now (flipped .entry))) ⌝ }
 {
     match seam {
         Seam::Unjoined => count,
@@ -232,7 +240,8 @@ fn flip_seams(
     starts: &[usize],
     flipped: &mut [usize],
 ) -> usize
-    requires { ⌜ Bounded surface × Rims Axis.AxisU (shapeOf surface) (now low) (now high) × Starts surface (now starts) ⌝ }
+    requires { ⌜ Bounded surface × Rims Axis.AxisU (shapeOf surface) (now low) (now high)
+        × Starts surface (now starts) ⌝ }
     requires { ⌜ 2 * (surface .m + surface .n) ≤ length (now flipped) ⌝ }
     ensures { λ r. ⌜ pairsIn r (now (flipped .exit)) ≡ allFlipped (shapeOf surface) ⌝ }
 {

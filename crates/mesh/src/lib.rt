@@ -1,10 +1,10 @@
-// Triangles and flipped pairs of a grid, from the seams that are found in it.
+// Triangles and flipped pairs of a grid, from the seams that are found in it (Rules 4).
 use corner::Surface;
 use cyclic::seam::SeamSearch;
 use refusal::Check;
 use refusal::Refusal;
-ghost use mathlib.Core.Path.{_≡_};
 ghost use Prim.Native.Nat.{_+_, _*_, _≤_};
+ghost use mathlib.Core.Path.{_≡_};
 ghost use lib.ListN.{length};
 ghost use Rattle.lent.specs.Lent.{afterwards};
 ghost use Rattle.surface.specs.Found.{uSearch, vSearch, SurfaceMeets};
@@ -35,7 +35,7 @@ pub struct MeshCounts {
     pub pairs: usize,
 }
 
-// Refusals 1, 2, 3 and 4. The room is that of an M and N that pass 1.
+// Refusals 1, 2, 3 and 4 (Rules 11.2). The room is that of an M and N that pass 1.
 fn check_mesh(grid: &[f64], m: usize, n: usize, triangles: &[usize], flipped: &[usize]) -> Check
     ensures { λ r. ⌜ r ≡ meshCheck (now (grid .entry)) m n (now (triangles .entry)) (now (flipped .entry)) ⌝ }
 {
@@ -46,7 +46,7 @@ fn check_mesh(grid: &[f64], m: usize, n: usize, triangles: &[usize], flipped: &[
     grid::check_grid(grid, m, n, room)
 }
 
-// The u seam compares column u = 0 with u = M, the v seam row v = 0 with v = N.
+// The seam of columns 0 and M, and that of rows 0 and N (Rules 4.1).
 fn find_seams(grid: &[f64], m: usize, n: usize) -> Seams
     requires { ⌜ Accepted (now grid) m n ⌝ }
     ensures { λ r. ⌜ (r .u ≡ uSearch (now (grid .entry)) m n) × (r .v ≡ vSearch (now (grid .entry)) m n) ⌝ }
@@ -59,7 +59,8 @@ fn find_seams(grid: &[f64], m: usize, n: usize) -> Seams
 // The triangles and flipped pairs that two seams make, and zero past them.
 pub fn triangulate(surface: Surface, triangles: &mut [usize], flipped: &mut [usize]) -> MeshCounts
     requires { ⌜ Bounded surface ⌝ }
-    requires { ⌜ (6 * (surface .m * surface .n) ≤ length (now triangles)) × (2 * (surface .m + surface .n) ≤ length (now flipped)) ⌝ }
+    requires { ⌜ (6 * (surface .m * surface .n) ≤ length (now triangles))
+        × (2 * (surface .m + surface .n) ≤ length (now flipped)) ⌝ }
     ensures { λ r. ⌜ afterwards r (meshLists (now (triangles .exit)) (now (flipped .exit)))
         ≡ written (shapeOf surface) (meshLists (now (triangles .entry)) (now (flipped .entry))) ⌝ }
 {

@@ -1,6 +1,6 @@
 // An ascending list of pairs, each once, in the numbers of a lent list.
-ghost use mathlib.Core.Path.{_≡_};
 ghost use Prim.Native.Nat.{ℕ, _+_, _*_, _≤_, _<_};
+ghost use mathlib.Core.Path.{_≡_};
 ghost use lib.ListN.{length, getD};
 ghost use Rattle.basics.specs.Lists.{putAt};
 ghost use Rattle.surface.specs.Surface.{insert, pair};
@@ -36,7 +36,8 @@ fn find_spot(list: &[usize], count: usize, low: usize, high: usize) -> Spot
 fn open_gap(list: &mut [usize], start: usize, end: usize)
     requires { ⌜ (start ≤ end) × (end + 2 ≤ length (now list)) ⌝ }
     ensures before { λ _. ⌜ ((k : ℕ) → k < start → getD (now (list .exit)) k 0 ≡ getD (now (list .entry)) k 0) ⌝ }
-    ensures after { λ _. ⌜ ((k : ℕ) → start ≤ k → k < end → getD (now (list .exit)) (k + 2) 0 ≡ getD (now (list .entry)) k 0) ⌝ }
+    ensures after { λ _. ⌜ ((k : ℕ) → start ≤ k → k < end → getD (now (list .exit)) (k + 2) 0
+        ≡ getD (now (list .entry)) k 0) ⌝ }
 {
     let mut i = end;
     while start < i {
@@ -48,7 +49,8 @@ fn open_gap(list: &mut [usize], start: usize, end: usize)
 // Puts (low, high) before the pair at index i.
 fn put_pair(list: &mut [usize], count: usize, i: usize, low: usize, high: usize)
     requires { ⌜ (i ≤ count) × (2 * count + 2 ≤ length (now list)) ⌝ }
-    ensures { λ _. ⌜ pairsIn (count + 1) (now (list .exit)) ≡ putAt i (pair low high) (pairsIn count (now (list .entry))) ⌝ }
+    ensures { λ _. ⌜ pairsIn (count + 1) (now (list .exit))
+        ≡ putAt i (pair low high) (pairsIn count (now (list .entry))) ⌝ }
 {
     open_gap(list, 2 * i, 2 * count);
     list[2 * i] = low;

@@ -1,4 +1,4 @@
-// The triangles of a joined surface: two of each cell, u outer, v inner, each only if its three numbers differ.
+// The triangles of a joined surface (Rules 4.3): two of each cell, in cell order, less those with two equal numbers.
 use crate::corner::Surface;
 use crate::corner::cell_corners;
 ghost use mathlib.Core.Path.{_≡_};
@@ -21,7 +21,8 @@ pub fn differ(a: usize, b: usize, c: usize) -> bool
 // Writes a triangle after the first `count`.
 fn write_triangle(triangles: &mut [usize], count: usize, a: usize, b: usize, c: usize)
     requires { ⌜ 3 * count + 3 ≤ length (now triangles) ⌝ }
-    ensures { λ _. ⌜ trianglesIn (count + 1) (now (triangles .exit)) ≡ trianglesIn count (now (triangles .entry)) ++ (tri a b c ∷ []) ⌝ }
+    ensures { λ _. ⌜ trianglesIn (count + 1) (now (triangles .exit))
+        ≡ trianglesIn count (now (triangles .entry)) ++ (tri a b c ∷ []) ⌝ }
 {
     triangles[3 * count] = a;
     triangles[3 * count + 1] = b;
@@ -31,7 +32,8 @@ fn write_triangle(triangles: &mut [usize], count: usize, a: usize, b: usize, c: 
 // Adds a triangle to the first `count` if its three numbers differ, and gives the new count.
 fn add_triangle(triangles: &mut [usize], count: usize, a: usize, b: usize, c: usize) -> usize
     requires { ⌜ 3 * count + 3 ≤ length (now triangles) ⌝ }
-    ensures { λ r. ⌜ trianglesIn r (now (triangles .exit)) ≡ trianglesIn count (now (triangles .entry)) ++ cond (proper (tri a b c)) (tri a b c ∷ []) [] ⌝ }
+    ensures { λ r. ⌜ trianglesIn r (now (triangles .exit))
+        ≡ trianglesIn count (now (triangles .entry)) ++ cond (proper (tri a b c)) (tri a b c ∷ []) [] ⌝ }
 {
     if !differ(a, b, c) {
         return count;
@@ -78,7 +80,8 @@ fn build_inner_row(surface: Surface, u: usize, triangles: &mut [usize], start: u
     requires { ⌜ Bounded surface × (u + 1 < surface .m) ⌝ }
     requires { ⌜ 6 * (surface .m * surface .n) ≤ length (now triangles) ⌝ }
     requires { ⌜ trianglesIn start (now triangles) ≡ kept (shapeOf surface) (2 * (u * surface .n)) ⌝ }
-    ensures { λ r. ⌜ trianglesIn r (now (triangles .exit)) ≡ kept (shapeOf surface) (2 * (u * surface .n + (surface .n - 1))) ⌝ }
+    ensures { λ r. ⌜ trianglesIn r (now (triangles .exit))
+        ≡ kept (shapeOf surface) (2 * (u * surface .n + (surface .n - 1))) ⌝ }
 {
     let last = surface.n - 1;
     let mut count = start;

@@ -1,6 +1,6 @@
 // Replays recorded calls: each case of the record on standard input is one call with its inputs, the answer that the
-// original gave or 01's table of refusals fixes, and every lent list afterwards. It writes the number of each case in
-// which the library differs, and how many cases there were.
+// original gave or the table of refusals (Rules 11.1) fixes, and every lent list afterwards. It writes the number of
+// each case in which the library differs, and how many cases there were.
 use cases::words;
 use libc::STDIN_FILENO;
 use libc::STDOUT_FILENO;

@@ -1,5 +1,6 @@
--- A covered joining is a strip when it is seen along one of its two seams: the other seam is unjoined or joins each point to the one opposite, so
--- it closes the columns or leaves them open, and no more. Along u the columns are those of u, along v those of v.
+-- A covered joining is a strip when it is seen along one of its two seams: the other seam is unjoined or joins each
+-- point to the one opposite, so it closes the columns or leaves them open, and no more. Along u the columns are those
+-- of u, along v those of v.
 use Prim.Native.Nat.{ℕ, zero, suc, _+_, _*_, _≤_, _<_}
 use mathlib.Core.Path.{_≡_, refl, sym, ap, _∙_}
 use mathlib.Core.Logic.{_⊎_, inl, inr, ⊎-elim}
@@ -8,7 +9,8 @@ use native.Mathlib.Omega.{arith}
 use lib.Arith.{digits-div, digits-mod}
 use Rattle.param.specs.declared.Axis.{Axis}
 use Rattle.param.specs.declared.Axis.the-variants.{AxisU, AxisV}
-use Rattle.surface.specs.Surface.{Seam, unjoined, forward, reverse, joined, reversed, inverse, Rule, once, twice, Split, falling, rising, Shape, number, at, StepsAround, NoneOfTwo}
+use Rattle.surface.specs.Surface.{Seam, unjoined, forward, reverse, joined, reversed, inverse, Rule, once, twice}
+use Rattle.surface.specs.Surface.{Split, falling, rising, Shape, number, at, StepsAround, NoneOfTwo}
 use Rattle.surface.specs.Rims.{stepsOf as rows}
 use Rattle.surface.proofs.Covered.{AtZero, Beside, Covered, neither, only-u, only-v, both-u, both-v}
 use Rattle.surface.proofs.Steps.{Fits, Offset, inv-forward, inv-reverse}
@@ -58,7 +60,8 @@ turn-kind AxisV straight = refl
 turn-kind AxisV across = refl
 turn-kind AxisV diagonal = refl
 
--- which half has a side, and which way it runs along it; a falling diagonal starts at its other end when u and v change places
+-- which half has a side, and which way it runs along it; a falling diagonal starts at its other end when u and v change
+-- places
 abbrev pub sideHalf : Axis → Split → Kind → Bool → Bool
 sideHalf a d k t = cellHalf d (kindOf a k) t
 
@@ -88,7 +91,8 @@ dir-not AxisV rising diagonal t = refl
 abbrev pub Plain : Seam → Type 0
 Plain m = (m ≡ unjoined) ⊎ (m ≡ forward 0)
 
--- Where the columns are closed, a seam takes points inside a column to points inside it; request 8's second round of the rules does without.
+-- Where the columns are closed, a seam takes points inside a column to points inside it. Corners that pass the rules
+-- twice do not need this.
 abbrev pub KeepsInside : Rule → Seam → Bool → ℕ → Type 0
 KeepsInside once m c n = c ≡ true → (b : ℕ) → b < n → inverse m n b < n
 KeepsInside twice m c n = Unit {0}
@@ -102,10 +106,12 @@ digits-inj : (q r q′ r′ m : ℕ) → r < m → r′ < m → q * m + r ≡ q�
 digits-inj q r q′ r′ m h h′ e = (cc (digits-div q h, digits-div q′ h′), cc (digits-mod q h, digits-mod q′ h′))
 
 -- a point's number tells its column and its row
-pub number-inj : (a : Axis) (s : Shape) (x y x′ y′ : ℕ) → x ≤ columns a s → y ≤ rows a s → x′ ≤ columns a s → y′ ≤ rows a s →
+pub number-inj : (a : Axis) (s : Shape) (x y x′ y′ : ℕ) → x ≤ columns a s → y ≤ rows a s → x′ ≤ columns a s →
+    y′ ≤ rows a s →
     number s (at (xOf a x y) (yOf a x y)) ≡ number s (at (xOf a x′ y′) (yOf a x′ y′)) → (x ≡ x′) × (y ≡ y′)
 number-inj AxisU s x y x′ y′ h k h′ k′ e = digits-inj x y x′ y′ (s .N + 1) (omega arith) (omega arith) e
-number-inj AxisV s x y x′ y′ h k h′ k′ e = let r = digits-inj y x y′ x′ (s .N + 1) (omega arith) (omega arith) e in (r .1, r .0)
+number-inj AxisV s x y x′ y′ h k h′ k′ e =
+    let r = digits-inj y x y′ x′ (s .N + 1) (omega arith) (omega arith) e in (r .1, r .0)
 
 -- steps both ways, and 2 around wherever a seam joins
 pub record HasSteps (s : Shape) : Type 0 where
@@ -118,7 +124,8 @@ some AxisU s h = (h .u-some, h .v-some)
 some AxisV s h = (h .v-some, h .u-some)
 
 -- so many steps around, by columns and rows
-pub around-seen : (k : ℕ) (a : Axis) (s : Shape) → StepsAround k s → (joined (seamOf a s) ≡ true → k ≤ columns a s) × (joined (closing a s) ≡ true → k ≤ rows a s)
+pub around-seen : (k : ℕ) (a : Axis) (s : Shape) → StepsAround k s →
+    (joined (seamOf a s) ≡ true → k ≤ columns a s) × (joined (closing a s) ≡ true → k ≤ rows a s)
 around-seen k AxisU s h = h
 around-seen k AxisV s h = (h .1, h .0)
 
@@ -150,11 +157,13 @@ strip s h a w =
 
 -- ---- the covered joinings
 
--- beside a seam that is forward at offset 0, under 01's rule, a seam takes no point inside a column to its end
+-- beside a seam that is forward at offset 0, a corner passing the rules once, a seam takes no point inside a column to
+-- its end
 inside-mapping : (m : Seam) (n : ℕ) → Beside once m n → (b : ℕ) → b < n → inverse m n b < n
 inside-mapping unjoined n h b k = absurd h
 inside-mapping (forward o) n h b k = ⊎-elim (λ w. omega arith) (λ w. omega arith) (inv-forward o n b h (omega arith))
-inside-mapping (reverse o) n h b k = ⊎-elim (λ w. omega arith) (λ w. omega arith) (inv-reverse o n b (h .0) (h .1) (omega arith))
+inside-mapping (reverse o) n h b k =
+    ⊎-elim (λ w. omega arith) (λ w. omega arith) (inv-reverse o n b (h .0) (h .1) (omega arith))
 
 offset-closed : (o n : ℕ) → o < n → Offset o true n
 offset-closed zero n h = tt
@@ -189,9 +198,15 @@ module _ (a : Axis) (s : Shape) where
 
   -- beside a seam that is forward at offset 0
   closed-columns : closing a s ≡ forward 0 → Beside (s .rule) (seamOf a s) (rows a s) → SeenAlong a s
-  closed-columns e b = record { fits = rw e (beside-fits (s .rule) (seamOf a s) (rows a s) b); plain = inr e; inside = keeps (s .rule) b }
+  closed-columns e b =
+      record {
+        fits = rw e (beside-fits (s .rule) (seamOf a s) (rows a s) b);
+        plain = inr e;
+        inside = keeps (s .rule) b;
+      }
     where
-      keeps : (r : Rule) → Beside r (seamOf a s) (rows a s) → KeepsInside r (seamOf a s) (joined (closing a s)) (rows a s)
+      keeps : (r : Rule) → Beside r (seamOf a s) (rows a s) →
+          KeepsInside r (seamOf a s) (joined (closing a s)) (rows a s)
       keeps once h = λ d i k. inside-mapping (seamOf a s) (rows a s) h i k
       keeps twice h = tt
 

@@ -1,5 +1,6 @@
--- The sides of a cell. Each has a low and a high side of each kind, its diagonal being both, and each side of the strip is the low side of one cell
--- and the high side of one other (of a diagonal, of the same cell); on a rim one of the two is missing.
+-- The sides of a cell. Each has a low and a high side of each kind, its diagonal being both, and each side of the strip
+-- is the low side of one cell and the high side of one other (of a diagonal, of the same cell); on a rim one of the two
+-- is missing.
 use Prim.Native.Nat.{ℕ, _+_, _-_, _≤_, _<_}
 use mathlib.Core.Path.{_≡_, refl, sym, ap, _∙_}
 use mathlib.Core.Logic.{_⊎_, inl, inr, ⊎-elim}
@@ -9,7 +10,10 @@ use borrow.Author.Tests.{eq-eqb}
 use Rattle.basics.proofs.Numbers.{lt-or-le}
 use Rattle.surface.specs.Surface.{Seam, unjoined, forward, reverse, joined, Split, falling, rising}
 use Rattle.surface.proofs.Steps.{wrap-open, wrap-below, wrap-end, laidOn, laidBack, back-below, on-back, on-inj}
-use Rattle.surface.proofs.Strip.{Strip, crossing, colOf, rowOf, pointOf, stepAt, turned, next, Kind, straight, across, diagonal, nameFrom, nameTo, fromY, toY, Valid, row-below, col-below, step-below, stepAt-lt, col-le, next-le, next-ne, next-inj, col-ne, col-inj, row-next, adjacent}
+use Rattle.surface.proofs.Strip.{Strip, crossing, colOf, rowOf, pointOf, stepAt, turned, next, Kind, straight}
+use Rattle.surface.proofs.Strip.{across, diagonal, nameFrom, nameTo, fromY, toY, Valid, row-below, col-below}
+use Rattle.surface.proofs.Strip.{step-below, stepAt-lt, col-le, next-le, next-ne, next-inj, col-ne, col-inj}
+use Rattle.surface.proofs.Strip.{row-next, adjacent}
 
 abbrev pub Cell : Strip → ℕ → ℕ → Type 0
 Cell S x y = (x < S .X) × (y < S .Y)
@@ -27,7 +31,8 @@ shift-le true n = omega arith
 abbrev pub corners : Strip → ℕ → ℕ → Bool → Bool → ℕ
 corners S x y i j = pointOf S (shift i x) (shift j y)
 
--- the two ends of a cell's side, by the cell's corners: the low one (false) or the high one (true) of its kind; a diagonal is both
+-- the two ends of a cell's side, by the cell's corners: the low one (false) or the high one (true) of its kind; a
+-- diagonal is both
 abbrev pub endsOf : (Bool → Bool → ℕ) → Kind → Split → Bool → ℕ × ℕ
 endsOf c straight d t = (c t false, c t true)
 endsOf c across d t = (c false t, c true t)
@@ -95,7 +100,8 @@ module _ (S : Strip) where
   valid across true x y c = (c .0, next-le S y (c .1))
   valid diagonal t x y c = c
 
-  -- the point that (x, y) is joined to, by its row; inside the strip it is (x, y) itself, and the next one up its column is in the next row
+  -- the point that (x, y) is joined to, by its row; inside the strip it is (x, y) itself, and the next one up its
+  -- column is in the next row
   at-row : (x y : ℕ) {b : ℕ} → rowOf S x y ≡ b → pointOf S x y ≡ num (colOf S x) b
   unfolding pointOf
   at-row x y e = ap (num (colOf S x)) e
@@ -191,11 +197,18 @@ module _ (S : Strip) where
   pub partner : (k : Kind) (t : Bool) (x y : ℕ) → Cell S x y → RimAt S k t x y ⊎ Partner k t x y
   partner straight false x y c = go (lt-or-le 0 x) (unjoined-or-joined seam)
     where
-      go : (0 < x) ⊎ (x ≤ 0) → (seam ≡ unjoined) ⊎ (joined seam ≡ true) → RimAt S straight false x y ⊎ Partner straight false x y
+      go : (0 < x) ⊎ (x ≤ 0) → (seam ≡ unjoined) ⊎ (joined seam ≡ true) →
+          RimAt S straight false x y ⊎ Partner straight false x y
       -- the cell before it in the row of cells
       go (inl h) j =
           let e : x - 1 + 1 ≡ x = omega arith in
-          inr (record { x′ = x - 1; y′ = y; cell = (omega arith, c .1); same-x = rw e (col-below S x (c .0)); same-y = rw e (step-below S x y (c .0)) })
+          inr (record {
+            x′ = x - 1;
+            y′ = y;
+            cell = (omega arith, c .1);
+            same-x = rw e (col-below S x (c .0));
+            same-y = rw e (step-below S x y (c .0));
+          })
       go (inr h) (inl j) = inl (j, omega arith)
       -- from column 0, the cell of the last column that the seam lays on it
       go (inr h) (inr j) =
@@ -211,9 +224,17 @@ module _ (S : Strip) where
   partner straight true x y c = go (lt-or-le (x + 1) X) (unjoined-or-joined seam)
     where
       found : colOf S (x + 1) < X → Partner straight true x y
-      found h = record { x′ = colOf S (x + 1); y′ = stepAt S (x + 1) y; cell = (h, stepAt-lt S (x + 1) y (c .1)); same-x = refl; same-y = refl }
+      found h =
+          record {
+            x′ = colOf S (x + 1);
+            y′ = stepAt S (x + 1) y;
+            cell = (h, stepAt-lt S (x + 1) y (c .1));
+            same-x = refl;
+            same-y = refl;
+          }
 
-      go : (x + 1 < X) ⊎ (X ≤ x + 1) → (seam ≡ unjoined) ⊎ (joined seam ≡ true) → RimAt S straight true x y ⊎ Partner straight true x y
+      go : (x + 1 < X) ⊎ (X ≤ x + 1) → (seam ≡ unjoined) ⊎ (joined seam ≡ true) →
+          RimAt S straight true x y ⊎ Partner straight true x y
       go (inl h) j = inr (found (omega (arith, col-below S (x + 1) h)))
       go (inr h) (inl j) = inl (j, omega arith)
       go (inr h) (inr j) = let e : x + 1 ≡ X = omega arith in inr (found (rw e (omega (arith, far-col j))))
@@ -231,7 +252,8 @@ module _ (S : Strip) where
       found : next S y < Y → Partner across true x y
       found h = record { x′ = x; y′ = next S y; cell = (c .0, h); same-x = refl; same-y = refl }
 
-      go : (y + 1 < Y) ⊎ (Y ≤ y + 1) → (closed ≡ false) ⊎ (closed ≡ true) → RimAt S across true x y ⊎ Partner across true x y
+      go : (y + 1 < Y) ⊎ (Y ≤ y + 1) → (closed ≡ false) ⊎ (closed ≡ true) →
+          RimAt S across true x y ⊎ Partner across true x y
       go (inl h) j = inr (found (omega (arith, next-below y h)))
       go (inr h) (inl j) = inl (j, omega arith)
       go (inr h) (inr j) = inr (found (omega (arith, next-last y j (omega arith))))

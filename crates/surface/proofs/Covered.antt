@@ -1,24 +1,25 @@
--- The joinings of a shape that the theorem is proved for: 01's, and request 8's where a corner passes the rules twice. Demand 3 is promised for the seams that are
--- found (`CoveredJoining`); Joinings shows that these make such a shape.
+-- The joinings of a shape that the theorem is proved for: the covered ones (Rules 5.2) and, where corners pass the
+-- rules twice, also Reverse at offset 0 beside Forward at offset 0. Demand 3 is promised for the seams that are found
+-- (`CoveredJoining`); Joinings shows that these make such a shape.
 use Prim.Native.Nat.{ℕ, _<_}
 use mathlib.Core.Path.{_≡_}
 use Rattle.surface.specs.Surface.{Seam, unjoined, forward, reverse, Rule, once, twice, Shape}
 
--- "at offset 0, forward or reverse"
+-- a seam that is alone: at offset 0, in either direction
 abbrev pub AtZero : Seam → Type 0
 AtZero unjoined = ⊥
 AtZero (forward o) = o ≡ 0
 AtZero (reverse o) = o ≡ 0
 
--- beside a seam that is "forward at offset 0": "forward at any offset or reverse at an offset other than 0"; in request 8 reverse at offset 0 too.
--- Any offset is one of the row: below its steps.
+-- A seam beside one that is forward at offset 0: forward, or reverse and not at offset 0, which is left in where
+-- corners pass the rules twice. An offset is one of the row: below its steps.
 abbrev pub Beside : Rule → Seam → ℕ → Type 0
 Beside r unjoined steps = ⊥
 Beside r (forward o) steps = o < steps
 Beside once (reverse o) steps = (0 < o) × (o < steps)
 Beside twice (reverse o) steps = o < steps
 
--- "neither seam found; one found, at offset 0, forward or reverse; both found, one forward at offset 0 and the other .."
+-- no seam, one of them, both
 pub data Covered (s : Shape) : Type 0 where
   neither : s .su ≡ unjoined → s .sv ≡ unjoined → Covered s
   only-u : AtZero (s .su) → s .sv ≡ unjoined → Covered s

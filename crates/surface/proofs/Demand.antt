@@ -1,5 +1,6 @@
 -- Demand 3 for every covered joining. Seen along one of its seams the surface is a strip, in which all is said of
--- halves of cells (Owners, Directions); what is left is to say it of triangle numbers, which are the slots' since no triangle is left out.
+-- halves of cells (Owners, Directions); what is left is to say it of triangle numbers, which are the slots' since no
+-- triangle is left out.
 --
 use Prim.Native.Nat.{ℕ, _+_, _-_, _*_, _≤_, _<_}
 use mathlib.Core.Path.{_≡_, refl, sym, ap, _∙_}
@@ -12,24 +13,32 @@ use lib.ListN.{length}
 use borrow.Author.Tests.{ne-eqb}
 use Rattle.basics.proofs.Numbers.{lt-or-le}
 use Rattle.param.specs.declared.Axis.{Axis}
-use Rattle.surface.specs.Surface.{Seam, unjoined, forward, reverse, reversed, Shape, J, Triangle, slot, proper, slots, triangles, Pair, pair, ordered, triangleNumber, stepOn, process, flipped, Follows, nth, Owns, OwnedOnce, OwnedTwice, Rim, SameWay, GridEdge, along-u, along-v, number, at, Jₙ, StepsAround, NoneOfTwo, Meets, falls, rises}
+use Rattle.surface.specs.Surface.{Seam, unjoined, forward, reverse, reversed, Shape, J, Triangle, slot, proper}
+use Rattle.surface.specs.Surface.{slots, triangles, Pair, pair, ordered, triangleNumber, stepOn, process, flipped}
+use Rattle.surface.specs.Surface.{Follows, nth, Owns, OwnedOnce, OwnedTwice, Rim, SameWay, GridEdge, along-u}
+use Rattle.surface.specs.Surface.{along-v, number, at, Jₙ, StepsAround, NoneOfTwo, Meets, falls, rises}
 use Rattle.surface.specs.Rims.{lowOf, highOf}
 use Rattle.surface.proofs.Covered.{Covered}
 use Rattle.surface.proofs.Steps.{Fits, laidOn, on-below}
 use Rattle.surface.proofs.Strip.{Strip, ThreeAround, reversed-joined, straight}
 use Rattle.surface.proofs.CellSides.{Cell}
 use Rattle.surface.proofs.Owners.{Holds, SameTri, Other, owned}
-use Rattle.surface.proofs.Directions.{Runs, Turn, runs-holds, holds-flip, holds-runs, runs-differ, same-way, turn-shared}
-use Rattle.surface.proofs.Axes.{xOf, yOf, turn-x, turn-y, SeenAlong, HasSteps, around-seen, none-seen, strip, covered-along}
-use Rattle.surface.proofs.Seen.{to-runs, from-runs, seen-cell, rim-seen, seen-rim, edge-seen, low-index, high-index, flipped-seen}
-use Rattle.surface.proofs.Triangles.{index, halfAt, uAt, vAt, slot-at, uAt-lt, vAt-lt, index-at, index-lt, uAt-index, vAt-index, halfAt-index, kept-length, kept-at}
+use Rattle.surface.proofs.Directions.{Runs, Turn, runs-holds, holds-flip, holds-runs, runs-differ, same-way}
+use Rattle.surface.proofs.Directions.{turn-shared}
+use Rattle.surface.proofs.Axes.{xOf, yOf, turn-x, turn-y, SeenAlong, HasSteps, around-seen, none-seen, strip}
+use Rattle.surface.proofs.Axes.{covered-along}
+use Rattle.surface.proofs.Seen.{to-runs, from-runs, seen-cell, rim-seen, seen-rim, edge-seen, low-index}
+use Rattle.surface.proofs.Seen.{high-index, flipped-seen}
+use Rattle.surface.proofs.Triangles.{index, halfAt, uAt, vAt, slot-at, uAt-lt, vAt-lt, index-at, index-lt}
+use Rattle.surface.proofs.Triangles.{uAt-index, vAt-index, halfAt-index, kept-length, kept-at}
 use Rattle.surface.proofs.Pairs.{step-on, pair-eq, mem-in, AllLaid, process-to, process-from}
 
 pub proper-of : (t : Triangle) → (t .a ≡ t .b → ⊥) → (t .a ≡ t .c → ⊥) → (t .b ≡ t .c → ⊥) → proper t ≡ true
 proper-of t p q r = rw (ne-eqb (t .a) (t .b) p, ne-eqb (t .a) (t .c) q, ne-eqb (t .b) (t .c) r)
 
 -- `process_flipped` finds the step that a reversed seam lays a step on
-reversed-step : (m : Seam) (c : Bool) (n y : ℕ) → (n ≡ 2 → ⊥) → Fits m c n → reversed m ≡ true → y < n → stepOn m n y ≡ laidOn m n y
+reversed-step : (m : Seam) (c : Bool) (n y : ℕ) → (n ≡ 2 → ⊥) → Fits m c n → reversed m ≡ true → y < n →
+    stepOn m n y ≡ laidOn m n y
 reversed-step (reverse o) c n y h f e k = step-on o c n y h f k
 reversed-step unjoined c n y h f e k = cc
 reversed-step (forward o) c n y h f e k = cc
@@ -61,10 +70,12 @@ module _ (s : Shape) (steps : HasSteps s) (ax : Axis) (seen : SeenAlong ax s) wh
   v-lt i = vAt-lt s i (omega arith)
 
   slot-runs : (i : ℕ) {a b : ℕ} → i < slots s → Follows (slot s i) a b → RunAt i a b
-  slot-runs i h f = to-runs s steps ax seen (halfAt i) (uAt s i) (vAt s i) _ _ (u-lt i h) (v-lt i) (rw (slot-at s i) at f)
+  slot-runs i h f =
+      to-runs s steps ax seen (halfAt i) (uAt s i) (vAt s i) _ _ (u-lt i h) (v-lt i) (rw (slot-at s i) at f)
 
   runs-slot : (i : ℕ) {a b : ℕ} → i < slots s → RunAt i a b → Follows (slot s i) a b
-  runs-slot i h r = rw (slot-at s i) (from-runs s steps ax seen (halfAt i) (uAt s i) (vAt s i) _ _ (u-lt i h) (v-lt i) r)
+  runs-slot i h r =
+      rw (slot-at s i) (from-runs s steps ax seen (halfAt i) (uAt s i) (vAt s i) _ _ (u-lt i h) (v-lt i) r)
 
   slot-proper : (i : ℕ) → i < slots s → proper (slot s i) ≡ true
   slot-proper i h =
@@ -94,7 +105,9 @@ module _ (s : Shape) (steps : HasSteps s) (ax : Axis) (seen : SeenAlong ax s) wh
   nth-runs i h f = let b : i < slots s = omega (arith, count) in slot-runs i b (rw (nth-is i b) at f)
 
   owns-holds : (a b i : ℕ) → Owns (triangles s) a b i → HoldAt i a b
-  owns-holds a b i o = ⊎-elim (λ f. runs-holds S (nth-runs i (o .there) f)) (λ f. holds-flip S (runs-holds S (nth-runs i (o .there) f))) (o .has)
+  owns-holds a b i o =
+      ⊎-elim (λ f. runs-holds S (nth-runs i (o .there) f)) (λ f. holds-flip S (runs-holds S (nth-runs i (o .there) f)))
+      (o .has)
 
   -- ---- and back, by the number of the triangle of half h of cell (x, y)
 
@@ -147,12 +160,15 @@ module _ (s : Shape) (steps : HasSteps s) (ax : Axis) (seen : SeenAlong ax s) wh
   -- ---- sides
 
   -- on a rim: whoever has the side is triangle i
-  owned-once : (a b i : ℕ) → Owns (triangles s) a b i → ((h′ : Bool) (x′ y′ : ℕ) → Holds S h′ x′ y′ a b → SameTri S (halfAt i) (xAt i) (yAt i) h′ x′ y′) →
+  owned-once : (a b i : ℕ) → Owns (triangles s) a b i →
+      ((h′ : Bool) (x′ y′ : ℕ) → Holds S h′ x′ y′ a b → SameTri S (halfAt i) (xAt i) (yAt i) h′ x′ y′) →
       OwnedOnce (triangles s) a b
-  owned-once a b i o f = record { first = i; owns = o; only = λ k q. same-index i k (f (halfAt k) (xAt k) (yAt k) (owns-holds a b k q)) }
+  owned-once a b i o f =
+      record { first = i; owns = o; only = λ k q. same-index i k (f (halfAt k) (xAt k) (yAt k) (owns-holds a b k q)) }
 
   -- elsewhere: whoever has it is triangle i or triangle j
-  owned-twice : (a b i : ℕ) → Owns (triangles s) a b i → Other S (halfAt i) (xAt i) (yAt i) a b → OwnedTwice (triangles s) a b
+  owned-twice : (a b i : ℕ) → Owns (triangles s) a b i → Other S (halfAt i) (xAt i) (yAt i) a b →
+      OwnedTwice (triangles s) a b
   owned-twice a b i o t = ⊎-elim in-order out-of-order (lt-or-le i j)
     where
       j : ℕ
@@ -165,7 +181,12 @@ module _ (s : Shape) (steps : HasSteps s) (ax : Axis) (seen : SeenAlong ax s) wh
       o₂ = holds-index (t .holds)
 
       differ : i ≡ j → ⊥
-      differ e = t .apart (rw e (sym (half-indexOf (t .h₂) (t .x₂) (t .y₂)), sym (x-indexOf (t .h₂) (t .x₂) (t .y₂) c), sym (y-indexOf (t .h₂) (t .x₂) (t .y₂) c)))
+      differ e =
+          t .apart (rw e (
+            sym (half-indexOf (t .h₂) (t .x₂) (t .y₂)),
+            sym (x-indexOf (t .h₂) (t .x₂) (t .y₂) c),
+            sym (y-indexOf (t .h₂) (t .x₂) (t .y₂) c),
+          ))
 
       either : (k : ℕ) → Owns (triangles s) a b k → (k ≡ i) ⊎ (k ≡ j)
       either k q =
@@ -179,13 +200,21 @@ module _ (s : Shape) (steps : HasSteps s) (ax : Axis) (seen : SeenAlong ax s) wh
 
       out-of-order : j ≤ i → OwnedTwice (triangles s) a b
       out-of-order h =
-          record { first = j; second = i; apart = omega (arith, differ); owns-first = o₂; owns-second = o; only = λ k q. ⊎-elim (λ e. inr e) (λ e. inl e) (either k q) }
+          record {
+            first = j;
+            second = i;
+            apart = omega (arith, differ);
+            owns-first = o₂;
+            owns-second = o;
+            only = λ k q. ⊎-elim (λ e. inr e) (λ e. inl e) (either k q);
+          }
 
   three : StepsAround 3 s → ThreeAround S
   unfolding strip
   three around = around-seen 3 ax s around
 
-  sides : StepsAround 3 s → (a b i : ℕ) → Owns (triangles s) a b i → (Rim s a b × OwnedOnce (triangles s) a b) ⊎ ((Rim s a b → ⊥) × OwnedTwice (triangles s) a b)
+  sides : StepsAround 3 s → (a b i : ℕ) → Owns (triangles s) a b i →
+      (Rim s a b × OwnedOnce (triangles s) a b) ⊎ ((Rim s a b → ⊥) × OwnedTwice (triangles s) a b)
   sides around a b i o =
       ⊎-elim
       (λ w. inl (seen-rim s steps ax seen a b (w .0), owned-once a b i o (w .1)))
@@ -230,7 +259,9 @@ module _ (s : Shape) (steps : HasSteps s) (ax : Axis) (seen : SeenAlong ax s) wh
 
   high-is : (x y : ℕ) → x + 1 ≡ S .X → highOf ax s y ≡ indexOf high-half x y
   unfolding indexOf high-half strip
-  high-is x y e = let last : S .X - 1 ≡ x = omega arith in high-index s ax y ∙ ap (λ (z : ℕ). index s (S .half straight true) (xOf ax z y) (yOf ax z y)) last
+  high-is x y e =
+      let last : S .X - 1 ≡ x = omega arith in
+      high-index s ax y ∙ ap (λ (z : ℕ). index s (S .half straight true) (xOf ax z y) (yOf ax z y)) last
 
   low-cell : (y : ℕ) → y < S .Y → Cell S 0 y
   low-cell y h = (S .X>0, h)
@@ -247,11 +278,15 @@ module _ (s : Shape) (steps : HasSteps s) (ax : Axis) (seen : SeenAlong ax s) wh
       record {
         on-is = λ y h. reversed-step (S .seam) (S .closed) (S .Y) y (none-seen ax s none e) (S .fits) e h;
         on-lt = on-lt;
-        low-proper = λ y h. slot-listed (lowOf ax s y) (omega (arith, low-is y, indexOf-lt low-half 0 y (low-cell y h)));
-        high-proper = λ y h. slot-listed (highOf ax s y) (omega (arith, high-is far y far-is, indexOf-lt high-half far y (high-cell y h)));
+        low-proper =
+            λ y h. slot-listed (lowOf ax s y) (omega (arith, low-is y, indexOf-lt low-half 0 y (low-cell y h)));
+        high-proper =
+            λ y h. slot-listed (highOf ax s y)
+            (omega (arith, high-is far y far-is, indexOf-lt high-half far y (high-cell y h)));
       }
 
-  flipped-reversed : reversed (S .seam) ≡ true → flipped s ≡ process s (S .seam) (S .Y) (lowOf ax s) (highOf ax s) (S .Y) []
+  flipped-reversed : reversed (S .seam) ≡ true →
+      flipped s ≡ process s (S .seam) (S .Y) (lowOf ax s) (highOf ax s) (S .Y) []
   unfolding strip
   flipped-reversed e = flipped-seen s ax (seen .plain) ∙ rw e
 
@@ -269,31 +304,45 @@ module _ (s : Shape) (steps : HasSteps s) (ax : Axis) (seen : SeenAlong ax s) wh
 
   turn-high : (i j : ℕ) → TurnAt i j → j ≡ highOf ax s (yAt j)
   unfolding high-half
-  turn-high i j t = is-indexOf j high-half (xAt j) (yAt j) (t .high-half, refl, refl) ∙ sym (high-is (xAt j) (yAt j) (t .high-x))
+  turn-high i j t =
+      is-indexOf j high-half (xAt j) (yAt j) (t .high-half, refl, refl) ∙ sym (high-is (xAt j) (yAt j) (t .high-x))
 
   -- and their pair is in the list
   turn-listed : NoneOfTwo s → (i j : ℕ) → TurnAt i j → List·Memᴰ (ordered i j) (flipped s)
   turn-listed none i j t =
       mem-in (sym (flipped-reversed (t .rev)))
-      (Memᴰ·cast (cc (turn-low i j t, turn-high i j t)) (process-from (laid none (t .rev)) (S .Y) (omega arith) (yAt j) (t .below)))
+      (Memᴰ·cast (cc (turn-low i j t, turn-high i j t))
+      (process-from (laid none (t .rev)) (S .Y) (omega arith) (yAt j) (t .below)))
 
   -- two triangles that run the same way are at a turn, and so a listed pair
-  way-flipped : StepsAround 3 s → NoneOfTwo s → (i j : ℕ) → i < j → SameWay (triangles s) i j → List·Memᴰ (pair i j) (flipped s)
+  way-flipped : StepsAround 3 s → NoneOfTwo s → (i j : ℕ) → i < j → SameWay (triangles s) i j →
+      List·Memᴰ (pair i j) (flipped s)
   way-flipped around none i j h w =
       ⊎-elim
       (λ t. Memᴰ·cast (pair-eq (pair i j) (ordered i j) (omega arith) (omega arith)) (turn-listed none i j t))
       (λ t. Memᴰ·cast (pair-eq (pair i j) (ordered j i) (omega arith) (omega arith)) (turn-listed none j i t))
-      (same-way S (three around) (nth-runs i (w .there-i) (w .along-i)) (nth-runs j (w .there-j) (w .along-j)) (λ e. omega (arith, same-index i j e)))
+      (same-way S (three around) (nth-runs i (w .there-i) (w .along-i)) (nth-runs j (w .there-j) (w .along-j))
+      (λ e. omega (arith, same-index i j e)))
 
   way-swap : (i j : ℕ) → SameWay (triangles s) i j → SameWay (triangles s) j i
-  way-swap i j w = record { there-i = w .there-j; there-j = w .there-i; a = w .a; b = w .b; along-i = w .along-j; along-j = w .along-i }
+  way-swap i j w =
+      record {
+        there-i = w .there-j;
+        there-j = w .there-i;
+        a = w .a;
+        b = w .b;
+        along-i = w .along-j;
+        along-j = w .along-i;
+      }
 
   -- the two triangles of step y of the last column are at a turn, run the same way, and are two
   step-turn : (y : ℕ) → y < S .Y → reversed (S .seam) ≡ true → Turn S low-half 0 (on y) high-half far y
   unfolding low-half high-half
-  step-turn y h e = record { rev = e; below = h; low-half = refl; low-x = refl; low-y = refl; high-half = refl; high-x = far-is }
+  step-turn y h e =
+      record { rev = e; below = h; low-half = refl; low-x = refl; low-y = refl; high-half = refl; high-x = far-is }
 
-  step-way : (y : ℕ) → y < S .Y → reversed (S .seam) ≡ true → SameWay (triangles s) (indexOf low-half 0 (on y)) (indexOf high-half far y)
+  step-way : (y : ℕ) → y < S .Y → reversed (S .seam) ≡ true →
+      SameWay (triangles s) (indexOf low-half 0 (on y)) (indexOf high-half far y)
   step-way y h e =
       let r = turn-shared S (step-turn y h e) in
       record {
@@ -307,21 +356,26 @@ module _ (s : Shape) (steps : HasSteps s) (ax : Axis) (seen : SeenAlong ax s) wh
 
   step-apart : (y : ℕ) → y < S .Y → reversed (S .seam) ≡ true → indexOf low-half 0 (on y) ≡ indexOf high-half far y → ⊥
   step-apart y h r e =
-      let first : 0 ≡ far = sym (x-indexOf low-half 0 (on y) (low-cell (on y) (on-lt y h))) ∙ ap xAt e ∙ x-indexOf high-half far y (high-cell y h) in
+      let first : 0 ≡ far =
+      sym (x-indexOf low-half 0 (on y) (low-cell (on y) (on-lt y h)))
+      ∙ ap xAt e ∙ x-indexOf high-half far y (high-cell y h) in
       omega (arith, far-is, S .X≥2 (reversed-joined (S .seam) r))
 
-  ordered-way : (p : Pair) (i j : ℕ) → p ≡ ordered i j → (i ≡ j → ⊥) → SameWay (triangles s) i j → (p .low < p .high) × SameWay (triangles s) (p .low) (p .high)
+  ordered-way : (p : Pair) (i j : ℕ) → p ≡ ordered i j → (i ≡ j → ⊥) → SameWay (triangles s) i j →
+      (p .low < p .high) × SameWay (triangles s) (p .low) (p .high)
   ordered-way p i j e d w =
       rw e (
         omega (arith, d),
-        ⊎-elim (λ (h : i < j). at (omega arith) (omega arith) w) (λ (h : j ≤ i). at (omega arith) (omega arith) (way-swap i j w)) (lt-or-le i j),
+        ⊎-elim (λ (h : i < j). at (omega arith) (omega arith) w)
+            (λ (h : j ≤ i). at (omega arith) (omega arith) (way-swap i j w)) (lt-or-le i j),
       )
     where
       at : {a b c d : ℕ} → a ≡ c → b ≡ d → SameWay (triangles s) c d → SameWay (triangles s) a b
       at p q w = rw (p, q) w
 
   -- so a listed pair, which is that of a step, runs the same way
-  flipped-way : NoneOfTwo s → (p : Pair) → List·Memᴰ p (flipped s) → (p .low < p .high) × SameWay (triangles s) (p .low) (p .high)
+  flipped-way : NoneOfTwo s → (p : Pair) → List·Memᴰ p (flipped s) →
+      (p .low < p .high) × SameWay (triangles s) (p .low) (p .high)
   flipped-way none p q = go (reversed (S .seam)) refl
     where
       go : (t : Bool) → reversed (S .seam) ≡ t → (p .low < p .high) × SameWay (triangles s) (p .low) (p .high)
@@ -329,8 +383,10 @@ module _ (s : Shape) (steps : HasSteps s) (ax : Axis) (seen : SeenAlong ax s) wh
       go true e =
           let t = process-to (laid none e) (S .Y) (omega arith) p (mem-in (flipped-reversed e) q) in
           let y = t .0 in
-          let f : p ≡ ordered (indexOf low-half 0 (on y)) (indexOf high-half far y) = t .2 ∙ cc (low-is (on y), high-is far y far-is) in
-          ordered-way p (indexOf low-half 0 (on y)) (indexOf high-half far y) f (step-apart y (t .1) e) (step-way y (t .1) e)
+          let f : p ≡ ordered (indexOf low-half 0 (on y)) (indexOf high-half far y) =
+          t .2 ∙ cc (low-is (on y), high-is far y far-is) in
+          ordered-way p (indexOf low-half 0 (on y)) (indexOf high-half far y) f (step-apart y (t .1) e)
+          (step-way y (t .1) e)
 
 pub covered-meets : (s : Shape) → 0 < s .M → 0 < s .N → Covered s → Meets s
 covered-meets s hm hn c =
@@ -353,7 +409,7 @@ J-number : (s : Shape) (u v : ℕ) → v ≤ s .N → Jₙ s (u * (s .N + 1) + v
 unfolding Jₙ
 J-number s u v h = let k : v < s .N + 1 = omega arith in rw (digits-div u k, digits-mod u k)
 
--- p and q are the numbers of the two ends of a grid edge: "Beside each point stand the numbers of p and q"
+-- Rules 7.2: p and q, as a trace hands them out: the numbers of the two ends of a grid edge
 pub record EdgeNumbers (s : Shape) (p q : ℕ) : Type 0 where
   pub u : ℕ
   pub v : ℕ
@@ -364,7 +420,8 @@ pub record EdgeNumbers (s : Shape) (p q : ℕ) : Type 0 where
   pub q-is : q ≡ number s (at u′ v′)
 
 -- what a trace records: J of the two numbers are the ends of a side
-pub traced : (s : Shape) → Meets s → StepsAround 2 s → (p q : ℕ) → EdgeNumbers s p q → (i : ℕ) × Owns (triangles s) (Jₙ s p) (Jₙ s q) i
+pub traced : (s : Shape) → Meets s → StepsAround 2 s → (p q : ℕ) → EdgeNumbers s p q →
+    (i : ℕ) × Owns (triangles s) (Jₙ s p) (Jₙ s q) i
 traced s m around p q e =
     let r = m .edges around (e .u) (e .v) (e .u′) (e .v′) (e .edge) in
     let b = bounds (e .u) (e .v) (e .u′) (e .v′) (e .edge) in

@@ -1,5 +1,6 @@
--- Which way a triangle runs along its sides. Of the two that share a side, one runs along it from the first end of its name to the second and the
--- other back. Only across a reversed seam the ends lie the other way round on one side, and there the two run the same way.
+-- Which way a triangle runs along its sides. Of the two that share a side, one runs along it from the first end of its
+-- name to the second and the other back. Only across a reversed seam the ends lie the other way round on one side, and
+-- there the two run the same way.
 use Prim.Native.Nat.{ℕ, _+_, _<_}
 use mathlib.Core.Path.{_≡_, refl, sym, _∙_}
 use mathlib.Core.Logic.{_⊎_, inl, inr, ⊎-elim}
@@ -10,9 +11,13 @@ use borrow.Author.Tests.{eqb-true, eq-eqb}
 use Rattle.surface.specs.Surface.{reversed, Same}
 use Rattle.basics.proofs.Tests.{and-both}
 use Rattle.surface.proofs.Steps.{laidOn, on-below}
-use Rattle.surface.proofs.Strip.{Strip, ThreeAround, reversed-joined, Kind, straight, across, diagonal, nameFrom, nameTo, fromY, toX, toY, Valid, x-le, toX-le, fromY-le, toY-le, turned, colOf, stepAt, col-ne, next-ne}
-use Rattle.surface.proofs.CellSides.{Cell, sideFrom, sideTo, nameX, nameY, turnedAt, valid, named, far-col, far-step}
-use Rattle.surface.proofs.Owners.{not-self, SideAt, side-flip, Holds, firstEnd, lastEnd, name-ends, compare, SameTri, Opposite}
+use Rattle.surface.proofs.Strip.{Strip, ThreeAround, reversed-joined, Kind, straight, across, diagonal, nameFrom}
+use Rattle.surface.proofs.Strip.{nameTo, fromY, toX, toY, Valid, x-le, toX-le, fromY-le, toY-le, turned, colOf}
+use Rattle.surface.proofs.Strip.{stepAt, col-ne, next-ne}
+use Rattle.surface.proofs.CellSides.{Cell, sideFrom, sideTo, nameX, nameY, turnedAt, valid, named, far-col}
+use Rattle.surface.proofs.CellSides.{far-step}
+use Rattle.surface.proofs.Owners.{not-self, SideAt, side-flip, Holds, firstEnd, lastEnd, name-ends, compare}
+use Rattle.surface.proofs.Owners.{SameTri, Opposite}
 
 -- a to b is c to d, or d to c where w is false
 abbrev pub Along : Bool → ℕ → ℕ → ℕ → ℕ → Type 0
@@ -44,7 +49,8 @@ module _ (S : Strip) where
   -- the two ends of a side differ
   names-differ : (k : Kind) (x y : ℕ) → Valid S k x y → nameFrom S k x y ≡ nameTo S k x y → ⊥
   unfolding nameFrom nameTo
-  names-differ k x y v e = go k v (inj _ _ _ _ (x-le S k x y v) (fromY-le S k split x y v) (toX-le S k x y v) (toY-le S k split x y v) e)
+  names-differ k x y v e =
+      go k v (inj _ _ _ _ (x-le S k x y v) (fromY-le S k split x y v) (toX-le S k x y v) (toY-le S k split x y v) e)
     where
       go : (k : Kind) → Valid S k x y → (x ≡ toX S k x) × (fromY S k split y ≡ toY S k split x y) → ⊥
       go straight v p = next-ne S y (v .1) (sym (p .1))
@@ -52,10 +58,12 @@ module _ (S : Strip) where
       go diagonal v p = col-ne S x (v .0) (sym (p .0))
 
   ends-differ : {x y a b : ℕ} (p : SideAt S x y a b) → firstEnd S p ≡ lastEnd S p → ⊥
-  ends-differ {x} {y} p = names-differ (p .k) (nameX S (p .k) (p .t) x) (nameY S (p .k) (p .t) x y) (valid S (p .k) (p .t) x y (p .cell))
+  ends-differ {x} {y} p =
+      names-differ (p .k) (nameX S (p .k) (p .t) x) (nameY S (p .k) (p .t) x y) (valid S (p .k) (p .t) x y (p .cell))
 
   -- only the last column of a reversed seam lies the other way round
-  turned-straight : (k : Kind) (t : Bool) (x : ℕ) → turnedAt S k t x ≡ true → (k ≡ straight) × (t ≡ true) × (turned S (x + 1) ≡ true)
+  turned-straight : (k : Kind) (t : Bool) (x : ℕ) → turnedAt S k t x ≡ true →
+      (k ≡ straight) × (t ≡ true) × (turned S (x + 1) ≡ true)
   turned-straight straight true x e = (refl, refl, e)
   turned-straight straight false x e = absurd (false≢true e)
   turned-straight across t x e = absurd (false≢true e)
@@ -88,7 +96,9 @@ module _ (S : Strip) where
 
   -- a run starts at the first end of the side's name or at the last, as its direction says
   abbrev Begins : {h : Bool} {x y a b : ℕ} → Runs h x y a b → Type 0
-  Begins {h} {x} {y} {a} r = ((dir (r .k) (r .t) ≡ true) × (a ≡ firstEnd S (sideOf r))) ⊎ ((dir (r .k) (r .t) ≡ false) × (a ≡ lastEnd S (sideOf r)))
+  Begins {h} {x} {y} {a} r =
+      ((dir (r .k) (r .t) ≡ true) × (a ≡ firstEnd S (sideOf r))) ⊎
+      ((dir (r .k) (r .t) ≡ false) × (a ≡ lastEnd S (sideOf r)))
 
   -- unless the side's ends lie the other way round under its name
   abbrev Turned : {h : Bool} {x y a b : ℕ} → Runs h x y a b → Type 0
@@ -102,7 +112,8 @@ module _ (S : Strip) where
       (named S (r .k) (r .t) x y (r .cell))
 
   -- two opposite halves do not start at the same end
-  clash : {h h′ : Bool} {x y x′ y′ a b : ℕ} (p : Runs h x y a b) (q : Runs h′ x′ y′ a b) → Opposite S (sideOf p) (sideOf q) → Begins p → Begins q → ⊥
+  clash : {h h′ : Bool} {x y x′ y′ a b : ℕ} (p : Runs h x y a b) (q : Runs h′ x′ y′ a b) →
+      Opposite S (sideOf p) (sideOf q) → Begins p → Begins q → ⊥
   clash p q o (inl b) (inl d) = not-self true (cc (o .0, o .1, dir-not (p .k) (p .t), b .0, d .0))
   clash p q o (inl b) (inr d) = ends-differ (sideOf p) (cc (o .0, o .1, o .2, o .3, b .1, d .1))
   clash p q o (inr b) (inl d) = ends-differ (sideOf p) (cc (o .0, o .1, o .2, o .3, b .1, d .1))
@@ -110,7 +121,8 @@ module _ (S : Strip) where
 
   -- ---- turns
 
-  -- across a reversed seam: half h has a low side of column 0, and half h′ the high side of the last column that lies on it the other way round
+  -- across a reversed seam: half h has a low side of column 0, and half h′ the high side of the last column that lies
+  -- on it the other way round
   pub record Turn (h : Bool) (x y : ℕ) (h′ : Bool) (x′ y′ : ℕ) : Type 0 where
     pub rev : reversed seam ≡ true
     pub below : y′ < Y
@@ -121,14 +133,16 @@ module _ (S : Strip) where
     pub high-x : x′ + 1 ≡ X
 
   -- the cell beyond a high straight side
-  opposite-low : (k : Kind) (t : Bool) (x y x′ y′ : ℕ) → k ≡ straight → t ≡ true → nameX S k (not t) x′ ≡ nameX S k t x →
+  opposite-low : (k : Kind) (t : Bool) (x y x′ y′ : ℕ) → k ≡ straight → t ≡ true →
+      nameX S k (not t) x′ ≡ nameX S k t x →
       nameY S k (not t) x′ y′ ≡ nameY S k t x y → (x′ ≡ colOf S (x + 1)) × (y′ ≡ stepAt S (x + 1) y)
   opposite-low straight true x y x′ y′ e f p q = (p, q)
   opposite-low straight false x y x′ y′ e f p q = (cc, cc)
   opposite-low across t x y x′ y′ e f p q = (cc, cc)
   opposite-low diagonal t x y x′ y′ e f p q = (cc, cc)
 
-  turn-of : {h h′ : Bool} {x y x′ y′ a b : ℕ} (p : Runs h x y a b) (q : Runs h′ x′ y′ a b) → Opposite S (sideOf p) (sideOf q) → Turned p →
+  turn-of : {h h′ : Bool} {x y x′ y′ a b : ℕ} (p : Runs h x y a b) (q : Runs h′ x′ y′ a b) →
+      Opposite S (sideOf p) (sideOf q) → Turned p →
       Turn h′ x′ y′ h x y
   turn-of {h} {h′} {x} {y} {x′} {y′} p q o e =
       record {
@@ -154,7 +168,8 @@ module _ (S : Strip) where
       off = refl
 
   -- two triangles that run along a side the same way are at a turn
-  pub same-way : ThreeAround S → {h h′ : Bool} {x y x′ y′ a b : ℕ} → Runs h x y a b → Runs h′ x′ y′ a b → (SameTri S h x y h′ x′ y′ → ⊥) →
+  pub same-way : ThreeAround S → {h h′ : Bool} {x y x′ y′ a b : ℕ} → Runs h x y a b → Runs h′ x′ y′ a b →
+      (SameTri S h x y h′ x′ y′ → ⊥) →
       Turn h x y h′ x′ y′ ⊎ Turn h′ x′ y′ h x y
   same-way three {h} {h′} {x} {y} {x′} {y′} p q n =
       ⊎-elim
@@ -167,7 +182,8 @@ module _ (S : Strip) where
           let n = Bool·not-not (p .t) in
           (sym (o .0), cc (o .1, n), cc (o .0, o .1, o .2, n), cc (o .0, o .1, o .3, n))
 
-      go : Opposite S (sideOf p) (sideOf q) → Turned p ⊎ Begins p → Turned q ⊎ Begins q → Turn h x y h′ x′ y′ ⊎ Turn h′ x′ y′ h x y
+      go : Opposite S (sideOf p) (sideOf q) → Turned p ⊎ Begins p → Turned q ⊎ Begins q →
+          Turn h x y h′ x′ y′ ⊎ Turn h′ x′ y′ h x y
       go o (inl e) g = inr (turn-of p q o e)
       go o (inr f) (inl e) = inl (turn-of q p (swap o) e)
       go o (inr f) (inr g) = absurd (clash p q o f g)
@@ -198,20 +214,25 @@ module _ (S : Strip) where
       is-turned : turned S (x′ + 1) ≡ true
       is-turned = rw (r .high-x) (far-turned (r .rev))
 
-      low : (sideFrom S straight false x y ≡ nameFrom S straight x y) × (sideTo S straight false x y ≡ nameTo S straight x y)
+      low : (sideFrom S straight false x y ≡ nameFrom S straight x y) ×
+          (sideTo S straight false x y ≡ nameTo S straight x y)
       low = ⊎-elim (λ w. (w .1, w .2)) (λ w. absurd (not-self true (w .0))) (named S straight false x y cell-low)
 
-      high : (sideTo S straight true x′ y′ ≡ nameFrom S straight x y) × (sideFrom S straight true x′ y′ ≡ nameTo S straight x y)
+      high : (sideTo S straight true x′ y′ ≡ nameFrom S straight x y) ×
+          (sideFrom S straight true x′ y′ ≡ nameTo S straight x y)
       high =
           ⊎-elim
           (λ w. absurd (not-self true (sym (w .0) ∙ is-turned)))
           (λ w. (cc (w .2, name-x, name-y), cc (w .1, name-x, name-y)))
           (named S straight true x′ y′ cell-high)
 
-      low-run : {a b : ℕ} → Along (dir straight false) a b (sideFrom S straight false x y) (sideTo S straight false x y) → Runs h x y a b
+      low-run : {a b : ℕ} →
+          Along (dir straight false) a b (sideFrom S straight false x y) (sideTo S straight false x y) → Runs h x y a b
       low-run l = record { k = straight; t = false; cell = cell-low; on = sym (r .low-half); along = l }
 
-      high-run : {a b : ℕ} → Along (dir straight true) a b (sideFrom S straight true x′ y′) (sideTo S straight true x′ y′) → Runs h′ x′ y′ a b
+      high-run : {a b : ℕ} →
+          Along (dir straight true) a b (sideFrom S straight true x′ y′) (sideTo S straight true x′ y′) →
+          Runs h′ x′ y′ a b
       high-run l = record { k = straight; t = true; cell = cell-high; on = sym (r .high-half); along = l }
 
       go : (w : Bool) → dir straight false ≡ w → Shared h x y h′ x′ y′
@@ -248,4 +269,5 @@ module _ (S : Strip) where
 
   -- what a triangle runs along has two ends
   pub runs-differ : {h : Bool} {x y a b : ℕ} → Runs h x y a b → a ≡ b → ⊥
-  runs-differ r e = ends-differ (sideOf r) (⊎-elim (λ q. cc (q .0, q .1)) (λ q. cc (q .0, q .1)) (name-ends S (sideOf r)))
+  runs-differ r e =
+      ends-differ (sideOf r) (⊎-elim (λ q. cc (q .0, q .1)) (λ q. cc (q .0, q .1)) (name-ends S (sideOf r)))

@@ -1,17 +1,18 @@
--- The two triangles of a cell by its sides: which of them has a side, and whether it runs along it from its first end to its second. Here a
--- straight side is a step of v and a side across is a step of u.
+-- The two triangles of a cell by its sides: which of them has a side, and whether it runs along it from its first end
+-- to its second. Here a straight side is a step of v and a side across is a step of u.
 use Prim.Native.Nat.{ℕ, _+_, _-_, _*_, _<_}
 use mathlib.Core.Path.{_≡_, refl}
 use mathlib.Core.Logic.{inl, inr}
 use mathlib.Core.Bool.{Bool, true, false, not, cond}
 use native.Mathlib.Omega.{arith}
-use Rattle.surface.specs.Surface.{Split, falling, rising, Shape, corner, halfOf, slots, bySplit, lowU, highU, lowV, highV, Follows}
+use Rattle.surface.specs.Surface.{Split, falling, rising, Shape, corner, halfOf, slots, bySplit, lowU, highU}
+use Rattle.surface.specs.Surface.{lowV, highV, Follows}
 use Rattle.surface.proofs.Strip.{Kind, straight, across, diagonal}
 use Rattle.surface.proofs.CellSides.{shift, endsOf}
 use Rattle.surface.proofs.Triangles.{halfNum, index, index-lt}
 
--- the half that has the low (false) or high (true) side of a kind; of a diagonal the low one is the first half's. The split
--- matters for the straight sides only.
+-- the half that has the low (false) or high (true) side of a kind; of a diagonal the low one is the first half's. The
+-- split matters for the straight sides only.
 abbrev pub cellHalf : Split → Kind → Bool → Bool
 cellHalf d across t = t
 cellHalf d diagonal t = t
@@ -38,7 +39,8 @@ module _ (s : Shape) (u v : ℕ) where
 
   -- a run along a side goes from a to b
   abbrev pub RunsAlong : Split → Kind → Bool → ℕ → ℕ → Type 0
-  RunsAlong d k t a b = (start (cellDir k t) (endsOf cellCorners k d t) ≡ a) × (finish (cellDir k t) (endsOf cellCorners k d t) ≡ b)
+  RunsAlong d k t a b =
+      (start (cellDir k t) (endsOf cellCorners k d t) ≡ a) × (finish (cellDir k t) (endsOf cellCorners k d t) ≡ b)
 
   -- going around half h, b follows a: that is a run along one of its sides
   pub record SideRun (d : Split) (h : Bool) (a b : ℕ) : Type 0 where
@@ -63,7 +65,8 @@ module _ (s : Shape) (u v : ℕ) where
     follows-run rising true (inr (inl e)) = record { k = across; t = true; on = refl; runs = e }
     follows-run rising true (inr (inr e)) = record { k = straight; t = false; on = refl; runs = e }
 
-    pub run-follows : (d : Split) (k : Kind) (t : Bool) → RunsAlong d k t a b → Follows (halfOf s d (halfNum (cellHalf d k t)) u v) a b
+    pub run-follows : (d : Split) (k : Kind) (t : Bool) → RunsAlong d k t a b →
+        Follows (halfOf s d (halfNum (cellHalf d k t)) u v) a b
     unfolding halfOf
     run-follows falling straight false e = inr (inr e)
     run-follows falling straight true e = inl e
@@ -94,7 +97,8 @@ module _ (s : Shape) (y : ℕ) where
   unfolding highU index
   highU-index = go (s .split)
     where
-      go : (d : Split) → 2 * ((s .M - 1) * s .N + y) + bySplit d 1 0 ≡ 2 * ((s .M - 1) * s .N + y) + halfNum (cellHalf d straight true)
+      go : (d : Split) → 2 * ((s .M - 1) * s .N + y) + bySplit d 1 0 ≡
+          2 * ((s .M - 1) * s .N + y) + halfNum (cellHalf d straight true)
       go falling = refl
       go rising = refl
 

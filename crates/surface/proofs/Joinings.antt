@@ -1,5 +1,6 @@
--- Demand 3 for the seams that are found. A search tries offsets below the steps of its rows only, so a mapping that it finds has its row's steps
--- and an offset below them; with that, 01's list of joinings is the one that the theorem on shapes is proved for.
+-- Demand 3 for the seams that are found. A search tries offsets below the steps of its rows only, so a mapping that it
+-- finds has its row's steps and an offset below them; with that, a covered joining (Rules 5.2) makes a shape that the
+-- theorem is proved for.
 use Prim.Native.Nat.{ℕ, _+_, _*_, _≤_}
 use mathlib.Core.Path.{_≡_, refl, ap}
 use mathlib.Core.Logic.{inl, inr}
@@ -17,7 +18,8 @@ use Rattle.cyclic.specs.Mapping as mapping
 use Rattle.cyclic.specs.Search.{Row, rowOf, Closeness, closeAt, searchRows}
 use Rattle.cyclic.proofs.Laws.{found-steps, found-below}
 use Rattle.surface.specs.Surface.{forward, inverse, Meets}
-use Rattle.surface.specs.Found.{uSearch, vSearch, ofMapping, surfaceWith, ForwardAtZero, CoveredJoining, SurfaceMeets, Maps}
+use Rattle.surface.specs.Found.{uSearch, vSearch, ofMapping, surfaceWith, ForwardAtZero, CoveredJoining}
+use Rattle.surface.specs.Found.{SurfaceMeets, Maps}
 use Rattle.surface.proofs.Covered.{Covered, neither, only-u, only-v, both-u, both-v}
 use Rattle.surface.proofs.Searches.{u-search, v-search}
 use Rattle.surface.proofs.Demand.{covered-meets}
@@ -42,7 +44,7 @@ pub inverse-of : (k : CyclicMapping) (b : ℕ) → inverse (ofMapping k) (stepsO
 inverse-of (Forward o steps) b = refl
 inverse-of (Reverse o steps) b = refl
 
--- ---- 01's list of joinings
+-- ---- covered joinings
 
 at-zero : (k : CyclicMapping) → ForwardAtZero k → ofMapping k ≡ forward 0
 at-zero (Forward o steps) e = ap forward e
@@ -60,11 +62,13 @@ covered m n (Joined (Forward o k)) (Joined j) p q (inr c) = both-u (p .1) (at-ze
 covered m n (Joined (Reverse o k)) (Joined j) p q (inr c) = both-u (omega (arith, c .0), p .1) (at-zero j (c .1))
 
 -- demand 3 of the surface that two seam answers make, found or given
-pub joining-meets : (m n : ℕ) (su sv : Seam) → 1 ≤ m → 1 ≤ n → Maps su n → Maps sv m → CoveredJoining su sv → Meets (surfaceWith m n su sv)
+pub joining-meets : (m n : ℕ) (su sv : Seam) → 1 ≤ m → 1 ≤ n → Maps su n → Maps sv m → CoveredJoining su sv →
+    Meets (surfaceWith m n su sv)
 joining-meets m n su sv hm hn p q c = covered-meets (surfaceWith m n su sv) hm hn (covered m n su sv p q c)
 
 -- demand 3 of the surface of a grid, with the seams that are found in it
 pub surface-meets : (g : List Float) (m n : ℕ) → SurfaceMeets g m n
 surface-meets g m n a c =
     let s = accepted-known g m n a .steps in
-    joining-meets m n (uSearch g m n .seam) (vSearch g m n .seam) (s .m-least) (s .n-least) (u-of-row g m n (s .n-least)) (v-of-row g m n (s .m-least)) c
+    joining-meets m n (uSearch g m n .seam) (vSearch g m n .seam) (s .m-least) (s .n-least)
+    (u-of-row g m n (s .n-least)) (v-of-row g m n (s .m-least)) c

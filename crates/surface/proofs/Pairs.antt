@@ -1,16 +1,19 @@
--- The list of flipped pairs: that `insert` keeps it ascending, what `process` puts into it, how long it is at most, and that its numbers are of
--- triangles in the list.
+-- The list of flipped pairs: that `insert` keeps it ascending, what `process` puts into it, how long it is at most, and
+-- that its numbers are of triangles in the list.
 use Prim.Native.Nat.{ℕ, zero, suc, _+_, _≤_, _<_}
 use mathlib.Core.Path.{_≡_, refl, sym, ap, _∙_}
 use mathlib.Core.Logic.{_⊎_, inl, inr, ⊎-elim}
 use mathlib.Core.Bool.{Bool, true, false, _&&_, cond}
-use mathlib.Core.List.{List, [], _∷_, List·Memᴰ, List·Memᴰ·head, List·Memᴰ·tail, List·Memᴰ·cases-cons, List·Memᴰ·not-nil}
+use mathlib.Core.List.{List, [], _∷_, List·Memᴰ, List·Memᴰ·head, List·Memᴰ·tail, List·Memᴰ·cases-cons}
+use mathlib.Core.List.{List·Memᴰ·not-nil}
 use native.Mathlib.Omega.{arith}
 use native.Mathlib.Nat.{eq-or-lt-of-le}
 use lib.Dec.{eqb, ltb}
 use lib.ListN.{length}
 use borrow.Author.Tests.{eq-eqb, ne-eqb, ltb-true, ltb-false, lt-ltb}
-use Rattle.surface.specs.Surface.{Seam, reverse, reversed, Shape, slot, proper, triangles, Pair, pair, ordered, insert, triangleNumber, stepOn, process, flipped, lowU, highU, lowV, highV, wrapEnds}
+use Rattle.surface.specs.Surface.{Seam, reverse, reversed, Shape, slot, proper, triangles, Pair, pair, ordered}
+use Rattle.surface.specs.Surface.{insert, triangleNumber, stepOn, process, flipped, lowU, highU, lowV, highV}
+use Rattle.surface.specs.Surface.{wrapEnds}
 use Rattle.basics.proofs.Tests.{and-both, cond-keeps, cond-case}
 use Rattle.basics.proofs.Numbers.{eqb-cases}
 use Rattle.cyclic.proofs.Mappings.{three}
@@ -45,7 +48,8 @@ lower c n i j a h p (inl w) = rw (p, w) (lower-up n a h)
 lower c n i j a h p (inr w) = rw (p, w .1) (lower-end n a (w .2))
 
 -- a reversed seam's step, as process_flipped finds it
-pub step-on : (o : ℕ) (c : Bool) (n y : ℕ) → (n ≡ 2 → ⊥) → Offset o c n → y < n → stepOn (reverse o) n y ≡ laidOn (reverse o) n y
+pub step-on : (o : ℕ) (c : Bool) (n y : ℕ) → (n ≡ 2 → ⊥) → Offset o c n → y < n →
+    stepOn (reverse o) n y ≡ laidOn (reverse o) n y
 unfolding stepOn
 step-on o c n y h f k = let r = reverse-step o c n y f k in lower c n _ _ _ h (r .0) (r .1)
 
@@ -66,10 +70,12 @@ picks false false false false x y z = inr (inr (refl, refl, refl, refl, refl))
 
 -- where `insert` puts p: in front of r, behind it, or nowhere, since p is r
 insert-form : (p r : Pair) (rs : List Pair) →
-    (insert p (r ∷ rs) ≡ p ∷ r ∷ rs) ⊎ ((insert p (r ∷ rs) ≡ r ∷ insert p rs) ⊎ ((insert p (r ∷ rs) ≡ r ∷ rs) × (p ≡ r)))
+    (insert p (r ∷ rs) ≡ p ∷ r ∷ rs) ⊎ ((insert p (r ∷ rs) ≡ r ∷ insert p rs) ⊎
+    ((insert p (r ∷ rs) ≡ r ∷ rs) × (p ≡ r)))
 insert-form p r rs =
     three
-    (picks (ltb (p .low) (r .low)) (ltb (r .low) (p .low)) (ltb (p .high) (r .high)) (ltb (r .high) (p .high)) (p ∷ r ∷ rs) (r ∷ insert p rs) (r ∷ rs))
+    (picks (ltb (p .low) (r .low)) (ltb (r .low) (p .low)) (ltb (p .high) (r .high)) (ltb (r .high) (p .high))
+    (p ∷ r ∷ rs) (r ∷ insert p rs) (r ∷ rs))
     (λ w. inl w)
     (λ w. inr (inl w))
     (λ w. inr (inr (
@@ -87,7 +93,8 @@ insert-cases p [] q m = List·Memᴰ·cases-cons m
 insert-cases p (r ∷ rs) q m =
     three (insert-form p r rs)
     (λ w. List·Memᴰ·cases-cons (mem-in w m))
-    (λ w. ⊎-elim (λ e. inr (List·Memᴰ·head e)) (λ n. ⊎-elim (λ e. inl e) (λ o. inr (List·Memᴰ·tail o)) (insert-cases p rs q n)) (List·Memᴰ·cases-cons (mem-in w m)))
+    (λ w. ⊎-elim (λ e. inr (List·Memᴰ·head e)) (λ n. ⊎-elim (λ e. inl e) (λ o. inr (List·Memᴰ·tail o))
+    (insert-cases p rs q n)) (List·Memᴰ·cases-cons (mem-in w m)))
     (λ w. inr (mem-in (w .0) m))
 
 insert-there : (p : Pair) (ps : List Pair) (q : Pair) → List·Memᴰ q ps → List·Memᴰ q (insert p ps)
@@ -95,7 +102,8 @@ insert-there p [] q m = List·Memᴰ·tail m
 insert-there p (r ∷ rs) q m =
     three (insert-form p r rs)
     (λ w. mem-in (sym w) (List·Memᴰ·tail m))
-    (λ w. mem-in (sym w) (⊎-elim (λ e. List·Memᴰ·head e) (λ n. List·Memᴰ·tail (insert-there p rs q n)) (List·Memᴰ·cases-cons m)))
+    (λ w. mem-in (sym w) (⊎-elim (λ e. List·Memᴰ·head e) (λ n. List·Memᴰ·tail (insert-there p rs q n))
+    (List·Memᴰ·cases-cons m)))
     (λ w. mem-in (sym (w .0)) m)
 
 insert-here : (p : Pair) (ps : List Pair) → List·Memᴰ p (insert p ps)
@@ -108,7 +116,7 @@ insert-here p (r ∷ rs) =
 
 -- ---- ascending
 
--- "ascending by the first and then the second, each pair once", as a property of a list
+-- Rules 4.4: the order of the list, as a property of it
 abbrev pub Before : Pair → Pair → Type 0
 Before p q = (p .low < q .low) ⊎ ((p .low ≡ q .low) × (p .high < q .high))
 
@@ -128,8 +136,10 @@ insert-ascending p (r ∷ rs) a =
     let below = insert-ascending p rs (a .1) in
     cond-case Ascending (ltb (p .low) (r .low)) _ _ (λ e. front (inl (ltb-true (p .low) (r .low) e)))
     (λ e₁. cond-case Ascending (ltb (r .low) (p .low)) _ _ (λ e. behind below (inl (ltb-true (r .low) (p .low) e)))
-    (λ e₂. cond-case Ascending (ltb (p .high) (r .high)) _ _ (λ e. front (inr (level e₁ e₂, ltb-true (p .high) (r .high) e)))
-    (λ e₃. cond-case Ascending (ltb (r .high) (p .high)) _ _ (λ e. behind below (inr (sym (level e₁ e₂), ltb-true (r .high) (p .high) e)))
+    (λ e₂. cond-case Ascending (ltb (p .high) (r .high)) _ _
+    (λ e. front (inr (level e₁ e₂, ltb-true (p .high) (r .high) e)))
+    (λ e₃. cond-case Ascending (ltb (r .high) (p .high)) _ _
+    (λ e. behind below (inr (sym (level e₁ e₂), ltb-true (r .high) (p .high) e)))
     (λ e₄. a))))
   where
     level : ltb (p .low) (r .low) ≡ false → ltb (r .low) (p .low) ≡ false → p .low ≡ r .low
@@ -149,14 +159,16 @@ insert-ascending p (r ∷ rs) a =
 
 -- ---- what `process` does to a list
 
--- A claim P on the list after so many steps holds at the end if it holds at the start and each step keeps it, whether it puts a pair down or not.
+-- A claim P on the list after so many steps holds at the end if it holds at the start and each step keeps it, whether
+-- it puts a pair down or not.
 module _ (s : Shape) (m : Seam) (steps : ℕ) (low high : ℕ → ℕ) (P : ℕ → List Pair → Type 0) where
   abbrev Skips : ℕ → Type 0
   Skips n = (y : ℕ) (qs : List Pair) → y < n → P y qs → P (suc y) qs
 
   abbrev Puts : ℕ → Type 0
   Puts n =
-      (y : ℕ) (qs : List Pair) → y < n → stepOn m steps y < steps → proper (slot s (low (stepOn m steps y))) ≡ true → proper (slot s (high y)) ≡ true →
+      (y : ℕ) (qs : List Pair) → y < n → stepOn m steps y < steps → proper (slot s (low (stepOn m steps y))) ≡ true →
+      proper (slot s (high y)) ≡ true →
       P y qs → P (suc y) (insert (ordered (triangleNumber s (low (stepOn m steps y))) (triangleNumber s (high y))) qs)
 
   process-keeps : (n : ℕ) (ps : List Pair) → P 0 ps → Skips n → Puts n → P n (process s m steps low high n ps)
@@ -164,11 +176,13 @@ module _ (s : Shape) (m : Seam) (steps : ℕ) (low high : ℕ → ℕ) (P : ℕ 
   process-keeps zero ps p skip put = p
   process-keeps (suc n) ps p skip put =
       let rest = process s m steps low high n ps in
-      let before : P n rest = process-keeps n ps p (λ y qs h. skip y qs (omega arith)) (λ y qs h. put y qs (omega arith)) in
+      let before : P n rest =
+      process-keeps n ps p (λ y qs h. skip y qs (omega arith)) (λ y qs h. put y qs (omega arith)) in
       let i = low (stepOn m steps n) in
       cond-case (P (suc n)) (ltb (stepOn m steps n) steps) _ _
       (λ e. cond-case (P (suc n)) (proper (slot s i) && proper (slot s (high n))) _ _
-      (λ f. let g = and-both (proper (slot s i)) (proper (slot s (high n))) f in put n rest (omega arith) (ltb-true (stepOn m steps n) steps e) (g .0) (g .1) before)
+      (λ f. let g = and-both (proper (slot s i)) (proper (slot s (high n))) f in
+      put n rest (omega arith) (ltb-true (stepOn m steps n) steps e) (g .0) (g .1) before)
       (λ f. skip n rest (omega arith) before))
       (λ e. skip n rest (omega arith) before)
 
@@ -179,26 +193,36 @@ module _ (s : Shape) (P : List Pair → Type 0) where
 
   flipped-keeps : P [] → Kept (s .su) (s .N) (lowU s) (highU s) → Kept (s .sv) (s .M) (lowV s) (highV s) → P (flipped s)
   unfolding flipped
-  flipped-keeps p us vs = cond-case P (reversed (s .sv)) _ _ (λ e. process-keeps s (s .sv) (s .M) (lowV s) (highV s) (λ k. P) (s .M) _ after-u (λ y qs h r. r) vs) (λ e. after-u)
+  flipped-keeps p us vs =
+      cond-case P (reversed (s .sv)) _ _
+      (λ e. process-keeps s (s .sv) (s .M) (lowV s) (highV s) (λ k. P) (s .M) _ after-u (λ y qs h r. r) vs)
+      (λ e. after-u)
     where
       after-u : P (cond (reversed (s .su)) (process s (s .su) (s .N) (lowU s) (highU s) (s .N) []) [])
-      after-u = cond-case P (reversed (s .su)) _ _ (λ e. process-keeps s (s .su) (s .N) (lowU s) (highU s) (λ k. P) (s .N) [] p (λ y qs h r. r) us) (λ e. p)
+      after-u =
+          cond-case P (reversed (s .su)) _ _
+          (λ e. process-keeps s (s .su) (s .N) (lowU s) (highU s) (λ k. P) (s .N) [] p (λ y qs h r. r) us)
+          (λ e. p)
 
 pub flipped-ascending : (s : Shape) → Ascending (flipped s)
-flipped-ascending s = flipped-keeps s Ascending tt (λ y qs h l e f a. insert-ascending _ qs a) (λ y qs h l e f a. insert-ascending _ qs a)
+flipped-ascending s =
+    flipped-keeps s Ascending tt (λ y qs h l e f a. insert-ascending _ qs a) (λ y qs h l e f a. insert-ascending _ qs a)
 
 -- both numbers of each pair are of triangles in the list
 abbrev pub Listed : Shape → List Pair → Type 0
 Listed s ps = (p : Pair) → List·Memᴰ p ps → (p .low < length (triangles s)) × (p .high < length (triangles s))
 
-insert-listed : (s : Shape) (i j : ℕ) (ps : List Pair) → i < length (triangles s) → j < length (triangles s) → Listed s ps → Listed s (insert (ordered i j) ps)
+insert-listed : (s : Shape) (i j : ℕ) (ps : List Pair) → i < length (triangles s) → j < length (triangles s) →
+    Listed s ps → Listed s (insert (ordered i j) ps)
 insert-listed s i j ps h k l p q = ⊎-elim (λ e. rw e (omega arith)) (λ m. l p m) (insert-cases (ordered i j) ps p q)
 
 pub flipped-listed : (s : Shape) → 0 < s .M → 0 < s .N → Listed s (flipped s)
 flipped-listed s hm hn =
     flipped-keeps s (Listed s) (λ p q. absurd (List·Memᴰ·not-nil q))
-    (λ y qs h l e f a. insert-listed s _ _ qs (number-below s _ (lowU-lt s _ hm l) e) (number-below s _ (highU-lt s y hm h) f) a)
-    (λ y qs h l e f a. insert-listed s _ _ qs (number-below s _ (lowV-lt s _ hn l) e) (number-below s _ (highV-lt s y hn h) f) a)
+    (λ y qs h l e f a. insert-listed s _ _ qs (number-below s _ (lowU-lt s _ hm l) e)
+    (number-below s _ (highU-lt s y hm h) f) a)
+    (λ y qs h l e f a. insert-listed s _ _ qs (number-below s _ (lowV-lt s _ hn l) e)
+    (number-below s _ (highV-lt s y hn h) f) a)
 
 insert-length : (p : Pair) (ps : List Pair) → length (insert p ps) ≤ length ps + 1
 insert-length p [] = omega arith
@@ -209,10 +233,12 @@ insert-length p (r ∷ rs) =
     (λ w. omega (arith, ap length (w .0)))
 
 -- a run puts down one pair for each step at most
-process-at-most : (s : Shape) (m : Seam) (steps : ℕ) (low high : ℕ → ℕ) (n : ℕ) (ps : List Pair) → length (process s m steps low high n ps) ≤ length ps + n
+process-at-most : (s : Shape) (m : Seam) (steps : ℕ) (low high : ℕ → ℕ) (n : ℕ) (ps : List Pair) →
+    length (process s m steps low high n ps) ≤ length ps + n
 process-at-most s m steps low high n ps =
     process-keeps s m steps low high (λ (k : ℕ) (qs : List Pair). length qs ≤ length ps + k) n ps (omega arith)
-    (λ y qs h a. omega arith) (λ y qs h l e f a. omega (arith, insert-length (ordered (triangleNumber s (low (stepOn m steps y))) (triangleNumber s (high y))) qs))
+    (λ y qs h a. omega arith) (λ y qs h l e f a. omega
+    (arith, insert-length (ordered (triangleNumber s (low (stepOn m steps y))) (triangleNumber s (high y))) qs))
 
 pub flipped-at-most : (s : Shape) → length (flipped s) ≤ s .M + s .N
 unfolding flipped
@@ -249,7 +275,14 @@ module _ {s : Shape} {m : Seam} {Y : ℕ} {lows highs on : ℕ → ℕ} (laid : 
   process-step : (n : ℕ) → n < Y → put (suc n) ≡ insert (pairAt n) (put n)
   unfolding process
   process-step n h =
-      rw (on-is n h, lt-ltb (on n) Y (on-lt n h), low-proper (on n) (on-lt n h) .0, high-proper n h .0, low-proper (on n) (on-lt n h) .1, high-proper n h .1)
+      rw (
+        on-is n h,
+        lt-ltb (on n) Y (on-lt n h),
+        low-proper (on n) (on-lt n h) .0,
+        high-proper n h .0,
+        low-proper (on n) (on-lt n h) .1,
+        high-proper n h .1,
+      )
 
   pub process-to : (n : ℕ) → n ≤ Y → (p : Pair) → List·Memᴰ p (put n) → (y : ℕ) × (y < n) × (p ≡ pairAt y)
   unfolding process

@@ -1,5 +1,6 @@
--- The rims and the edges of a strip, as 01 words them: a rim's sides are those between neighbouring points of its first or last column or row,
--- and every edge between neighbouring grid points, or along a cell's diagonal, is a side of some cell.
+-- The rims and the edges of a strip, as Rules 5.3 and 7.2 say them: a rim's sides are those between neighbouring points
+-- of its first or last column or row, and every edge between neighbouring grid points, or along a cell's diagonal, is a
+-- side of some cell.
 use Prim.Native.Nat.{ℕ, _+_, _-_, _≤_, _<_}
 use mathlib.Core.Path.{_≡_, refl}
 use mathlib.Core.Logic.{_⊎_, inl, inr, ⊎-elim}
@@ -29,7 +30,7 @@ module _ {S : Strip} (numbered : Numbered S) where
   open Strip S using (X, Y, closed, seam, split)
   open Numbered numbered using (P, P-is)
 
-  -- 01's words for a side on a rim
+  -- a side on a rim, as Rules 5.3 say it
   abbrev pub RimOf : ℕ → ℕ → Type 0
   RimOf a b =
       ((seam ≡ unjoined) × ((y : ℕ) × (y < Y) × (Same a b (P 0 y) (P 0 (y + 1)) ⊎ Same a b (P X y) (P X (y + 1)))))
@@ -40,14 +41,17 @@ module _ {S : Strip} (numbered : Numbered S) where
   ends k d t x y = endsOf (λ i j. P (shift i x) (shift j y)) k d t
 
   -- they are the side's own
-  ends-are : (k : Kind) (t : Bool) (x y : ℕ) → Cell S x y → Same (ends k split t x y .0) (ends k split t x y .1) (sideFrom S k t x y) (sideTo S k t x y)
+  ends-are : (k : Kind) (t : Bool) (x y : ℕ) → Cell S x y →
+      Same (ends k split t x y .0) (ends k split t x y .1) (sideFrom S k t x y) (sideTo S k t x y)
   unfolding sideFrom sideTo
   ends-are k t x y c = go k split
     where
       at : (i j : Bool) → P (shift i x) (shift j y) ≡ corners S x y i j
       at i j = P-is (shift i x) (shift j y) (omega (arith, shift-le j y))
 
-      go : (k : Kind) (d : Split) → Same (ends k d t x y .0) (ends k d t x y .1) (endsOf (corners S x y) k d t .0) (endsOf (corners S x y) k d t .1)
+      go : (k : Kind) (d : Split) →
+          Same (ends k d t x y .0) (ends k d t x y .1)
+          (endsOf (corners S x y) k d t .0) (endsOf (corners S x y) k d t .1)
       go straight d = inl (at t false, at t true)
       go across d = inl (at false t, at true t)
       go diagonal falling = inl (at false true, at true false)
@@ -55,21 +59,32 @@ module _ {S : Strip} (numbered : Numbered S) where
 
   -- ---- rims
 
-  on-rim : {a b : ℕ} (k : Kind) (t : Bool) (x y : ℕ) → Cell S x y → RimAt S k t x y → Same a b (ends k split t x y .0) (ends k split t x y .1) → OnRim S a b
-  on-rim k t x y c r e = record { x = x; y = y; side = record { k = k; t = t; cell = c; ends = same-trans e (ends-are k t x y c) }; rim = r }
+  on-rim : {a b : ℕ} (k : Kind) (t : Bool) (x y : ℕ) → Cell S x y → RimAt S k t x y →
+      Same a b (ends k split t x y .0) (ends k split t x y .1) → OnRim S a b
+  on-rim k t x y c r e =
+      record {
+        x = x;
+        y = y;
+        side = record { k = k; t = t; cell = c; ends = same-trans e (ends-are k t x y c) };
+        rim = r;
+      }
 
   pub rim-to : (a b : ℕ) → RimOf a b → OnRim S a b
   rim-to a b (inl (o, (y, h, inl e))) = on-rim straight false 0 y (omega arith, h) (o, refl) e
-  rim-to a b (inl (o, (y, h, inr e))) = let q : X - 1 + 1 ≡ X = omega arith in on-rim straight true (X - 1) y (omega arith, h) (o, q) (rw q e)
+  rim-to a b (inl (o, (y, h, inr e))) =
+      let q : X - 1 + 1 ≡ X = omega arith in on-rim straight true (X - 1) y (omega arith, h) (o, q) (rw q e)
   rim-to a b (inr (o, (x, h, inl e))) = on-rim across false x 0 (h, omega arith) (o, refl) e
-  rim-to a b (inr (o, (x, h, inr e))) = let q : Y - 1 + 1 ≡ Y = omega arith in on-rim across true x (Y - 1) (h, omega arith) (o, q) (rw q e)
+  rim-to a b (inr (o, (x, h, inr e))) =
+      let q : Y - 1 + 1 ≡ Y = omega arith in on-rim across true x (Y - 1) (h, omega arith) (o, q) (rw q e)
 
   pub rim-from : (a b : ℕ) → OnRim S a b → RimOf a b
   rim-from a b r =
       let d = r .side in
-      go (d .k) (d .t) (r .x) (r .y) (d .cell) (r .rim) (same-trans (d .ends) (same-sym (ends-are (d .k) (d .t) (r .x) (r .y) (d .cell))))
+      go (d .k) (d .t) (r .x) (r .y) (d .cell) (r .rim)
+      (same-trans (d .ends) (same-sym (ends-are (d .k) (d .t) (r .x) (r .y) (d .cell))))
     where
-      go : (k : Kind) (t : Bool) (x y : ℕ) → Cell S x y → RimAt S k t x y → Same a b (ends k split t x y .0) (ends k split t x y .1) → RimOf a b
+      go : (k : Kind) (t : Bool) (x y : ℕ) → Cell S x y → RimAt S k t x y →
+          Same a b (ends k split t x y .0) (ends k split t x y .1) → RimOf a b
       go straight false x y c r e = inl (r .0, (y, c .1, inl (rw (r .1) at e)))
       go straight true x y c r e = inl (r .0, (y, c .1, inr (rw (r .1) at e)))
       go across false x y c r e = inr (r .0, (x, c .0, inl (rw (r .1) at e)))
@@ -96,7 +111,8 @@ module _ {S : Strip} (numbered : Numbered S) where
       (lt-or-le x X)
 
   -- a diagonal, whichever way cells are split
-  edge-diagonal : (x y : ℕ) (d : Split) → Cell S x y → split ≡ d → EdgeAt S (ends diagonal d false x y .0) (ends diagonal d false x y .1)
+  edge-diagonal : (x y : ℕ) (d : Split) → Cell S x y → split ≡ d →
+      EdgeAt S (ends diagonal d false x y .0) (ends diagonal d false x y .1)
   edge-diagonal x y d c e = rw (← e) (edge-of diagonal false x y c)
 
   pub edge-falling : (x y : ℕ) → x < X → y < Y → split ≡ falling → EdgeAt S (P (x + 1) y) (P x (y + 1))

@@ -1,4 +1,5 @@
--- The two seam searches of a grid are searches of rows with a stride: a column is points that follow each other, a row is every (N+1)th point.
+-- The two seam searches of a grid are searches of rows with a stride: a column is points that follow each other, a row
+-- is every (N+1)th point.
 use Prim.Native.Nat.{ℕ, _+_, _-_, _*_, _≤_}
 use mathlib.Core.Path.{_≡_, ap, _∙_, fun-ext}
 use mathlib.Core.List.{List}
@@ -17,17 +18,22 @@ row-is : (g : List Float) (n v : ℕ) → row g n v ≡ rowOf g v (n + 1)
 row-is g n v = fun-ext (λ u. ap (pointAt g) (omega arith))
 
 -- the same rows, and as many steps as points but one
-searched-rows : (close : Closeness) (a b a′ b′ : Row) (steps : ℕ) → a ≡ a′ → b ≡ b′ → searchRows close a b (steps + 1 - 1) ≡ searchRows close a′ b′ steps
+searched-rows : (close : Closeness) (a b a′ b′ : Row) (steps : ℕ) → a ≡ a′ → b ≡ b′ →
+    searchRows close a b (steps + 1 - 1) ≡ searchRows close a′ b′ steps
 searched-rows close a b a′ b′ steps p q = let e : steps + 1 - 1 ≡ steps = omega arith in cc
 
-pub u-search : (g : List Float) (m n : ℕ) → 1 ≤ n → uSearch g m n ≡ searchRows (closeAt eps) (rowOf g 0 1) (rowOf g (m * (n + 1)) 1) n
+pub u-search : (g : List Float) (m n : ℕ) → 1 ≤ n →
+    uSearch g m n ≡ searchRows (closeAt eps) (rowOf g 0 1) (rowOf g (m * (n + 1)) 1) n
 unfolding uSearch
 u-search g m n h =
     long-rows (closeAt eps) (column g n 0) (column g n m) (n + 1) (n + 1) (omega arith) (omega arith)
-    ∙ searched-rows (closeAt eps) (column g n 0) (column g n m) (rowOf g 0 1) (rowOf g (m * (n + 1)) 1) n (column-is g n 0 0 (omega arith)) (column-is g n m (m * (n + 1)) (omega arith))
+    ∙ searched-rows (closeAt eps) (column g n 0) (column g n m) (rowOf g 0 1) (rowOf g (m * (n + 1)) 1) n
+    (column-is g n 0 0 (omega arith)) (column-is g n m (m * (n + 1)) (omega arith))
 
-pub v-search : (g : List Float) (m n : ℕ) → 1 ≤ m → vSearch g m n ≡ searchRows (closeAt eps) (rowOf g 0 (n + 1)) (rowOf g n (n + 1)) m
+pub v-search : (g : List Float) (m n : ℕ) → 1 ≤ m →
+    vSearch g m n ≡ searchRows (closeAt eps) (rowOf g 0 (n + 1)) (rowOf g n (n + 1)) m
 unfolding vSearch
 v-search g m n h =
     long-rows (closeAt eps) (row g n 0) (row g n n) (m + 1) (m + 1) (omega arith) (omega arith)
-    ∙ searched-rows (closeAt eps) (row g n 0) (row g n n) (rowOf g 0 (n + 1)) (rowOf g n (n + 1)) m (row-is g n 0) (row-is g n n)
+    ∙ searched-rows (closeAt eps) (row g n 0) (row g n n) (rowOf g 0 (n + 1)) (rowOf g n (n + 1)) m (row-is g n 0)
+    (row-is g n n)

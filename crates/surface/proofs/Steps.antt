@@ -1,6 +1,6 @@
--- Steps along a row, and what a seam does to them. The inverse image carries the two ends of step y of row b to the two ends of one step of row a,
--- `laidOn`: in their order if the seam is forward, the other way round if it is reversed (`adj-forward`, `adj-reverse`). Every step of row a is
--- met by exactly one of row b (`on-inj`, `on-back`).
+-- Steps along a row, and what a seam does to them. The inverse image carries the two ends of step y of row b to the two
+-- ends of one step of row a, `laidOn`: in their order if the seam is forward, the other way round if it is reversed
+-- (`adj-forward`, `adj-reverse`). Every step of row a is met by exactly one of row b (`on-inj`, `on-back`).
 use Prim.Native.Nat.{ℕ, zero, suc, _+_, _-_, _≤_, _<_}
 use mathlib.Core.Path.{_≡_, refl, sym, ap, _∙_}
 use mathlib.Core.Logic.{_⊎_, inl, inr, ⊎-elim}
@@ -52,20 +52,24 @@ wrap-wrap false n i h = wrap-open n (wrap false n i)
 wrap-wrap true n i h =
     ⊎-elim (λ w. wrap-below true n (wrap true n i) (omega arith)) (λ w. ap (wrap true n) (w .0)) (wrap-closed n i)
 
--- one step on is not where it was, if a closed row has 2 steps, and two steps are not back, if it has 3; and steps end apart that start apart
+-- one step on is not where it was, if a closed row has 2 steps, and two steps are not back, if it has 3; and steps end
+-- apart that start apart
 pub step-ne : (c : Bool) (n i : ℕ) → (c ≡ true → 2 ≤ n) → i < n → wrap c n (i + 1) ≡ i → ⊥
 step-ne true n i h k e = let t = h refl in ⊎-elim (λ w. omega arith) (λ w. omega arith) (wrap-two true n (i + 1))
 step-ne false n i h k e = omega (arith, wrap-open n (i + 1))
 
-pub step-two : (c : Bool) (n i j : ℕ) → (c ≡ true → 3 ≤ n) → i < n → j < n → wrap c n (i + 1) ≡ j → wrap c n (j + 1) ≡ i → ⊥
+pub step-two : (c : Bool) (n i j : ℕ) → (c ≡ true → 3 ≤ n) → i < n → j < n → wrap c n (i + 1) ≡ j →
+    wrap c n (j + 1) ≡ i → ⊥
 step-two true n i j h k l e f =
     let t = h refl in
-    four (wrap-two true n (i + 1)) (wrap-two true n (j + 1)) (λ w z. omega arith) (λ w z. omega arith) (λ w z. omega arith) (λ w z. omega arith)
+    four (wrap-two true n (i + 1)) (wrap-two true n (j + 1)) (λ w z. omega arith) (λ w z. omega arith)
+    (λ w z. omega arith) (λ w z. omega arith)
 step-two false n i j h k l e f = omega (arith, wrap-open n (i + 1), wrap-open n (j + 1))
 
 pub step-inj : (c : Bool) (n i j : ℕ) → i < n → j < n → wrap c n (i + 1) ≡ wrap c n (j + 1) → i ≡ j
 step-inj c n i j k l e =
-    four (wrap-two c n (i + 1)) (wrap-two c n (j + 1)) (λ w z. omega arith) (λ w z. omega arith) (λ w z. omega arith) (λ w z. omega arith)
+    four (wrap-two c n (i + 1)) (wrap-two c n (j + 1)) (λ w z. omega arith) (λ w z. omega arith) (λ w z. omega arith)
+    (λ w z. omega arith)
 
 -- ---- the inverse image by cases, so that nothing below looks into its definition
 
@@ -77,11 +81,17 @@ inv-reverse-0 : (n b : ℕ) → inverse (reverse 0) n b ≡ n - b
 unfolding mapping.inverse
 inv-reverse-0 n b = refl
 
-pub inv-forward : (o n b : ℕ) → o < n → b ≤ n → ((b < o) × (inverse (forward o) n b ≡ b + n - o)) ⊎ ((o ≤ b) × (inverse (forward o) n b ≡ b - o))
-inv-forward o n b q r = three (inverse-at o n b q r) (λ w. inr (omega arith, omega arith)) (λ w. inr (w .1, omega arith)) (λ w. inl (w .1, omega arith))
+pub inv-forward : (o n b : ℕ) → o < n → b ≤ n →
+    ((b < o) × (inverse (forward o) n b ≡ b + n - o)) ⊎ ((o ≤ b) × (inverse (forward o) n b ≡ b - o))
+inv-forward o n b q r =
+    three (inverse-at o n b q r) (λ w. inr (omega arith, omega arith)) (λ w. inr (w .1, omega arith))
+    (λ w. inl (w .1, omega arith))
 
-pub inv-reverse : (o n b : ℕ) → 0 < o → o < n → b ≤ n → ((b ≤ o) × (inverse (reverse o) n b ≡ o - b)) ⊎ ((o < b) × (inverse (reverse o) n b ≡ o + n - b))
-inv-reverse o n b p q r = rw reverse-same (three (reverse-at o n b q r) (λ w. absurd (omega arith)) (λ w. inl (w .1, omega arith)) (λ w. inr (w .1, omega arith)))
+pub inv-reverse : (o n b : ℕ) → 0 < o → o < n → b ≤ n →
+    ((b ≤ o) × (inverse (reverse o) n b ≡ o - b)) ⊎ ((o < b) × (inverse (reverse o) n b ≡ o + n - b))
+inv-reverse o n b p q r =
+    rw reverse-same (three (reverse-at o n b q r) (λ w. absurd (omega arith)) (λ w. inl (w .1, omega arith))
+    (λ w. inr (w .1, omega arith)))
 
 -- ---- how a joined seam lays the steps of one row on those of the other
 
@@ -112,15 +122,18 @@ laidBack (reverse o) n y = laidOn (reverse o) n y
 ltb-cond : (a b x y : ℕ) → ((a < b) × (cond (ltb a b) x y ≡ x)) ⊎ ((b ≤ a) × (cond (ltb a b) x y ≡ y))
 ltb-cond a b x y = ⊎-elim (λ h. inl (h, rw (lt-ltb a b h))) (λ h. inr (h, rw (le-ltb a b h))) (lt-or-le a b)
 
-on-forward : (o n y : ℕ) → ((y < o) × (laidOn (forward o) n y ≡ y + n - o)) ⊎ ((o ≤ y) × (laidOn (forward o) n y ≡ y - o))
+on-forward : (o n y : ℕ) → ((y < o) × (laidOn (forward o) n y ≡ y + n - o)) ⊎
+    ((o ≤ y) × (laidOn (forward o) n y ≡ y - o))
 unfolding laidOn
 on-forward o n y = ltb-cond y o (y + n - o) (y - o)
 
-on-reverse : (o n y : ℕ) → ((y < o) × (laidOn (reverse o) n y ≡ o - 1 - y)) ⊎ ((o ≤ y) × (laidOn (reverse o) n y ≡ o + n - 1 - y))
+on-reverse : (o n y : ℕ) → ((y < o) × (laidOn (reverse o) n y ≡ o - 1 - y)) ⊎
+    ((o ≤ y) × (laidOn (reverse o) n y ≡ o + n - 1 - y))
 unfolding laidOn
 on-reverse o n y = ltb-cond y o (o - 1 - y) (o + n - 1 - y)
 
-back-forward : (o n y : ℕ) → ((y + o < n) × (laidBack (forward o) n y ≡ y + o)) ⊎ ((n ≤ y + o) × (laidBack (forward o) n y ≡ y + o - n))
+back-forward : (o n y : ℕ) → ((y + o < n) × (laidBack (forward o) n y ≡ y + o)) ⊎
+    ((n ≤ y + o) × (laidBack (forward o) n y ≡ y + o - n))
 unfolding laidBack
 back-forward o n y = ltb-cond (y + o) n (y + o) (y + o - n)
 
@@ -139,13 +152,16 @@ only-closed (suc o) false n f h = absurd f
 pub on-below : (m : Seam) (c : Bool) (n y : ℕ) → Fits m c n → y < n → laidOn m n y < n
 unfolding laidOn
 on-below unjoined c n y f h = h
-on-below (forward o) c n y f h = let q : o < n = offset-lt o c n (omega arith) f in ⊎-elim (λ w. omega arith) (λ w. omega arith) (on-forward o n y)
-on-below (reverse o) c n y f h = let q : o < n = offset-lt o c n (omega arith) f in ⊎-elim (λ w. omega arith) (λ w. omega arith) (on-reverse o n y)
+on-below (forward o) c n y f h =
+    let q : o < n = offset-lt o c n (omega arith) f in ⊎-elim (λ w. omega arith) (λ w. omega arith) (on-forward o n y)
+on-below (reverse o) c n y f h =
+    let q : o < n = offset-lt o c n (omega arith) f in ⊎-elim (λ w. omega arith) (λ w. omega arith) (on-reverse o n y)
 
 pub back-below : (m : Seam) (c : Bool) (n y : ℕ) → Fits m c n → y < n → laidBack m n y < n
 unfolding laidBack
 back-below unjoined c n y f h = h
-back-below (forward o) c n y f h = let q : o < n = offset-lt o c n (omega arith) f in ⊎-elim (λ w. omega arith) (λ w. omega arith) (back-forward o n y)
+back-below (forward o) c n y f h =
+    let q : o < n = offset-lt o c n (omega arith) f in ⊎-elim (λ w. omega arith) (λ w. omega arith) (back-forward o n y)
 back-below (reverse o) c n y f h = on-below (reverse o) c n y f h
 
 pub on-back : (m : Seam) (c : Bool) (n y : ℕ) → Fits m c n → y < n → laidOn m n (laidBack m n y) ≡ y
@@ -153,20 +169,24 @@ unfolding laidBack laidOn
 on-back unjoined c n y f h = refl
 on-back (forward o) c n y f h =
     let q : o < n = offset-lt o c n (omega arith) f in
-    four (back-forward o n y) (on-forward o n (laidBack (forward o) n y)) (λ w z. omega arith) (λ w z. omega arith) (λ w z. omega arith) (λ w z. omega arith)
+    four (back-forward o n y) (on-forward o n (laidBack (forward o) n y)) (λ w z. omega arith) (λ w z. omega arith)
+    (λ w z. omega arith) (λ w z. omega arith)
 on-back (reverse o) c n y f h =
     let q : o < n = offset-lt o c n (omega arith) f in
-    four (on-reverse o n y) (on-reverse o n (laidOn (reverse o) n y)) (λ w z. omega arith) (λ w z. omega arith) (λ w z. omega arith) (λ w z. omega arith)
+    four (on-reverse o n y) (on-reverse o n (laidOn (reverse o) n y)) (λ w z. omega arith) (λ w z. omega arith)
+    (λ w z. omega arith) (λ w z. omega arith)
 
 pub on-inj : (m : Seam) (c : Bool) (n y z : ℕ) → Fits m c n → y < n → z < n → laidOn m n y ≡ laidOn m n z → y ≡ z
 unfolding laidOn
 on-inj unjoined c n y z f h k e = e
 on-inj (forward o) c n y z f h k e =
     let q : o < n = offset-lt o c n (omega arith) f in
-    four (on-forward o n y) (on-forward o n z) (λ w x. omega arith) (λ w x. omega arith) (λ w x. omega arith) (λ w x. omega arith)
+    four (on-forward o n y) (on-forward o n z) (λ w x. omega arith) (λ w x. omega arith) (λ w x. omega arith)
+    (λ w x. omega arith)
 on-inj (reverse o) c n y z f h k e =
     let q : o < n = offset-lt o c n (omega arith) f in
-    four (on-reverse o n y) (on-reverse o n z) (λ w x. omega arith) (λ w x. omega arith) (λ w x. omega arith) (λ w x. omega arith)
+    four (on-reverse o n y) (on-reverse o n z) (λ w x. omega arith) (λ w x. omega arith) (λ w x. omega arith)
+    (λ w x. omega arith)
 
 wrap-is : (c : Bool) (n i e : ℕ) → i ≡ e → e < n → wrap c n i ≡ e
 wrap-is c n i e p h = ap (wrap c n) p ∙ wrap-below c n e h
@@ -186,10 +206,12 @@ carried m c n y = wrap c n (inverse m n y)
 
 -- the inverse images of the two points of a step, forward
 forward-step : (o : ℕ) (c : Bool) (n y : ℕ) → Offset o c n → y < n →
-    (inverse (forward o) n y ≡ laidOn (forward o) n y) × Meet c n (inverse (forward o) n (y + 1)) (laidOn (forward o) n y + 1)
+    (inverse (forward o) n y ≡ laidOn (forward o) n y) ×
+    Meet c n (inverse (forward o) n (y + 1)) (laidOn (forward o) n y + 1)
 forward-step o c n y f h =
     let q : o < n = offset-lt o c n (omega arith) f in (
-      four (inv-forward o n y q (omega arith)) (on-forward o n y) (λ w z. omega arith) (λ w z. omega arith) (λ w z. omega arith) (λ w z. omega arith),
+      four (inv-forward o n y q (omega arith)) (on-forward o n y) (λ w z. omega arith) (λ w z. omega arith)
+          (λ w z. omega arith) (λ w z. omega arith),
       four (inv-forward o n (y + 1) q (omega arith)) (on-forward o n y)
           (λ w z. inl (omega arith))
           (λ w z. inl (omega arith))
@@ -199,12 +221,14 @@ forward-step o c n y f h =
 
 -- and in reverse
 pub reverse-step : (o : ℕ) (c : Bool) (n y : ℕ) → Offset o c n → y < n →
-    (inverse (reverse o) n (y + 1) ≡ laidOn (reverse o) n y) × Meet c n (inverse (reverse o) n y) (laidOn (reverse o) n y + 1)
+    (inverse (reverse o) n (y + 1) ≡ laidOn (reverse o) n y) ×
+    Meet c n (inverse (reverse o) n y) (laidOn (reverse o) n y + 1)
 reverse-step zero c n y f h =
     let e : laidOn (reverse 0) n y ≡ n - 1 - y = ⊎-elim (λ w. omega arith) (λ w. omega arith) (on-reverse 0 n y) in
     (omega (arith, inv-reverse-0 n (y + 1)), inl (omega (arith, inv-reverse-0 n y)))
 reverse-step (suc o) true n y f h = (
-  four (inv-reverse (suc o) n (y + 1) (omega arith) f (omega arith)) (on-reverse (suc o) n y) (λ w z. omega arith) (λ w z. omega arith) (λ w z. omega arith) (λ w z. omega arith),
+  four (inv-reverse (suc o) n (y + 1) (omega arith) f (omega arith)) (on-reverse (suc o) n y) (λ w z. omega arith)
+      (λ w z. omega arith) (λ w z. omega arith) (λ w z. omega arith),
   four (inv-reverse (suc o) n y (omega arith) f (omega arith)) (on-reverse (suc o) n y)
       (λ w z. inl (omega arith))
       (λ w z. inr (refl, omega arith, omega arith))
@@ -215,7 +239,8 @@ reverse-step (suc o) false n y f h = absurd f
 
 -- A forward seam lays step y on step `laidOn`, the same way round.
 pub adj-forward : (o : ℕ) (c : Bool) (n y : ℕ) → Offset o c n → y < n →
-    (carried (forward o) c n y ≡ laidOn (forward o) n y) × (carried (forward o) c n (y + 1) ≡ wrap c n (laidOn (forward o) n y + 1))
+    (carried (forward o) c n y ≡ laidOn (forward o) n y) ×
+    (carried (forward o) c n (y + 1) ≡ wrap c n (laidOn (forward o) n y + 1))
 unfolding carried
 adj-forward o c n y f h =
     let r = forward-step o c n y f h in
@@ -223,7 +248,8 @@ adj-forward o c n y f h =
 
 -- A reversed seam lays step y on step `laidOn`, the other way round.
 pub adj-reverse : (o : ℕ) (c : Bool) (n y : ℕ) → Offset o c n → y < n →
-    (carried (reverse o) c n (y + 1) ≡ laidOn (reverse o) n y) × (carried (reverse o) c n y ≡ wrap c n (laidOn (reverse o) n y + 1))
+    (carried (reverse o) c n (y + 1) ≡ laidOn (reverse o) n y) ×
+    (carried (reverse o) c n y ≡ wrap c n (laidOn (reverse o) n y + 1))
 unfolding carried
 adj-reverse o c n y f h =
     let r = reverse-step o c n y f h in
@@ -237,11 +263,14 @@ carried-ends (forward o) n h f =
     let q : o < n = offset-lt o true n h f in
     wrap-eq true n _ _ h
     (four (inv-forward o n 0 q (omega arith)) (inv-forward o n n q (omega arith))
-    (λ w z. inl (omega arith)) (λ w z. inl (omega arith)) (λ w z. inl (omega arith)) (λ w z. inr (refl, omega arith, omega arith)))
-carried-ends (reverse zero) n h f = sym (wrap-eq true n _ _ h (inr (refl, omega (arith, inv-reverse-0 n n), omega (arith, inv-reverse-0 n 0))))
+    (λ w z. inl (omega arith)) (λ w z. inl (omega arith)) (λ w z. inl (omega arith))
+    (λ w z. inr (refl, omega arith, omega arith)))
+carried-ends (reverse zero) n h f =
+    sym (wrap-eq true n _ _ h (inr (refl, omega (arith, inv-reverse-0 n n), omega (arith, inv-reverse-0 n 0))))
 carried-ends (reverse (suc o)) n h f =
     ap (wrap true n)
-    (four (inv-reverse (suc o) n 0 (omega arith) f (omega arith)) (inv-reverse (suc o) n n (omega arith) f (omega arith))
+    (four (inv-reverse (suc o) n 0 (omega arith) f (omega arith))
+    (inv-reverse (suc o) n n (omega arith) f (omega arith))
     (λ w z. omega arith) (λ w z. omega arith) (λ w z. omega arith) (λ w z. omega arith))
 
 inverse-le : (m : Seam) (c : Bool) (n b : ℕ) → 0 < n → Fits m c n → b ≤ n → inverse m n b ≤ n

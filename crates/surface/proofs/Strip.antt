@@ -1,6 +1,7 @@
--- A joined grid as a strip: columns 0 to X of points 0 to Y each, column X joined to column 0 by a seam or not at all, every column closed or
--- open. Each side has one name (`one-name`): two names with the same two ends, in either order, would need a step that ends where it starts or two
--- steps that go there and back, and where a way around is closed and has at least 3 steps, or is open, there are none.
+-- A joined grid as a strip: columns 0 to X of points 0 to Y each, column X joined to column 0 by a seam or not at all,
+-- every column closed or open. Each side has one name (`one-name`): two names with the same two ends, in either order,
+-- would need a step that ends where it starts or two steps that go there and back, and where a way around is closed and
+-- has at least 3 steps, or is open, there are none.
 use Prim.Native.Nat.{ℕ, _+_, _≤_, _<_}
 use mathlib.Core.Path.{_≡_, refl, sym, _∙_}
 use mathlib.Core.Logic.{_⊎_, inl, inr, ⊎-elim}
@@ -9,8 +10,10 @@ use native.Mathlib.Omega.{arith}
 use lib.Dec.{eqb}
 use borrow.Author.Tests.{ne-eqb}
 use Rattle.basics.proofs.Tests.{cond-keeps}
-use Rattle.surface.specs.Surface.{Seam, unjoined, forward, reverse, joined, reversed, Split, falling, rising, Same}
-use Rattle.surface.proofs.Steps.{wrap, wrap-below, wrap-le, wrap-wrap, step-ne, step-two, step-inj, Fits, laidOn, on-below, carried, adj-forward, adj-reverse, carried-le, carried-wrap}
+use Rattle.surface.specs.Surface.{Seam, unjoined, forward, reverse, joined, reversed, Split, falling, rising}
+use Rattle.surface.specs.Surface.{Same}
+use Rattle.surface.proofs.Steps.{wrap, wrap-below, wrap-le, wrap-wrap, step-ne, step-two, step-inj, Fits, laidOn}
+use Rattle.surface.proofs.Steps.{on-below, carried, adj-forward, adj-reverse, carried-le, carried-wrap}
 
 -- a side of a cell goes along a column, across to the next column, or along the cell's diagonal
 pub data Kind : Type 0 where
@@ -104,7 +107,9 @@ module _ (S : Strip) where
 
   row-le : (x y : ℕ) → y ≤ Y → rowOf S x y ≤ Y
   unfolding rowOf
-  row-le x y h = cond-keeps (λ (z : ℕ). z ≤ Y) (crossing S x) _ _ (carried-le seam closed Y y (omega arith) fits h) (wrap-le closed Y y h)
+  row-le x y h =
+      cond-keeps (λ (z : ℕ). z ≤ Y) (crossing S x) _ _ (carried-le seam closed Y y (omega arith) fits h)
+      (wrap-le closed Y y h)
 
   pub col-le : (x : ℕ) → x ≤ X → colOf S x ≤ X
   unfolding colOf
@@ -182,8 +187,9 @@ module _ (S : Strip) where
 
 -- ---- names of sides
 
--- The name of a side is its kind and (x, y): a straight side goes from (x, y) to the next row, a side across from (x, y) to what (x+1, y) is joined
--- to, a diagonal between the two other corners of its cell (falling) or from (x, y) to what (x+1, y+1) is joined to (rising).
+-- The name of a side is its kind and (x, y): a straight side goes from (x, y) to the next row, a side across from (x,
+-- y) to what (x+1, y) is joined to, a diagonal between the two other corners of its cell (falling) or from (x, y) to
+-- what (x+1, y+1) is joined to (rising).
 
 abbrev pub fromY : Strip → Kind → Split → ℕ → ℕ
 fromY S straight d y = y
@@ -246,7 +252,8 @@ module _ (S : Strip) where
 
   -- two names whose ends agree in order are one
   in-order : (k k′ : Kind) (d : Split) (x y x′ y′ : ℕ) → Valid S k x y → Valid S k′ x′ y′ →
-      x ≡ x′ → fromY S k d y ≡ fromY S k′ d y′ → toX S k x ≡ toX S k′ x′ → toY S k d x y ≡ toY S k′ d x′ y′ → Agree k k′ x y x′ y′
+      x ≡ x′ → fromY S k d y ≡ fromY S k′ d y′ → toX S k x ≡ toX S k′ x′ → toY S k d x y ≡ toY S k′ d x′ y′ →
+      Agree k k′ x y x′ y′
   in-order straight straight d x y x′ y′ v v′ p q r s = (refl, p, q)
   in-order straight across d x y x′ y′ v v′ p q r s = absurd (col-ne S x′ (v′ .0) (sym r ∙ p))
   in-order straight diagonal d x y x′ y′ v v′ p q r s = absurd (col-ne S x′ (v′ .0) (sym r ∙ p))
@@ -282,10 +289,14 @@ module _ (S : Strip) where
       Same (nameFrom S k x y) (nameTo S k x y) (nameFrom S k′ x′ y′) (nameTo S k′ x′ y′) → Agree k k′ x y x′ y′
   unfolding nameFrom nameTo
   one-name w k k′ x y x′ y′ v v′ (inl e) =
-      let p = inj _ _ _ _ (x-le k x y v) (fromY-le k split x y v) (x-le k′ x′ y′ v′) (fromY-le k′ split x′ y′ v′) (e .0) in
-      let q = inj _ _ _ _ (toX-le k x y v) (toY-le k split x y v) (toX-le k′ x′ y′ v′) (toY-le k′ split x′ y′ v′) (e .1) in
+      let p =
+      inj _ _ _ _ (x-le k x y v) (fromY-le k split x y v) (x-le k′ x′ y′ v′) (fromY-le k′ split x′ y′ v′) (e .0) in
+      let q =
+      inj _ _ _ _ (toX-le k x y v) (toY-le k split x y v) (toX-le k′ x′ y′ v′) (toY-le k′ split x′ y′ v′) (e .1) in
       in-order k k′ split x y x′ y′ v v′ (p .0) (p .1) (q .0) (q .1)
   one-name w k k′ x y x′ y′ v v′ (inr e) =
-      let p = inj _ _ _ _ (x-le k x y v) (fromY-le k split x y v) (toX-le k′ x′ y′ v′) (toY-le k′ split x′ y′ v′) (e .0) in
-      let q = inj _ _ _ _ (toX-le k x y v) (toY-le k split x y v) (x-le k′ x′ y′ v′) (fromY-le k′ split x′ y′ v′) (e .1) in
+      let p =
+      inj _ _ _ _ (x-le k x y v) (fromY-le k split x y v) (toX-le k′ x′ y′ v′) (toY-le k′ split x′ y′ v′) (e .0) in
+      let q =
+      inj _ _ _ _ (toX-le k x y v) (toY-le k split x y v) (x-le k′ x′ y′ v′) (fromY-le k′ split x′ y′ v′) (e .1) in
       absurd (in-turn w k k′ split x y x′ y′ v v′ (p .0) (p .1) (q .0) (q .1))

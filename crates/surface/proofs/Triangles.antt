@@ -1,5 +1,5 @@
--- The list of triangles: a slot emits one at most; slot 2·(u·N + v) + h is half h of cell (u, v) and no other; and where every slot emits its
--- triangle, slot i is triangle i.
+-- The list of triangles: a slot emits one at most; slot 2·(u·N + v) + h is half h of cell (u, v) and no other; and
+-- where every slot emits its triangle, slot i is triangle i.
 use Prim.Native.Nat.{ℕ, zero, suc, _+_, _*_, _/_, _%_, _≤_, _<_}
 use mathlib.Core.Path.{_≡_, refl, sym, _∙_}
 use mathlib.Core.Logic.{⊎-elim}
@@ -48,7 +48,8 @@ kept-grows s i (suc n) h =
     (eq-or-lt-of-le h)
 
 -- a slot that emits its triangle has a number of the list
-pub number-below : (s : Shape) (i : ℕ) → i < slots s → proper (slot s i) ≡ true → triangleNumber s i < length (triangles s)
+pub number-below : (s : Shape) (i : ℕ) → i < slots s → proper (slot s i) ≡ true →
+    triangleNumber s i < length (triangles s)
 unfolding triangleNumber triangles
 number-below s i h e =
     let more : length (kept s (suc i)) ≡ length (kept s i) + 1 = kept-more s i ∙ rw e in
@@ -75,7 +76,8 @@ kept-at s (suc n) i h k =
     let len : length (kept s n) ≡ n = kept-length s n (λ j q. h j (omega arith)) in
     rw (kept-step s n (h n (omega arith)))
     (⊎-elim
-    (λ (l : i < n). List·getD-append (kept s n) (slot s n ∷ []) (tri 0 0 0) i (omega arith) ∙ kept-at s n i (λ j q. h j (omega arith)) l)
+    (λ (l : i < n). List·getD-append (kept s n) (slot s n ∷ []) (tri 0 0 0) i (omega arith)
+    ∙ kept-at s n i (λ j q. h j (omega arith)) l)
     (λ (l : n ≤ i). let e : i ≡ n = omega arith in rw e (getD-at (kept s n) (slot s n) [] (tri 0 0 0) n len))
     (lt-or-le i n))
 

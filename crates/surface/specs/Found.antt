@@ -1,5 +1,5 @@
--- The surface of a grid: the seams that the search finds in it, the joined surface that they make, and demand 3 of its lists (01, "Joining and
--- triangles", "Joinings that demand 3 covers").
+-- Rules 4.1 and 5.2: the seams that are found in a grid, the surface that they make of it, and whether they are a
+-- covered joining; then demand 3 of the grid's lists (Rules 5.4).
 use Prim.Native.Nat.{ℕ, _+_, _<_}
 use mathlib.Core.Path.{_≡_}
 use mathlib.Core.Logic.{_⊎_}
@@ -23,7 +23,7 @@ column g n u v = pointAt g (pointNumber n u v)
 abbrev pub row : List Float → ℕ → ℕ → Row
 row g n v u = pointAt g (pointNumber n u v)
 
--- "The u seam compares column u=0 as a with u=M as b; the v seam row v=0 with v=N."
+-- Rules 4.1: the u seam, with column 0 for a and column M for b; and the v seam, with row 0 for a and row N for b
 unfoldable pub uSearch : List Float → ℕ → ℕ → SeamSearch
 uSearch g m n = search (closeAt eps) (column g n 0) (column g n m) (n + 1) (n + 1)
 
@@ -46,24 +46,24 @@ Maps (Joined k) steps = (stepsOf k ≡ steps) × (offsetOf k < steps)
 
 -- the surface that two seam answers make of a grid with M and N steps
 abbrev pub surfaceWith : ℕ → ℕ → Seam → Seam → surface.Shape
-surfaceWith m n su sv = record { M = m; N = n; su = seamOf su; sv = seamOf sv; rule = surface.once; split = surface.falling }
+surfaceWith m n su sv =
+    record { M = m; N = n; su = seamOf su; sv = seamOf sv; rule = surface.once; split = surface.falling }
 
 -- the surface of a grid, with the seams that are found in it
 abbrev pub surfaceOf : List Float → ℕ → ℕ → surface.Shape
 surfaceOf g m n = surfaceWith m n (uSearch g m n .seam) (vSearch g m n .seam)
 
--- "forward at offset 0"
+-- what one of two seams must be: Forward, at offset 0
 abbrev pub ForwardAtZero : CyclicMapping → Type 0
 ForwardAtZero (Forward o steps) = o ≡ 0
 ForwardAtZero (Reverse o steps) = ⊥
 
--- "forward at any offset or reverse at an offset other than 0"
+-- what the other may be: Forward, or Reverse and not at offset 0
 abbrev pub ForwardOrOffZero : CyclicMapping → Type 0
 ForwardOrOffZero (Forward o steps) = Unit {0}
 ForwardOrOffZero (Reverse o steps) = o ≡ 0 → ⊥
 
--- "neither seam found; one found, at offset 0, forward or reverse; both found, one forward at offset 0 and the other forward at any offset or
--- reverse at an offset other than 0"
+-- Rules 5.2: a covered joining, case by case: no seam, one of them, both
 abbrev pub CoveredJoining : Seam → Seam → Type 0
 CoveredJoining Unjoined Unjoined = Unit {0}
 CoveredJoining (Joined j) Unjoined = offsetOf j ≡ 0
@@ -74,6 +74,6 @@ CoveredJoining (Joined j) (Joined k) = (ForwardAtZero j × ForwardOrOffZero k) �
 abbrev pub CoveredGrid : List Float → ℕ → ℕ → Type 0
 CoveredGrid g m n = CoveredJoining (uSearch g m n .seam) (vSearch g m n .seam)
 
--- Demand 3 of a grid's triangles and flipped pairs
+-- Rules 5.4: demand 3 of an accepted grid whose seams are a covered joining
 abbrev pub SurfaceMeets : List Float → ℕ → ℕ → Type 0
 SurfaceMeets g m n = Accepted g m n → CoveredGrid g m n → surface.Meets (surfaceOf g m n)

@@ -1,4 +1,5 @@
--- A surface from its grid.
+-- The contracts of open calls cite Found and, through it, Surface. Rims serves inner contracts only. Table has results
+-- by computation.
 pub mod Surface
 pub mod Rims
 pub mod Found

@@ -1,4 +1,5 @@
--- The rims of either seam: that of axis u joins u = 0, its low rim, and u = M, its high rim; that of axis v joins v = 0 and v = N.
+-- Rules 4.4, for either seam: that of axis u joins column 0, its low rim, and column M, its high rim; that of axis v
+-- joins row 0 and row N.
 use Prim.Native.Nat.{ℕ}
 use Rattle.param.specs.declared.Axis.{Axis}
 use Rattle.param.specs.declared.Axis.the-variants.{AxisU, AxisV}

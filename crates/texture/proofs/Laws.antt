@@ -1,5 +1,6 @@
--- Laws of plans: a swirl and a spiral have from 1 to 65,536 rays of from 2 to 65,536 samples, a spiral as many rays as arms, Grid none. A count is the cut of a larger of two, so it is at
--- least the second, and the tests bound it from above.
+-- Laws of plans: a swirl and a spiral have from 1 to 65,536 rays of from 2 to 65,536 samples, a spiral as many rays as
+-- arms, Grid none. A count is the cut of a larger of two, so it is at least the second, and the tests bound it from
+-- above.
 use mathlib.Core.Path.{_≡_, refl, sym}
 use mathlib.Core.Bool.{Bool, true, false, cond}
 use Prim.Native.Nat.{ℕ, zero, suc, _*_, _/_, _^_, _≤_, min, max}
@@ -21,7 +22,8 @@ use Rattle.refusal.specs.declared.Check.the-variants.{Passed}
 use Rattle.refusal.specs.Refusals.{ok}
 use Rattle.texture.specs.declared.plan.ParametricSurfaceTexture.{ParametricSurfaceTexture}
 use Rattle.texture.specs.declared.plan.ParametricSurfaceTexture.the-variants.{Grid, Swirl, Spiral}
-use Rattle.texture.specs.Plan.{two, swirlRays, radialSampleCount, spiralSampleCount, stepsAlong, raysOf, samplesPerRay, textureFits, maxCount, Plan, planOf, plan}
+use Rattle.texture.specs.Plan.{two, swirlRays, radialSampleCount, spiralSampleCount, stepsAlong, raysOf}
+use Rattle.texture.specs.Plan.{samplesPerRay, textureFits, maxCount, Plan, planOf, plan}
 use Rattle.texture.proofs.Plans.{checks, plan-passed}
 
 -- ---- the larger of two is at least the second
@@ -52,14 +54,18 @@ floor-cut (fin false m e) = wider (m * up e / down e)
     wider q = omega arith
 
 -- a value from k to n, cut toward zero, is from k to n
-cut-between : (x : Float) (k n : ℕ) → k ≤ 2 ^ 53 → n ≤ 2 ^ 53 → le (natFloat k) x ≡ true → le x (natFloat n) ≡ true → (k ≤ toUnsigned 64 x) × (toUnsigned 64 x ≤ n)
+cut-between : (x : Float) (k n : ℕ) → k ≤ 2 ^ 53 → n ≤ 2 ^ 53 → le (natFloat k) x ≡ true → le x (natFloat n) ≡ true →
+    (k ≤ toUnsigned 64 x) × (toUnsigned 64 x ≤ n)
 cut-between x k n hk hn lo hi =
-    let from-zero = le-of-not-lt zero64 (natFloat k) (unfold isNan ofBits in refl) (nat-not-nan k hk) (nat-nonneg k) in
-    (le-trans (floor-at-least x k lo hk) (floor-cut x), counted x n hn (le-transitive zero64 (natFloat k) x from-zero lo) hi .1)
+    let from-zero = le-of-not-lt zero64 (natFloat k) (unfold isNan ofBits in refl) (nat-not-nan k hk) (nat-nonneg k) in (
+      le-trans (floor-at-least x k lo hk) (floor-cut x),
+      counted x n hn (le-transitive zero64 (natFloat k) x from-zero lo) hi .1,
+    )
 
 -- ---- what a plan passed
 passes : (t : ParametricSurfaceTexture) (m n : ℕ) {p : Plan} → plan t m n ≡ ok p
-    → (textureFits t ≡ true) × (le (raysOf m n t) maxCount ≡ true) × (le (samplesPerRay m n t) maxCount ≡ true) × (p ≡ planOf t m n)
+    → (textureFits t ≡ true) × (le (raysOf m n t) maxCount ≡ true) × (le (samplesPerRay m n t) maxCount ≡ true) ×
+    (p ≡ planOf t m n)
 passes t m n e =
     let k = plan-passed t m n Passed (sym e) in
     let a = checks t m n Passed (k .0) in
@@ -74,16 +80,28 @@ pub record Counts (p : Plan) : Type 0 where
   pub samples-most : p .samples ≤ 65536
 
 -- of rays and samples that are floats
-counts-of : (t : ParametricSurfaceTexture) (m n : ℕ) {p : Plan} → plan t m n ≡ ok p → le one64 (raysOf m n t) ≡ true → le two (samplesPerRay m n t) ≡ true → Counts p
+counts-of : (t : ParametricSurfaceTexture) (m n : ℕ) {p : Plan} → plan t m n ≡ ok p → le one64 (raysOf m n t) ≡ true →
+    le two (samplesPerRay m n t) ≡ true → Counts p
 counts-of t m n e r s =
     let k = passes t m n e in
-    let rays = cut-between (raysOf m n t) 1 65536 (lit≤ tt) (lit≤ tt) (unfold natFloat ofInt ofBits in r) (unfold natFloat ofInt ofBits in (k .1)) in
-    let samples = cut-between (samplesPerRay m n t) 2 65536 (lit≤ tt) (lit≤ tt) (unfold natFloat ofInt ofBits in s) (unfold natFloat ofInt ofBits in (k .2)) in
-    rw (k .3) (record { rays-least = rays .0; rays-most = rays .1; samples-least = samples .0; samples-most = samples .1 })
+    let rays =
+    cut-between (raysOf m n t) 1 65536 (lit≤ tt) (lit≤ tt) (unfold natFloat ofInt ofBits in r)
+    (unfold natFloat ofInt ofBits in (k .1)) in
+    let samples =
+    cut-between (samplesPerRay m n t) 2 65536 (lit≤ tt) (lit≤ tt) (unfold natFloat ofInt ofBits in s)
+    (unfold natFloat ofInt ofBits in (k .2)) in
+    rw (k .3) (record {
+      rays-least = rays .0;
+      rays-most = rays .1;
+      samples-least = samples .0;
+      samples-most = samples .1;
+    })
 
 pub swirl-counts : (s w : Float) (m n : ℕ) {p : Plan} → plan (Swirl s w) m n ≡ ok p → Counts p
 unfolding swirlRays radialSampleCount stepsAlong
-swirl-counts s w m n e = counts-of (Swirl s w) m n e (larger-least _ one64 (unfold isNan ofBits in refl)) (larger-least _ two (unfold isNan ofBits in refl))
+swirl-counts s w m n e =
+    counts-of (Swirl s w) m n e (larger-least _ one64 (unfold isNan ofBits in refl))
+    (larger-least _ two (unfold isNan ofBits in refl))
 
 -- arms are rays, and no arms are one
 arms-fit : (a : ℕ) → a ≤ 64 → (1 ≤ max a 1) × (max a 1 ≤ 9007199254740992)
@@ -104,7 +122,8 @@ pub spiral-counts : (s : Float) (a m n : ℕ) {p : Plan} → plan (Spiral s a) m
 unfolding spiralSampleCount stepsAlong
 spiral-counts s a m n e =
     let b = arms-fit a (leb-true a 64 (passes (Spiral s a) m n e .0)) in
-    let one : le one64 (natFloat (max a 1)) ≡ true = rw (← one-is, nat-le 1 (max a 1) (lit≤ tt) (b .1)) (le-leb 1 (max a 1) (b .0)) in
+    let one : le one64 (natFloat (max a 1)) ≡ true =
+    rw (← one-is, nat-le 1 (max a 1) (lit≤ tt) (b .1)) (le-leb 1 (max a 1) (b .0)) in
     counts-of (Spiral s a) m n e one (larger-least _ two (unfold isNan ofBits in refl))
 
 pub grid-counts : (m n : ℕ) {p : Plan} → plan Grid m n ≡ ok p → (p .rays ≡ 0) × (p .samples ≡ 0)

@@ -12,7 +12,8 @@ use Rattle.grid.specs.Grid.{stepsFit}
 use Rattle.refusal.proofs.Laws.{unless-passed, never, answered}
 use Rattle.texture.specs.declared.plan.ParametricSurfaceTexture.{ParametricSurfaceTexture}
 use Rattle.texture.specs.declared.plan.ParametricSurfaceTexture.the-variants.{Swirl, Spiral}
-use Rattle.texture.specs.Plan.{textureSpacing, swirlRays, radialSampleCount, spiralSampleCount, raysOf, samplesPerRay, textureFits, maxCount, countsFit, planCheck, Plan, planOf, plan}
+use Rattle.texture.specs.Plan.{textureSpacing, swirlRays, radialSampleCount, spiralSampleCount, raysOf}
+use Rattle.texture.specs.Plan.{samplesPerRay, textureFits, maxCount, countsFit, planCheck, Plan, planOf, plan}
 
 module _ (m n : ℕ) {t : ParametricSurfaceTexture} {s : Float} where
   pub rays-swirl : {w x r : Float} → t ≡ Swirl s w → x ≡ textureSpacing s → r ≡ swirlRays m n x → r ≡ raysOf m n t
@@ -21,10 +22,12 @@ module _ (m n : ℕ) {t : ParametricSurfaceTexture} {s : Float} where
   pub rays-spiral : {a k : ℕ} {r : Float} → t ≡ Spiral s a → k ≡ max a 1 → r ≡ natFloat k → r ≡ raysOf m n t
   rays-spiral e p q = rw (e, q, p)
 
-  pub samples-swirl : {w x r : Float} → t ≡ Swirl s w → x ≡ textureSpacing s → r ≡ radialSampleCount m n x w → r ≡ samplesPerRay m n t
+  pub samples-swirl : {w x r : Float} → t ≡ Swirl s w → x ≡ textureSpacing s → r ≡ radialSampleCount m n x w →
+      r ≡ samplesPerRay m n t
   samples-swirl e p q = rw (e, q, p)
 
-  pub samples-spiral : {a : ℕ} {x r : Float} → t ≡ Spiral s a → x ≡ textureSpacing s → r ≡ spiralSampleCount m n x → r ≡ samplesPerRay m n t
+  pub samples-spiral : {a : ℕ} {x r : Float} → t ≡ Spiral s a → x ≡ textureSpacing s → r ≡ spiralSampleCount m n x →
+      r ≡ samplesPerRay m n t
   samples-spiral e p q = rw (e, q, p)
 
 -- the tests in their order, b and f being the code's
@@ -43,7 +46,8 @@ module _ (t : ParametricSurfaceTexture) (m n : ℕ) {b : Bool} (eb : b ≡ steps
       unfolding plan planCheck
       plan-counts l = rw (← eb, h, ← ef, k, ← er, ← es, l)
 
-      pub plan-ok : {i j : ℕ} → le r maxCount && le s maxCount ≡ true → i ≡ toUnsigned 64 r → j ≡ toUnsigned 64 s → ok (record { rays = i; samples = j }) ≡ plan t m n
+      pub plan-ok : {i j : ℕ} → le r maxCount && le s maxCount ≡ true → i ≡ toUnsigned 64 r → j ≡ toUnsigned 64 s →
+          ok (record { rays = i; samples = j }) ≡ plan t m n
       unfolding plan planCheck
       plan-ok l ei ej = rw (← eb, h, ← ef, k, ← er, ← es, l, ei, ej)
 
@@ -51,7 +55,8 @@ module _ (t : ParametricSurfaceTexture) (m n : ℕ) {b : Bool} (eb : b ≡ steps
 
 -- what is known where all tests are passed
 pub checks : (t : ParametricSurfaceTexture) (m n : ℕ) (after : Check) → planCheck t m n after ≡ Passed
-    → (stepsFit m n ≡ true) × (textureFits t ≡ true) × (countsFit (raysOf m n t) (samplesPerRay m n t) ≡ true) × (after ≡ Passed)
+    → (stepsFit m n ≡ true) × (textureFits t ≡ true) × (countsFit (raysOf m n t) (samplesPerRay m n t) ≡ true) ×
+    (after ≡ Passed)
 unfolding planCheck
 checks t m n after h =
     let counts = countsFit (raysOf m n t) (samplesPerRay m n t) in
@@ -64,7 +69,8 @@ checks t m n after h =
 abbrev chain : Bool → Bool → Bool → Check → Check
 chain a b c after = unless a Steps (unless b Texture (unless c Count after))
 
-chain-failed : {A B : Type 0} (a b c : Bool) (y : A) {k : ℕ} (after : Check) (z : Answer B) → refused k ≡ passing (chain a b c Passed) (ok y) → refused k ≡ passing (chain a b c after) z
+chain-failed : {A B : Type 0} (a b c : Bool) (y : A) {k : ℕ} (after : Check) (z : Answer B) →
+    refused k ≡ passing (chain a b c Passed) (ok y) → refused k ≡ passing (chain a b c after) z
 chain-failed true true true y after z e = never (sym e)
 chain-failed true true false y after z e = cc
 chain-failed true false c y after z e = cc
@@ -80,6 +86,9 @@ module _ (t : ParametricSurfaceTexture) (m n : ℕ) (after : Check) where
       (rw (c .0, c .1, c .2), a .1)
 
   -- where there is none, its refusal is the answer
-  pub plan-failed : {A : Type 0} {k : ℕ} (z : Answer A) → refused k ≡ plan t m n → refused k ≡ passing (planCheck t m n after) z
+  pub plan-failed : {A : Type 0} {k : ℕ} (z : Answer A) → refused k ≡ plan t m n →
+      refused k ≡ passing (planCheck t m n after) z
   unfolding plan planCheck
-  plan-failed z e = chain-failed (stepsFit m n) (textureFits t) (countsFit (raysOf m n t) (samplesPerRay m n t)) (planOf t m n) after z e
+  plan-failed z e =
+      chain-failed (stepsFit m n) (textureFits t) (countsFit (raysOf m n t) (samplesPerRay m n t))
+      (planOf t m n) after z e

@@ -17,25 +17,33 @@ use Rattle.texture.specs.declared.plan.ParametricSurfaceTexture.{Paramet
 use Rattle.texture.specs.declared.plan.ParametricSurfaceTexture.the-variants.{Swirl, Spiral}
 use Rattle.texture.specs.declared.plan.PlanAnswer.{PlanAnswer}
 use Rattle.texture.specs.declared.plan.PlanAnswer.the-variants as answers
-use Rattle.texture.specs.Plan.{centre, textureRadius, textureSpacing, spiralTurns, raysOf, samplesPerRay, planCheck, Plan, planOf, plan, statedPlan}
-use Rattle.texture.specs.Sample.{part, baseAngle, turnOf, angleOf, distanceOf, pointOf, isThere, angle, directionFits, samplePoint}
+use Rattle.texture.specs.Plan.{centre, textureRadius, textureSpacing, spiralTurns, raysOf, samplesPerRay}
+use Rattle.texture.specs.Plan.{planCheck, Plan, planOf, plan, statedPlan}
+use Rattle.texture.specs.Sample.{part, baseAngle, turnOf, angleOf, distanceOf, pointOf, isThere, angle}
+use Rattle.texture.specs.Sample.{directionFits, samplePoint}
 use Rattle.texture.proofs.Plans.{plan-passed, plan-failed}
 
 module _ (m n count i : ℕ) {t : ParametricSurfaceTexture} {s : Float} where
-  pub turn-swirl : {w a b : Float} → t ≡ Swirl s w → a ≡ natFloat i → b ≡ natFloat count → div binary64 (mul binary64 (mul binary64 tau w) a) b ≡ turnOf t m n count i
+  pub turn-swirl : {w a b : Float} → t ≡ Swirl s w → a ≡ natFloat i → b ≡ natFloat count →
+      div binary64 (mul binary64 (mul binary64 tau w) a) b ≡ turnOf t m n count i
   turn-swirl e p q = rw (e, p, q)
 
-  pub turn-spiral : {k : ℕ} {x y z : Float} → t ≡ Spiral s k → x ≡ textureSpacing s → y ≡ spiralTurns m n x → z ≡ part i count → mul binary64 (mul binary64 z tau) y ≡ turnOf t m n count i
+  pub turn-spiral : {k : ℕ} {x y z : Float} → t ≡ Spiral s k → x ≡ textureSpacing s → y ≡ spiralTurns m n x →
+      z ≡ part i count → mul binary64 (mul binary64 z tau) y ≡ turnOf t m n count i
   turn-spiral e p q r = rw (e, q, p, r)
 
-  pub distance-swirl : {w r a b : Float} → t ≡ Swirl s w → r ≡ textureRadius m n → a ≡ natFloat i → b ≡ natFloat count → div binary64 (mul binary64 r a) b ≡ distanceOf t m n count i
+  pub distance-swirl : {w r a b : Float} → t ≡ Swirl s w → r ≡ textureRadius m n → a ≡ natFloat i → b ≡ natFloat count →
+      div binary64 (mul binary64 r a) b ≡ distanceOf t m n count i
   distance-swirl e o p q = rw (e, o, p, q)
 
-  pub distance-spiral : {k : ℕ} {r z : Float} → t ≡ Spiral s k → r ≡ textureRadius m n → z ≡ part i count → mul binary64 r (sub binary64 one64 z) ≡ distanceOf t m n count i
+  pub distance-spiral : {k : ℕ} {r z : Float} → t ≡ Spiral s k → r ≡ textureRadius m n → z ≡ part i count →
+      mul binary64 r (sub binary64 one64 z) ≡ distanceOf t m n count i
   distance-spiral e o p = rw (e, o, p)
 
-pub point-is : (t : ParametricSurfaceTexture) (m n count i : ℕ) (cosine sine : Float) {r a b : Float} → r ≡ distanceOf t m n count i → a ≡ centre m → b ≡ centre n
-    → param (add binary64 a (mul binary64 cosine r)) (add binary64 b (mul binary64 sine r)) ≡ pointOf t m n count i cosine sine
+pub point-is : (t : ParametricSurfaceTexture) (m n count i : ℕ) (cosine sine : Float) {r a b : Float} →
+    r ≡ distanceOf t m n count i → a ≡ centre m → b ≡ centre n
+    → param (add binary64 a (mul binary64 cosine r)) (add binary64 b (mul binary64 sine r)) ≡
+    pointOf t m n count i cosine sine
 unfolding pointOf
 point-is t m n count i cosine sine p q r = rw (p, q, r)
 
@@ -44,12 +52,15 @@ module _ (t : ParametricSurfaceTexture) (m n ray i : ℕ) {a : PlanAnswer} (ea :
   pub angle-failed : {k : Refusal} → a ≡ answers.Refused k → refused (numberOf k) ≡ angle t m n ray i
   unfolding angle
   angle-failed {k} e =
-      plan-failed t m n (unless (isThere (planOf t m n) ray i) NotThere Passed) (ok (angleOf t m n (planOf t m n) ray i)) (ap statedPlan (sym e) ∙ ea)
+      plan-failed t m n (unless (isThere (planOf t m n) ray i) NotThere Passed)
+      (ok (angleOf t m n (planOf t m n) ray i)) (ap statedPlan (sym e) ∙ ea)
 
-  pub point-failed : (cosine sine : Float) {k : Refusal} → a ≡ answers.Refused k → refused (numberOf k) ≡ samplePoint t m n ray i cosine sine
+  pub point-failed : (cosine sine : Float) {k : Refusal} → a ≡ answers.Refused k →
+      refused (numberOf k) ≡ samplePoint t m n ray i cosine sine
   unfolding samplePoint
   point-failed cosine sine {k} e =
-      plan-failed t m n (unless (directionFits cosine sine) Direction (unless (isThere (planOf t m n) ray i) NotThere Passed))
+      plan-failed t m n
+      (unless (directionFits cosine sine) Direction (unless (isThere (planOf t m n) ray i) NotThere Passed))
       (ok (pointOf t m n (planOf t m n .samples) i cosine sine)) (ap statedPlan (sym e) ∙ ea)
 
   -- a plan of k rays and l samples each
@@ -67,7 +78,8 @@ module _ (t : ParametricSurfaceTexture) (m n ray i : ℕ) {a : PlanAnswer} (ea :
     abbrev there : Check
     there = unless (ltb ray k && leb i l) NotThere Passed
 
-    pub angle-ok : {x y : Float} → ltb ray k && leb i l ≡ true → x ≡ baseAngle k ray → y ≡ turnOf t m n l i → ok (add binary64 x y) ≡ angle t m n ray i
+    pub angle-ok : {x y : Float} → ltb ray k && leb i l ≡ true → x ≡ baseAngle k ray → y ≡ turnOf t m n l i →
+        ok (add binary64 x y) ≡ angle t m n ray i
     unfolding angle angleOf
     angle-ok h p q = rw (rays-are, samples-are, passed there .0, h, p, q)
 
@@ -87,6 +99,7 @@ module _ (t : ParametricSurfaceTexture) (m n ray i : ℕ) {a : PlanAnswer} (ea :
       unfolding samplePoint
       point-not-there g h = rw (rays-are, samples-are, passed after .0, ← eb, g, h)
 
-      pub point-ok : {x : ParamPoint} → b ≡ true → ltb ray k && leb i l ≡ true → x ≡ pointOf t m n l i cosine sine → ok x ≡ samplePoint t m n ray i cosine sine
+      pub point-ok : {x : ParamPoint} → b ≡ true → ltb ray k && leb i l ≡ true → x ≡ pointOf t m n l i cosine sine →
+          ok x ≡ samplePoint t m n ray i cosine sine
       unfolding samplePoint
       point-ok g h p = rw (rays-are, samples-are, passed after .0, ← eb, g, h, p)

@@ -1,4 +1,5 @@
--- Zeros: a finite value times 0 is a zero of its sign, 0 over what is above 0 is 0, what is above 0 over itself is 1, and a value that its rounding keeps exactly stays when a zero is added.
+-- Zeros: a finite value times 0 is a zero of its sign, 0 over what is above 0 is 0, what is above 0 over itself is 1,
+-- and a value that its rounding keeps exactly stays when a zero is added.
 use mathlib.Core.Path.{_≡_, refl, sym, _∙_}
 use mathlib.Core.Bool.{Bool, true, false, true≢false}
 use Prim.Native.Nat.{ℕ, _+_, _-_, _*_, _<_}
@@ -47,7 +48,9 @@ unfolding div
 zero-over nan p = absurd p
 zero-over (inf s) p = absurd p
 zero-over (fin true n d) p = absurd p
-zero-over (fin false n d) p = rw (not-zero n p) (round-zero false (n * up d * 1) (zero-mul (down d)) (mul-pos (mul-pos (ltb→lt 0 n p) (up-pos d)) (lit< tt)))
+zero-over (fin false n d) p =
+    rw (not-zero n p) (round-zero false (n * up d * 1) (zero-mul (down d))
+    (mul-pos (mul-pos (ltb→lt 0 n p) (up-pos d)) (lit< tt)))
 
 -- what is above 0 over itself
 pub over-self : (y : Float) → T (positive y) → div binary64 y y ≡ one64
@@ -58,7 +61,8 @@ over-self (fin true n d) p = absurd p
 over-self (fin false n d) p =
     let a = n * up d * down d in
     rw (not-zero n p)
-    (round-same binary64 false a a 1 1 (mul-pos (mul-pos (ltb→lt 0 n p) (up-pos d)) (down-pos d)) (lit< tt) (mul-comm a 1) ∙ unfold round ofBits in refl)
+    (round-same binary64 false a a 1 1 (mul-pos (mul-pos (ltb→lt 0 n p) (up-pos d)) (down-pos d)) (lit< tt)
+    (mul-comm a 1) ∙ unfold round ofBits in refl)
 
 sum-zero : (z : Bool) (a b c : ℕ) → b ≡ 0 → sum binary64 false a z b c ≡ round binary64 false a c
 unfolding sum
@@ -69,7 +73,8 @@ sum-zero true a b c h =
 sum-zero false a b c h = let k : a + b ≡ a = omega arith in simp k
 
 -- a zero, of either sign, added to a rounded value that is exact
-pub plus-zero : (x : Float) (z : Bool) (a c : ℕ) → 0 < c → x ≡ round binary64 false a c → HasValue x false a c → add binary64 x (fin z 0 (pos 0)) ≡ x
+pub plus-zero : (x : Float) (z : Bool) (a c : ℕ) → 0 < c → x ≡ round binary64 false a c → HasValue x false a c →
+    add binary64 x (fin z 0 (pos 0)) ≡ x
 unfolding add
 plus-zero nan z a c C r v = absurd v
 plus-zero (inf s) z a c C r v = absurd v

@@ -1,5 +1,5 @@
--- "Here a texture is Grid, Swirl with spacing and twist, or Spiral with spacing and arms. A plan gives rays and samples per ray by `paths_swirl` or `paths_spiral` (arms are
--- rays); Grid gives 0 and 0." Every formula in the Rust's order of operations, one rounding each.
+-- Rules 10.1 and 10.2: the plan of a texture, its counts of rays and of samples per ray. Each operation of a formula
+-- rounds once, in the order of the original.
 use mathlib.Core.Bool.{Bool, true, _&&_, cond}
 use Prim.Native.Nat.{ℕ, max}
 use lib.Dec.{leb}
@@ -26,21 +26,21 @@ two = ofBits binary64 0x4000000000000000
 abbrev pub twentieth : Float
 twentieth = ofBits binary64 0x3FA999999999999A
 
--- ---- `texture_center_radius`, in two; `texture_spacing`
+-- ---- Rules 10.1: `texture_center_radius`, in two; `texture_spacing`
 
 -- the middle of an axis of n steps
 abbrev pub centre : ℕ → Float
 centre n = mul binary64 (natFloat n) half64
 
--- half the longer axis, times √2
+-- the radius: half the longer axis, times √2
 unfoldable pub textureRadius : ℕ → ℕ → Float
 textureRadius m n = mul binary64 (mul binary64 (larger (natFloat m) (natFloat n)) half64) sqrt2
 
--- "Non-finite spacing, or at most EPS, becomes 1.0"
+-- 1 stands for a spacing that is not finite or not above EPS
 unfoldable pub textureSpacing : Float → Float
 textureSpacing x = cond (isFinite x && lt eps x) x one64
 
--- ---- `radial_sample_count`, `spiral_sample_count`
+-- ---- Rules 10.2: what `radial_sample_count` and `spiral_sample_count` share
 
 -- x rounded up, and at least `least`
 abbrev pub upFrom : Float → Float → Float
@@ -58,7 +58,8 @@ swirlRays m n spacing = upFrom one64 (div binary64 (mul binary64 tau (textureRad
 
 -- along the radius and, times it, the angle that the twist turns a ray by
 unfoldable pub radialSampleCount : ℕ → ℕ → Float → Float → Float
-radialSampleCount m n spacing twist = stepsAlong (mul binary64 (textureRadius m n) (add binary64 one64 (absolute (mul binary64 tau twist)))) spacing
+radialSampleCount m n spacing twist =
+    stepsAlong (mul binary64 (textureRadius m n) (add binary64 one64 (absolute (mul binary64 tau twist)))) spacing
 
 -- ---- `paths_spiral`
 
@@ -69,11 +70,14 @@ spiralTurns m n spacing = upFrom one64 (div binary64 (textureRadius m n) spacing
 -- along the radius and all turns, at half of it on average
 unfoldable pub spiralSampleCount : ℕ → ℕ → Float → Float
 spiralSampleCount m n spacing =
-    stepsAlong (add binary64 (textureRadius m n) (mul binary64 (mul binary64 (mul binary64 (textureRadius m n) tau) (spiralTurns m n spacing)) half64)) spacing
+    stepsAlong
+    (add binary64 (textureRadius m n)
+    (mul binary64 (mul binary64 (mul binary64 (textureRadius m n) tau) (spiralTurns m n spacing)) half64))
+    spacing
 
 -- ---- the plan
 
--- rays, before they are a count; "0 arms becomes 1"
+-- rays, before they are a count; a spiral without arms has one
 abbrev pub raysOf : ℕ → ℕ → ParametricSurfaceTexture → Float
 raysOf m n Grid = zero64
 raysOf m n (Swirl spacing twist) = swirlRays m n (textureSpacing spacing)
@@ -92,24 +96,24 @@ maxTwist = ofBits binary64 0x4050000000000000
 abbrev pub maxCount : Float
 maxCount = ofBits binary64 0x40F0000000000000
 
--- not "twist not finite or over 64 in magnitude, or arms over 64"
+-- Rules 11.1: refusal 5 is not given: the twist is from −64 to 64, and there are at most 64 arms
 abbrev pub textureFits : ParametricSurfaceTexture → Bool
 textureFits Grid = true
 textureFits (Swirl spacing twist) = atMost twist maxTwist
 textureFits (Spiral spacing arms) = leb arms 64
 
--- not "rays or samples per ray above 65,536"
+-- Rules 11.1: refusal 6 is not given: neither count is beyond 65,536
 abbrev pub countsFit : Float → Float → Bool
 countsFit rays samples = le rays maxCount && le samples maxCount
 
--- refusals 1, 5 and 6, before what comes after them
+-- Rules 11.2: refusals 1, 5 and 6, before what comes after them
 unfoldable pub planCheck : ParametricSurfaceTexture → ℕ → ℕ → Check → Check
 planCheck t m n after =
     unless (stepsFit m n) refusals.Steps
     (unless (textureFits t) refusals.Texture
     (unless (countsFit (raysOf m n t) (samplesPerRay m n t)) refusals.Count after))
 
--- the counts of a plan
+-- Rules 10.2: the counts of a plan
 pub record Plan : Type 0 where
   pub rays : ℕ
   pub samples : ℕ
@@ -121,7 +125,7 @@ planOf t m n = record { rays = toUnsigned 64 (raysOf m n t); samples = toUnsigne
 unfoldable pub plan : ParametricSurfaceTexture → ℕ → ℕ → Answer Plan
 plan t m n = passing (planCheck t m n Passed) (ok (planOf t m n))
 
--- 01's number and values of each case
+-- the number and the values of each case
 abbrev pub statedPlan : PlanAnswer → Answer Plan
 statedPlan (answers.Plan r s) = ok (record { rays = r; samples = s })
 statedPlan (answers.Refused k) = refused (numberOf k)

@@ -1,5 +1,5 @@
--- "Samples are numbered 0 to the count, both included. The angle of a sample, and its ParamPoint from a lent cosine and sine, are two calls." References: the closures in
--- `paths_swirl` and `paths_spiral`.
+-- Rules 10.3 and 10.4: the angle of a ray's sample, and its u and v from a lent cosine and sine. In the original these
+-- are the closures in `paths_swirl` and `paths_spiral`.
 use mathlib.Core.Bool.{Bool, _&&_}
 use Prim.Native.Nat.{ℕ}
 use lib.Dec.{ltb, leb}
@@ -33,20 +33,23 @@ baseAngle rays ray = mul binary64 (part ray rays) tau
 -- how far the angle of sample i of a ray is from the ray's, its samples being `count`
 abbrev pub turnOf : ParametricSurfaceTexture → ℕ → ℕ → ℕ → ℕ → Float
 turnOf Grid m n count i = zero64
-turnOf (Swirl spacing twist) m n count i = div binary64 (mul binary64 (mul binary64 tau twist) (natFloat i)) (natFloat count)
-turnOf (Spiral spacing arms) m n count i = mul binary64 (mul binary64 (part i count) tau) (spiralTurns m n (textureSpacing spacing))
+turnOf (Swirl spacing twist) m n count i =
+    div binary64 (mul binary64 (mul binary64 tau twist) (natFloat i)) (natFloat count)
+turnOf (Spiral spacing arms) m n count i =
+    mul binary64 (mul binary64 (part i count) tau) (spiralTurns m n (textureSpacing spacing))
 
--- where the ray starts, and from there on
+-- Rules 10.3: the angle of sample i of a ray
 unfoldable pub angleOf : ParametricSurfaceTexture → ℕ → ℕ → Plan → ℕ → ℕ → Float
 angleOf t m n p ray i = add binary64 (baseAngle (p .rays) ray) (turnOf t m n (p .samples) i)
 
--- how far a sample is from the centre
+-- Rules 10.4: how far a sample is from the centre
 abbrev pub distanceOf : ParametricSurfaceTexture → ℕ → ℕ → ℕ → ℕ → Float
 distanceOf Grid m n count i = zero64
-distanceOf (Swirl spacing twist) m n count i = div binary64 (mul binary64 (textureRadius m n) (natFloat i)) (natFloat count)
+distanceOf (Swirl spacing twist) m n count i =
+    div binary64 (mul binary64 (textureRadius m n) (natFloat i)) (natFloat count)
 distanceOf (Spiral spacing arms) m n count i = mul binary64 (textureRadius m n) (sub binary64 one64 (part i count))
 
--- so far from the centre, along the cosine and the sine
+-- Rules 10.4: the point that is so far from the centre, along the cosine and the sine
 unfoldable pub pointOf : ParametricSurfaceTexture → ℕ → ℕ → ℕ → ℕ → Float → Float → ParamPoint
 pointOf t m n count i cosine sine =
     let r = distanceOf t m n count i in
@@ -54,26 +57,28 @@ pointOf t m n count i cosine sine =
 
 -- ---- the calls
 
--- not "a ray, sample .. that is not there": Grid has no ray
+-- Rules 11.1: refusal 8 is not given: the plan has this ray, and the ray this sample, the last one too; Grid has no ray
 abbrev pub isThere : Plan → ℕ → ℕ → Bool
 isThere p ray i = ltb ray (p .rays) && leb i (p .samples)
 
--- refusals 1, 5, 6 and 8
+-- the open call `angle`: refusals 1, 5, 6 and 8
 unfoldable pub angle : ParametricSurfaceTexture → ℕ → ℕ → ℕ → ℕ → Answer Float
 angle t m n ray i =
-    passing (planCheck t m n (unless (isThere (planOf t m n) ray i) refusals.NotThere Passed)) (ok (angleOf t m n (planOf t m n) ray i))
+    passing (planCheck t m n (unless (isThere (planOf t m n) ray i) refusals.NotThere Passed))
+    (ok (angleOf t m n (planOf t m n) ray i))
 
--- not "a cosine or sine not finite or outside −1 to 1"
+-- Rules 11.1: refusal 7 is not given: both are from −1 to 1
 abbrev pub directionFits : Float → Float → Bool
 directionFits cosine sine = atMost cosine one64 && atMost sine one64
 
--- refusals 1, 5, 6, 7 and 8
+-- the open call `sample_point`: refusals 1, 5, 6, 7 and 8
 unfoldable pub samplePoint : ParametricSurfaceTexture → ℕ → ℕ → ℕ → ℕ → Float → Float → Answer ParamPoint
 samplePoint t m n ray i cosine sine =
-    passing (planCheck t m n (unless (directionFits cosine sine) refusals.Direction (unless (isThere (planOf t m n) ray i) refusals.NotThere Passed)))
+    passing (planCheck t m n (unless (directionFits cosine sine) refusals.Direction
+    (unless (isThere (planOf t m n) ray i) refusals.NotThere Passed)))
     (ok (pointOf t m n (planOf t m n .samples) i cosine sine))
 
--- 01's number and values of each case
+-- the number and the values of each case
 abbrev pub statedAngle : AngleAnswer → Answer Float
 statedAngle (angles.Angle a) = ok a
 statedAngle (angles.Refused k) = refused (numberOf k)

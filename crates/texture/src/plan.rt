@@ -1,4 +1,4 @@
-// The plan of a texture: rays, and samples per ray.
+// The plan of a texture: rays, and samples per ray (Rules 10.1, 10.2).
 use float::cast::to_f64;
 use float::cast::to_usize;
 use float::consts::EPS;
@@ -12,9 +12,11 @@ use float::sign::is_finite;
 use float::whole::ceil;
 use grid::steps_fit;
 use refusal::Refusal;
-ghost use mathlib.Core.Path.{_≡_};
 ghost use Prim.Native.Nat.{max};
-ghost use Rattle.texture.specs.Plan.{textureRadius, textureSpacing, upFrom, stepsAlong, swirlRays, radialSampleCount, spiralTurns, spiralSampleCount, raysOf, samplesPerRay, textureFits, plan, statedPlan};
+ghost use mathlib.Core.Path.{_≡_};
+ghost use Rattle.texture.specs.Plan.{textureRadius, textureSpacing, upFrom, stepsAlong, swirlRays};
+ghost use Rattle.texture.specs.Plan.{radialSampleCount, spiralTurns, spiralSampleCount, raysOf, samplesPerRay};
+ghost use Rattle.texture.specs.Plan.{textureFits, plan, statedPlan};
 
 // The largest magnitude of a twist, and the most arms.
 const MAX_TWIST: f64 = 64.0;
@@ -44,7 +46,7 @@ pub fn texture_radius(m: usize, n: usize) -> f64
     max(to_f64(m), to_f64(n)) * 0.5 * SQRT_2
 }
 
-// A spacing that is not finite, or at most EPS, becomes 1.0.
+// 1.0 stands for a spacing that is not finite or not above EPS.
 pub fn texture_spacing(spacing: f64) -> f64
     ensures { λ r. ⌜ r ≡ textureSpacing spacing ⌝ }
 {

@@ -1,4 +1,4 @@
-// The angle of a ray's sample, and its point from a lent cosine and sine.
+// The angle of a ray's sample, and its point from a lent cosine and sine (Rules 10.3, 10.4).
 use crate::plan::ParametricSurfaceTexture;
 use crate::plan::PlanAnswer;
 use crate::plan::plan;
@@ -12,7 +12,8 @@ use param::ParamPoint;
 use refusal::Refusal;
 ghost use mathlib.Core.Path.{_≡_};
 ghost use Rattle.texture.specs.Plan.{centre};
-ghost use Rattle.texture.specs.Sample.{part, baseAngle, turnOf, distanceOf, pointOf, directionFits, angle, samplePoint, statedAngle, statedPoint};
+ghost use Rattle.texture.specs.Sample.{part, baseAngle, turnOf, distanceOf, pointOf, directionFits, angle};
+ghost use Rattle.texture.specs.Sample.{samplePoint, statedAngle, statedPoint};
 
 // The angle of a sample, or a refusal.
 pub enum AngleAnswer {

@@ -15,4 +15,5 @@ returns-3 c = rw (← c .before .before .total-cmp .ensures, c .enum-told3 .give
 pub mt-total-cmp-spec : {M : Type 1} → statement M
 mt-total-cmp-spec =
     tie.close
-    (tie.spec (λ c κs. search needs) (λ c. search needs) (λ c. search needs) (λ c. search needs) returns returns-2 returns-3)
+    (tie.spec (λ c κs. search needs) (λ c. search needs) (λ c. search needs) (λ c. search needs) returns returns-2
+    returns-3)

@@ -23,7 +23,11 @@ mt-get-spec =
     (λ c κs. search needs)
     (λ c κs. search needs)
     (λ c. search needs)
-    (λ c. omega (arith, span-bounds _ _ _ _ _ (c .before .start .given .1) (c .before .before .before .line-span .ensures)))
+    (λ c. omega (
+      arith,
+      span-bounds _ _ _ _ _ (c .before .start .given .1)
+          (c .before .before .before .line-span .ensures),
+    ))
     (λ c. search needs)
     returns
     returns-2)

@@ -6,7 +6,8 @@ use Rattle.merlontrispa.proofs.lines.mt_grid_paths.Statement.{statement
 use Rattle.merlontrispa.proofs.lines.mt_grid_paths.Tie as tie
 
 returns : tie.Need-returns
-returns c = answered-in pathsAnswer (c .paths-to-c .ensures) (c .before .before .before .before .before .grid-paths .ensures)
+returns c =
+    answered-in pathsAnswer (c .paths-to-c .ensures) (c .before .before .before .before .before .grid-paths .ensures)
 
 pub mt-grid-paths-spec : {M : Type 1} → statement M
 mt-grid-paths-spec =

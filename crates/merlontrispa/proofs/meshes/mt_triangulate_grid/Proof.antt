@@ -1,4 +1,5 @@
--- `mesh_to_c` is given what `triangulate_grid` answers, the lists are those that it leaves, and what it says of the surface is passed on.
+-- `mesh_to_c` is given what `triangulate_grid` answers, the lists are those that it leaves, and what it says of the
+-- surface is passed on.
 use borrow.Author.Needs.{needs}
 use Rattle.lent.proofs.Laws.{answered-in}
 use Rattle.merlontrispa.specs.Meshes.{meshAnswer}

@@ -1,4 +1,5 @@
--- In each arm the match says which answer it is, `joined` and `unjoined` give its seam, and `number` the number of a refusal.
+-- In each arm the match says which answer it is, `joined` and `unjoined` give its seam, and `number` the number of a
+-- refusal.
 use borrow.Author.Needs.{needs}
 use Rattle.merlontrispa.proofs.seams.rows_to_c.Statement.{statement}
 use Rattle.merlontrispa.proofs.seams.rows_to_c.Tie as tie

@@ -7,4 +7,5 @@ returns : tie.Need-returns
 returns c = rw (c .all-close .ensures, c .before .from-c2 .ensures, c .before .before .from-c .ensures)
 
 pub mt-vector-all-close-spec : {M : Type 1} → statement M
-mt-vector-all-close-spec = tie.close (tie.spec (λ c κs. search needs) (λ c κs. search needs) (λ c κs. search needs) returns)
+mt-vector-all-close-spec =
+    tie.close (tie.spec (λ c κs. search needs) (λ c κs. search needs) (λ c κs. search needs) returns)

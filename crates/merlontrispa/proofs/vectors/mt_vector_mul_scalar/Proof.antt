@@ -7,4 +7,5 @@ returns : tie.Need-returns
 returns c = rw (c .to-c .ensures, c .before .mul-scalar .ensures, c .before .before .from-c .ensures)
 
 pub mt-vector-mul-scalar-spec : {M : Type 1} → statement M
-mt-vector-mul-scalar-spec = tie.close (tie.spec (λ c κs. search needs) (λ c κs. search needs) (λ c κs. search needs) returns)
+mt-vector-mul-scalar-spec =
+    tie.close (tie.spec (λ c κs. search needs) (λ c κs. search needs) (λ c κs. search needs) returns)

@@ -8,7 +8,8 @@ returns : tie.Need-returns
 returns c =
     let k = c .before .before .before in
     let r = k .before in
-    angle-ok _ _ _ _ _ (r .before .before .plan .ensures) (r .rays .given .1) (c .before .before .if1 .taken) (c .before .base-angle .ensures) (c .turn .ensures)
+    angle-ok _ _ _ _ _ (r .before .before .plan .ensures) (r .rays .given .1) (c .before .before .if1 .taken)
+    (c .before .base-angle .ensures) (c .turn .ensures)
 
 returns-2 : tie.Need-returns-2
 returns-2 c =

@@ -8,19 +8,22 @@ use Rattle.texture.proofs.sample.sample_point.Tie as tie
 returns : tie.Need-returns
 returns c =
     let r = c .before .before .before in
-    point-direction _ _ _ _ _ (r .before .before .plan .ensures) (r .rays .given .1) _ _ (c .before .direction-fits .ensures) (not-true _ (c .if1 .taken))
+    point-direction _ _ _ _ _ (r .before .before .plan .ensures) (r .rays .given .1) _ _
+    (c .before .direction-fits .ensures) (not-true _ (c .if1 .taken))
 
 returns-2 : tie.Need-returns-2
 returns-2 c =
     let e = c .before .before in
     let r = e .before .before .before in
-    point-ok _ _ _ _ _ (r .before .before .plan .ensures) (r .rays .given .1) _ _ (e .before .direction-fits .ensures) (not-false _ (e .if1 .left)) (c .before .if2 .taken) (c .point .ensures)
+    point-ok _ _ _ _ _ (r .before .before .plan .ensures) (r .rays .given .1) _ _ (e .before .direction-fits .ensures)
+    (not-false _ (e .if1 .left)) (c .before .if2 .taken) (c .point .ensures)
 
 returns-3 : tie.Need-returns-3
 returns-3 c =
     let e = c .before in
     let r = e .before .before .before in
-    point-not-there _ _ _ _ _ (r .before .before .plan .ensures) (r .rays .given .1) _ _ (e .before .direction-fits .ensures) (not-false _ (e .if1 .left)) (c .if2 .left)
+    point-not-there _ _ _ _ _ (r .before .before .plan .ensures) (r .rays .given .1) _ _
+    (e .before .direction-fits .ensures) (not-false _ (e .if1 .left)) (c .if2 .left)
 
 returns-4 : tie.Need-returns-4
 returns-4 c =

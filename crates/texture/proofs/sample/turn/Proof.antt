@@ -7,11 +7,14 @@ use Rattle.texture.proofs.sample.turn.Tie as tie
 
 returns-2 : tie.Need-returns-2
 unfolding tau
-returns-2 c = turn-swirl _ _ _ _ (c .before .before .before .texture .given .1) (c .before .to-f64 .ensures) (c .to-f642 .ensures)
+returns-2 c =
+    turn-swirl _ _ _ _ (c .before .before .before .texture .given .1) (c .before .to-f64 .ensures) (c .to-f642 .ensures)
 
 returns-3 : tie.Need-returns-3
 unfolding tau
-returns-3 c = turn-spiral _ _ _ _ (c .before .before .before .before .texture2 .given .1) (c .before .before .texture-spacing .ensures) (c .before .spiral-turns .ensures) (c .part .ensures)
+returns-3 c =
+    turn-spiral _ _ _ _ (c .before .before .before .before .texture2 .given .1)
+    (c .before .before .texture-spacing .ensures) (c .before .spiral-turns .ensures) (c .part .ensures)
 
 pub turn-spec : {M : Type 1} → statement M
 turn-spec =
