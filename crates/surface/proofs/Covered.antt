@@ -1,6 +1,6 @@
 -- The joinings of a shape that the theorem is proved for: the covered ones (Rules 5.2) and, where corners pass the
--- rules twice, one more. Demand 3 is promised for the seams that are found (`CoveredJoining`); Joinings shows that
--- these make such a shape.
+-- rules twice, also Reverse at offset 0 beside Forward at offset 0. Demand 3 is promised for the seams that are found
+-- (`CoveredJoining`); Joinings shows that these make such a shape.
 use Prim.Native.Nat.{ℕ, _<_}
 use mathlib.Core.Path.{_≡_}
 use Rattle.surface.specs.Surface.{Seam, unjoined, forward, reverse, Rule, once, twice, Shape}
@@ -11,8 +11,8 @@ AtZero unjoined = ⊥
 AtZero (forward o) = o ≡ 0
 AtZero (reverse o) = o ≡ 0
 
--- A seam beside one that is forward at offset 0: forward, or reverse and not at offset 0, which is left in where
--- corners pass the rules twice. An offset is one of the row: below its steps.
+-- A seam beside one that is forward at offset 0: forward, or reverse; reverse at offset 0 only where corners pass the
+-- rules twice. An offset is one of the row: below its steps.
 abbrev pub Beside : Rule → Seam → ℕ → Type 0
 Beside r unjoined steps = ⊥
 Beside r (forward o) steps = o < steps
