@@ -11,8 +11,8 @@ AtZero unjoined = ⊥
 AtZero (forward o) = o ≡ 0
 AtZero (reverse o) = o ≡ 0
 
--- A seam beside one that is forward at offset 0: forward, or reverse and not at offset 0, which is left in where
--- corners pass the rules twice. An offset is one of the row: below its steps.
+-- A seam beside one that is forward at offset 0: forward, or reverse; reverse at offset 0 only where corners pass the
+-- rules twice. An offset is one of the row: below its steps.
 abbrev pub Beside : Rule → Seam → ℕ → Type 0
 Beside r unjoined steps = ⊥
 Beside r (forward o) steps = o < steps
