@@ -101,6 +101,19 @@ refused c = c .before .before .before .before .before .before .before .before .b
 abbrev went-on : tie.After-known-told Inv-loop μ-loop → tie.After-draw-event Inv-loop μ-loop
 went-on c = c .before .before .before .before .before .before .before .before .before .before .before
 
+-- the lists after it
+abbrev points-kept : tie.After-known-told Inv-loop μ-loop → tie.After-points Inv-loop μ-loop
+points-kept c = c .before .before .before .before .before .before .before .before .before .before
+
+abbrev starts-kept : tie.After-known-told Inv-loop μ-loop → tie.After-starts Inv-loop μ-loop
+starts-kept c = c .before .before .before .before .before .before .before .before
+
+abbrev sides-kept : tie.After-known-told Inv-loop μ-loop → tie.After-sides Inv-loop μ-loop
+sides-kept c = c .before .before .before .before .before .before
+
+abbrev fractions-kept : tie.After-known-told Inv-loop μ-loop → tie.After-fractions Inv-loop μ-loop
+fractions-kept c = c .before .before .before .before
+
 same-length : tie.Need-same-length Inv-loop μ-loop
 same-length c = lambdas-kept (looping (refused c)) .lambdas .given
 
@@ -135,12 +148,12 @@ loop-again c =
       omega (arith, looped e .loop-test .taken),
       omega (
         arith,
-        c .before .before .before .before .before .before .before .before .before .before .points .given,
+        points-kept c .points .given,
         l .loop .inv .1,
       ),
-      omega (arith, c .before .before .before .before .before .before .before .before .starts .given, l .loop .inv .2),
-      omega (arith, c .before .before .before .before .before .before .sides .given, l .loop .inv .3),
-      omega (arith, c .before .before .before .before .fractions .given, l .loop .inv .4),
+      omega (arith, starts-kept c .starts .given, l .loop .inv .2),
+      omega (arith, sides-kept c .sides .given, l .loop .inv .3),
+      omega (arith, fractions-kept c .fractions .given, l .loop .inv .4),
       fits-down (onPage (movesOf (e .decide .result)) w) (d .draw-event .ensures) (c .before .drawn .given .1)
           (moves-fit (movesOf (e .decide .result)) w (l .loop .inv .5)),
       turn-goes (now (a .grid)) (a .cells) (a .leg) (o .last .0) (o .last .1 .0) (o .result) (l .loop .i) (below l)

@@ -24,6 +24,9 @@ started p = pointed p .before .before .before .before .before .before
 abbrev pushed : tie.After-pushed → tie.After-push-segment-point
 pushed p = p .before .before .before .before .before .before .before .before
 
+abbrev refused : tie.After-known-told3 → tie.After-push-segment-point
+refused c = c .before .before .before .before .before .before .before .before .before
+
 flush-unless-requires : tie.Need-flush-unless-requires
 flush-unless-requires c κs =
     let p = pushed (c .before .before) in
@@ -41,7 +44,7 @@ returns c =
 
 returns-2 : tie.Need-returns-2
 returns-2 c =
-    let p = c .before .before .before .before .before .before .before .before .before in
+    let p = refused c in
     draws-full (started p .args .decision) (lent (started p)) (pointed p .point .given .1)
     (p .push-segment-point .ensures (now (started p .args .starts))) (c .before .refusal .given .1)
 

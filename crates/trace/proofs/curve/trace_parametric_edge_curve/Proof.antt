@@ -49,6 +49,19 @@ abbrev went-on : tie.After-after-sample Inv-loop μ-loop → tie.After-trace-sam
 went-on c =
     c .before .before .before .before .before .before .before .before .before .before .before .before .before .before
 
+-- the lists after it
+abbrev points-kept : tie.After-after-sample Inv-loop μ-loop → tie.After-points Inv-loop μ-loop
+points-kept c = c .before .before .before .before .before .before .before .before .before .before .before
+
+abbrev starts-kept : tie.After-after-sample Inv-loop μ-loop → tie.After-starts Inv-loop μ-loop
+starts-kept c = c .before .before .before .before .before .before .before .before .before
+
+abbrev sides-kept : tie.After-after-sample Inv-loop μ-loop → tie.After-sides Inv-loop μ-loop
+sides-kept c = c .before .before .before .before .before .before .before
+
+abbrev fractions-kept : tie.After-after-sample Inv-loop μ-loop → tie.After-fractions Inv-loop μ-loop
+fractions-kept c = c .before .before .before .before .before
+
 trace-sample-requires : tie.Need-trace-sample-requires Inv-loop μ-loop
 trace-sample-requires c κs =
     let l = looped (c .before .before .before .before .before .before) .before in
@@ -80,14 +93,14 @@ loop-again c =
     let ms = visitMoves (now (a .grid)) (a .cells) (v .visit-of .result) in
     let w = page (lists (l .loop .points) (l .loop .starts) (l .loop .sides) (l .loop .fractions)) (l .loop .pen) in (
       omega (arith, looped v .loop-test .taken),
-      omega (arith, c .before .before .before .before .before .before .before .before .before .before .before .points .given, l .loop .inv .1),
+      omega (arith, points-kept c .points .given, l .loop .inv .1),
       omega (
         arith,
-        c .before .before .before .before .before .before .before .before .before .starts .given,
+        starts-kept c .starts .given,
         l .loop .inv .2,
       ),
-      omega (arith, c .before .before .before .before .before .before .before .sides .given, l .loop .inv .3),
-      omega (arith, c .before .before .before .before .before .fractions .given, l .loop .inv .4),
+      omega (arith, sides-kept c .sides .given, l .loop .inv .3),
+      omega (arith, fractions-kept c .fractions .given, l .loop .inv .4),
       search needs,
       search needs,
       fits-down (onPage ms w) (t .trace-sample .ensures) (c .before .before .traced .given .1)

@@ -18,20 +18,29 @@ visited c = c .before .before .before .before .before .before .before .before
 abbrev started : tie.After-visit → tie.Start
 started c = c .before .before .before .before .before .before .before .before .before
 
+abbrev walked : tie.After-slice-known13 → tie.After-append-edge-crossings
+walked c = c .before .before .before .before .before .before .before .before .before .before .before .before
+
+-- the start, where the visit is a break, and where it is a first point
+abbrev broken : tie.After-enum-told → tie.Start
+broken c = c .before .before .before .before .before .before .before .before .before
+
+abbrev alone : tie.After-enum-told2 → tie.Start
+alone c = c .before .before .before .before .before .before .before .before .before
+
 returns : tie.Need-returns
 returns c =
     let e = c .before .before .before .before in
-    let s = e .before .before .before .before .before .before .before .before .before in
-    sample-break _ _ (lent s) (e .enum-told .given .1) (c .before .before .flush-segment .ensures _ _ _)
+    sample-break _ _ (lent (broken e)) (e .enum-told .given .1) (c .before .before .flush-segment .ensures _ _ _)
 
 returns-2 : tie.Need-returns-2
 returns-2 c =
-    let t = c .before .before .before .before .before .before .before .before .before .before .before .before in
+    let t = walked c in
     sample-leg _ _ (lent (started (visited t))) (visited t .visit .given .1) (t .append-edge-crossings .ensures)
 
 returns-3 : tie.Need-returns-3
 returns-3 c =
-    sample-first _ _ (lent (c .before .before .before .before .before .before .before .before .before))
+    sample-first _ _ (lent (alone c))
     (c .enum-told2 .given .1)
 
 pub trace-sample-spec : {M : Type 1} → statement M

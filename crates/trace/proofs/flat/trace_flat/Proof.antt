@@ -25,6 +25,12 @@ checked c = c .before .before
 abbrev walked : tie.After-count-in → tie.After-trace-parametric-edge-curve
 walked c = c .before .before .before .before .before .before .before .before .before
 
+abbrev points-kept : tie.After-count-in → tie.After-points
+points-kept c = c .before .before .before .before .before .before .before .before
+
+abbrev counted-in : tie.After-zero-numbers-arg2 → tie.After-count-in
+counted-in c = c .before .before .before .before .before .before .before .before .before .before
+
 -- the lists as they were lent
 abbrev lent : tie.Start → Lists
 lent s = let a = s .args in lists (now (a .points)) (now (a .starts)) (now (a .sides)) (now (a .fractions))
@@ -43,7 +49,7 @@ fits c =
       c .count-in .ensures,
       counted (now (a .grid)) (a .m) (a .n) (now (a .pairs)) (now (a .marks)) (lent s)
           (t .trace-parametric-edge-curve .ensures),
-      c .before .before .before .before .before .before .before .before .points .given,
+      points-kept c .points .given,
       lent-short s,
     )
 
@@ -67,9 +73,7 @@ mul-zero-floats : tie.Need-mul-zero-floats
 mul-zero-floats c = omega (arith, fits (c .before))
 
 mul-zero-numbers : tie.Need-mul-zero-numbers
-mul-zero-numbers c =
-    let n = c .before .before .before .before .before .before .before .before .before .before in
-    omega (arith, fits n)
+mul-zero-numbers c = omega (arith, fits (counted-in c))
 
 returns-2 : tie.Need-returns-2
 returns-2 c =
