@@ -1,7 +1,7 @@
-/* Calls the library through its C boundary with what a fuzzer's bytes say, and checks what is true of every
-   call: which refusal is given (Rules 11), what it leaves in the lent lists, and zeros past the counts
-   (Rules 8); numbers inside the grid. A list lies against a page that cannot be touched, so that reading or
-   writing past it ends the process. */
+/* Calls the library through its C boundary with what a fuzzer's bytes say, and checks what is true
+   of every call: which refusal is given (Rules 11), what it leaves in the lent lists, and zeros past
+   the counts (Rules 8); numbers inside the grid. A list lies against a page that cannot be touched,
+   so that reading or writing past it ends the process. */
 #include "input.h"
 #include "merlontrispa.h"
 
@@ -22,8 +22,8 @@ enum { MOST_STEPS = 7, MOST_POINTS = 24, MOST_SAMPLES = 24 };
         } \
     } while (0)
 
-/* A branch of its own for each number up to 23, refusals and small counts, so that the fuzzer sees which it
-   was: a remark in the machine code keeps the branches apart. */
+/* A branch of its own for each number up to 23, refusals and small counts, so that the fuzzer sees
+   which it was: a remark in the machine code keeps the branches apart. */
 #define BRANCH(n) \
     case n: \
         __asm__ volatile("# " #n); \

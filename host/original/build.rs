@@ -58,8 +58,8 @@ const LENT: [(&str, &str, usize); 3] = [
     ("angle.sin()", "sine(angle)", 2),
 ];
 
-/// A copy of parametric.rs in which a sample's cosine and sine are lent, or a sentence that says what is not in
-/// the file as it should be.
+/// A copy of parametric.rs in which a sample's cosine and sine are lent, or a sentence that says
+/// what is not in the file as it should be.
 fn lent(sources: &Path) -> Result<String, String> {
     let file = sources.join("parametric.rs");
     let text = fs::read_to_string(&file).map_err(|fault| format!("{}: {fault}", file.display()))?;

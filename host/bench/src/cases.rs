@@ -20,8 +20,8 @@ pub fn run(table: &Table) {
     let grid = plane(STEPS);
     rows::lines(table, "grid lines, 255 by 255", STEPS, &grid);
     for (name, samples) in [
-        ("trace, 255 by 255, 10,000 half steps", spiral()),
-        ("trace, 255 by 255, 100 steps across", across()),
+        ("trace, 255 by 255, 10,000 legs of half a step", spiral()),
+        ("trace, 255 by 255, 100 legs across", across()),
     ] {
         rows::trace(table, name, STEPS, &grid, &samples);
     }
@@ -62,7 +62,7 @@ fn records(table: &Table, grid: &[f64]) {
     let (pairs, marks) = (samples.as_flattened(), vec![1; samples.len()]);
     let [mut by_records, mut by_flat] = [0; 2].map(|_| Lists::new(8 * samples.len()));
     table.row(
-        "records beside flat, 10,000 half steps",
+        "records beside flat, 10,000 legs of half a step",
         call(|| trace_samples(grid, STEPS, STEPS, &records, by_records.lend())),
         call(|| trace_flat(grid, STEPS, STEPS, pairs, &marks, by_flat.lend())),
     );
@@ -85,7 +85,7 @@ fn torus() -> Vec<f64> {
     })
 }
 
-/// A spiral of 10,000 steps, its samples half a step apart.
+/// A spiral of 10,000 legs, its samples half a step apart.
 fn spiral() -> Vec<[f64; 2]> {
     let middle = STEPS as f64 / 2.0;
     let sample = |i| {

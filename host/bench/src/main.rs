@@ -4,8 +4,8 @@
 //!     cargo run --release -p bench -- --stack
 //!
 //! The two take turns, and the table has the median time of each, the median of the ratios of
-//! neighbouring runs and its quartiles. Names choose the rows that begin so. `--growth` has rows of several
-//! sizes, and `--stack` the most stack that each call takes.
+//! neighbouring runs and its quartiles. Names choose the rows that begin so. `--growth` has rows of
+//! several sizes, and `--stack` the most stack that each call takes.
 
 use std::process::ExitCode;
 

@@ -1,9 +1,10 @@
 //! The most stack that each call takes.
 //!
-//! A thread with a stack of fixed size goes down through frames of one size, and makes the call from the
-//! deepest. The stack overflows, which ends the process, where the frames and the call together are more
-//! than it has; so each depth is tried in a process of its own, and the deepest that ends well is found by
-//! halving. What a call takes is the depth that it costs against a call of nothing, in bytes.
+//! A thread with a stack of fixed size goes down through frames of one size, and makes the call
+//! from the deepest. The stack overflows, which ends the process, where the frames and the call
+//! together are more than it has; so each depth is tried in a process of its own, and the deepest
+//! that ends well is found by halving. What a call takes is the depth that it costs against a call
+//! of nothing, in bytes.
 
 use crate::inputs::{Lists, circle, klein};
 use merlontrispa::{

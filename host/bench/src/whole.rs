@@ -1,4 +1,5 @@
-//! Whole swirls and spirals: plan, angles, points and trace beside what the original draws of the texture.
+//! Whole swirls and spirals: plan, angles, points and trace beside what the original draws of the
+//! texture.
 
 use crate::clock::{Table, call};
 use crate::inputs::{Lists, grid};

@@ -89,7 +89,8 @@ fn keep(x: f64, bits: u32) -> f64 {
     f64::from_bits(x.to_bits() & !(u64::MAX >> (12 + bits)))
 }
 
-/// Zero, whole, finite, infinite, NaN; then fewer bits of the fraction, then nearer to 1, then positive.
+/// Zero, whole, finite, infinite, NaN; then fewer bits of the fraction, then nearer to 1, then
+/// positive.
 fn plainness(x: f64) -> (u8, u32, u64, bool) {
     let kind = match x {
         0.0 => 0,

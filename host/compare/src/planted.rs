@@ -4,9 +4,9 @@ use crate::difference::{Difference, Saved};
 use crate::driver::{Amount, Compared, Driver, Ended, Task};
 use std::time::Duration;
 
-/// The smallest case that a comparison of a wrong library is found to differ on. The same case differs
-/// when it is replayed, and does so no longer where the comparison is of the `mended` library. Handed back
-/// are its words, floats by their values and points that are all zero as `o`.
+/// The smallest case that a comparison of a wrong library is found to differ on. The same case
+/// differs when it is replayed, and does so no longer where the comparison is of the `mended`
+/// library. Handed back are its words, floats by their values and points that are all zero as `o`.
 pub fn found(
     wrong: impl Fn(&mut Driver) -> Compared,
     mended: impl Fn(&mut Driver) -> Compared,

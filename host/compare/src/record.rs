@@ -1,13 +1,14 @@
 //! Recorded answers: the cases that `crates/replay` runs the library on, with no Rust beside it.
 //!
-//! A case is one call: its inputs, the answer of the original or a refusal of Rules 11, and every lent list
-//! afterwards. Inputs are made at random from a seed, and one is kept if it reaches something that few
-//! of those before it reach. What has to be reached is listed here, and the command fails where it is not.
+//! A case is one call: its inputs, the answer of the original or a refusal of Rules 11, and every
+//! lent list afterwards. Inputs are made at random from a seed, and one is kept if it reaches
+//! something that few of those before it reach. What has to be reached is listed here, and the
+//! command fails where it is not.
 //!
-//! The text is of numbers to the base 16. A field is a count and as many numbers, on a line of its own; a
-//! case is a field, which begins with its count. Field 0 has the number of cases. In a case field 0 has the
-//! call, what it is held to (0 the original, 1 docs/RULES.md) and the numbers it takes; lists follow, each its
-//! length and its places without the zeros at its end.
+//! The text is of numbers to the base 16. A field is a count and as many numbers, on a line of its
+//! own; a case is a field, which begins with its count. Field 0 has the number of cases. In a case
+//! field 0 has the call, what it is held to (0 the original, 1 docs/RULES.md) and the numbers it
+//! takes; lists follow, each its length and its places without the zeros at its end.
 
 use crate::inputs::grids::Grid;
 use crate::layers::{lines, meshes, seams, textures, traces, vectors};

@@ -131,7 +131,8 @@ impl Sheet {
     }
 }
 
-/// A line cut where it passes from one band of depth to another; each part starts where the last one ends.
+/// A line cut where it passes from one band of depth to another; each part starts where the last
+/// one ends.
 fn parts(line: &[Seen]) -> Vec<(usize, &[Seen])> {
     let segment_band = |i: usize| band((line[i].depth + line[i + 1].depth) / 2.0);
     let (mut parts, mut start) = (Vec::new(), 0);

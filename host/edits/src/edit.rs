@@ -7,8 +7,9 @@
 //!     old: if is_negative(x) { -x } else { x }
 //!     new: if is_negative(x) { x } else { x }
 //!
-//! `leaves: law proofs/Demands.antt demand3` names a lemma or a known result in the place of a function.
-//! `rt` reads the last three kinds of lines and makes every change of a file before its one check.
+//! `leaves: law proofs/Demands.antt demand3` names a lemma or a known result in the place of a
+//! function. `rt` reads the last three kinds of lines and makes every change of a file before its
+//! one check.
 
 /// What a wrong program must leave unproved.
 #[derive(Debug, Clone, PartialEq, Eq)]
@@ -27,7 +28,8 @@ pub struct Change {
     pub new: String,
 }
 
-/// A wrong program: what it is called, what it must leave unproved, and how it comes from the right one.
+/// A wrong program: what it is called, what it must leave unproved, and how it comes from the right
+/// one.
 #[derive(Debug, Clone, PartialEq, Eq, Default)]
 pub struct Wrong {
     pub name: String,

@@ -36,8 +36,9 @@ impl Tried<'_> {
             .try_for_each(|left| self.log.leaves(left))
     }
 
-    /// The functions that a wrong program changes are the ones it names, and none of them is proved by hand: a proof by
-    /// hand follows the code word by word, and is refused whatever a change means.
+    /// The functions that a wrong program changes are the ones it names, and none of them is proved
+    /// by hand: a proof by hand follows the code word by word, and is refused whatever a change
+    /// means.
     fn in_place(&self, wrong: &Wrong) -> Result<(), String> {
         let named: BTreeSet<String> = wrong.functions().map(str::to_string).collect();
         let mut touched = BTreeSet::new();
@@ -76,9 +77,9 @@ impl Tried<'_> {
         proof.is_some_and(|text| !text.contains(".Tie as "))
     }
 
-    /// Wrong programs share a check only where each is a change of code, and no function that one of them names is
-    /// named again or reaches another one by calls. A changed definition or lemma can bring down any number of
-    /// proofs, so its program has a check to itself.
+    /// Wrong programs share a check only where each is a change of code, and no function that one
+    /// of them names is named again or reaches another one by calls. A changed definition or lemma
+    /// can bring down any number of proofs, so its program has a check to itself.
     fn alone(&self, programs: &[Wrong]) -> Result<(), String> {
         if programs.len() > 1 && !programs.iter().all(Wrong::of_code) {
             return Err("a change of specs/ or proofs/ shares its check".to_string());
@@ -137,7 +138,8 @@ mod tests {
             .into()
     }
 
-    /// The verdicts on an edit whose check says that each of these functions does not close a need of its own.
+    /// The verdicts on an edit whose check says that each of these functions does not close a need
+    /// of its own.
     fn verdicts(text: &str, unproved: &[&str]) -> Vec<Result<(), String>> {
         let programs = parse(text).unwrap();
         let source = Source::new("k", crate_files());

@@ -2,9 +2,9 @@
 
 use crate::edit::Left;
 
-/// antt has these words where a proof does not show a fact that it needs. An error in other words tells nothing of the
-/// program's meaning: a need or a field that is not there under its name, a name that is not in scope, a file that
-/// cannot be read.
+/// antt has these words where a proof does not show a fact that it needs. An error in other words
+/// tells nothing of the program's meaning: a need or a field that is not there under its name, a
+/// name that is not in scope, a file that cannot be read.
 const FACT_FAILS: &[&str] = &[
     // a proof of another statement than the one asked for
     "the two types differ",
@@ -26,7 +26,8 @@ const FACT_FAILS: &[&str] = &[
     "the goal does not follow from what it read",
 ];
 
-/// antt has these where a declaration cites another that failed: an error that follows from another error.
+/// antt has these where a declaration cites another that failed: an error that follows from another
+/// error.
 const FOLLOWS: &str = "was not admitted (";
 
 /// The log of one check.

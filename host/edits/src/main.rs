@@ -2,11 +2,12 @@
 //!
 //!     edits [CRATE..]
 //!
-//! Run after `rt ci` or `rt must-fail`, in the repository. `rt` has seen to it that each `.edit` file is refused; this
-//! program reads the logs that it left below `target/must-fail`, and fails unless every function and law that a wrong
-//! program names is refused for its own sake: its own proof does not show a fact that it needs, and it is not refused
-//! for a callee's sake or for a name that is gone. `edit.rs` has the form of a file, `log.rs` the words of a log,
-//! `judge.rs` the rules.
+//! Run after `rt ci` or `rt must-fail`, in the repository. `rt` has seen to it that each `.edit`
+//! file is refused; this program reads the logs that it left below `target/must-fail`, and fails
+//! unless every function and law that a wrong program names is refused for its own sake: its own
+//! proof does not show a fact that it needs, and it is not refused for a callee's sake or for a
+//! name that is gone. `edit.rs` has the form of a file, `log.rs` the words of a log, `judge.rs` the
+//! rules.
 
 mod edit;
 mod judge;
@@ -100,7 +101,8 @@ fn judge_crate(root: &Path, krate: &str) -> Result<Vec<Verdict>, String> {
     Ok(once(verdicts))
 }
 
-/// The verdict on each wrong program of a file, from what `rt` left of its check below the folder `checks`.
+/// The verdict on each wrong program of a file, from what `rt` left of its check below the folder
+/// `checks`.
 fn judge_file(
     source: &Source,
     krate: &str,

@@ -42,7 +42,8 @@ impl Source {
             .map(String::as_str)
     }
 
-    /// Replaces `old`, which stands in the file exactly once, by `new`, and hands back the line where it stood.
+    /// Replaces `old`, which stands in the file exactly once, by `new`, and hands back the line
+    /// where it stood.
     pub fn replace(&mut self, file: &str, old: &str, new: &str) -> Result<usize, String> {
         let text = self
             .files
@@ -69,8 +70,8 @@ impl Source {
             .collect()
     }
 
-    /// The functions that a line belongs to: the one that it stands in or, where it is a constant's, those that
-    /// mention the constant.
+    /// The functions that a line belongs to: the one that it stands in or, where it is a
+    /// constant's, those that mention the constant.
     pub fn touched(&self, file: &str, line: usize) -> BTreeSet<String> {
         let functions = self.functions();
         let around = |f: &&Function| f.file == file && (f.first..=f.last).contains(&line);
@@ -90,8 +91,8 @@ impl Source {
         users.map(|f| f.path.clone()).collect()
     }
 
-    /// The other functions that one reaches by calls. A call is told by the function's last name alone, so that it may find
-    /// too many and never too few.
+    /// The other functions that one reaches by calls. A call is told by the function's last name
+    /// alone, so that it may find too many and never too few.
     pub fn reached(&self, from: &str) -> BTreeSet<String> {
         let functions = self.functions();
         let mut reached = BTreeSet::new();

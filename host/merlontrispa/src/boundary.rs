@@ -254,16 +254,16 @@ unsafe extern "C" {
     ) -> PathsAnswer;
 }
 
-/// Calls a function of the library with lists that it reads, numbers, lists that it reads, and lists that
-/// it writes, in this order; each list goes in as its pointer and its length.
+/// Calls a function of the library with lists that it reads, numbers, lists that it reads, and
+/// lists that it writes, in this order; each list goes in as its pointer and its length.
 macro_rules! call {
     ($function:ident(
         $($read:ident),*
         $(; $($number:expr),* $(; $($then_read:ident),*; $($written:ident),*)?)?
     )) => {
-        // SAFETY: each pointer and length are those of one slice, which is lent for the call. A slice that
-        // is written is a mutable one, so that no other overlaps it. The elements are numbers, or structs
-        // that are laid out as C lays out their fields.
+        // SAFETY: each pointer and length are those of one slice, which is lent for the call. A
+        // slice that is written is a mutable one, so that no other overlaps it. The elements are
+        // numbers, or structs that are laid out as C lays out their fields.
         unsafe {
             $function(
                 $($read.as_ptr(), $read.len(),)*

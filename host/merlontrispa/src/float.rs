@@ -1,4 +1,5 @@
-//! Rust's methods on `f64` with their IEEE 754 meanings, as the library uses them (Rules 12). All are total.
+//! Rust's methods on `f64` with their IEEE 754 meanings, as the library uses them (Rules 12). All
+//! are total.
 //!
 //! ```
 //! use merlontrispa::float;

@@ -5,8 +5,8 @@ use std::ops::Range;
 
 /// The lists that lines are drawn into, and read from (Rules 9).
 ///
-/// A line is a run of points, three numbers each: it ends where the next one starts, the last one at the
-/// count of points.
+/// A line is a run of points, three numbers each: it ends where the next one starts, the last one
+/// at the count of points.
 ///
 /// ```
 /// use merlontrispa::{Drawn, Lines};
@@ -46,8 +46,8 @@ pub struct Drawn {
 impl<'a> Lines<'a> {
     /// x, y and z of each point of a line: nothing where there is no such line.
     ///
-    /// There is one if `index` is less than the count of lines, neither count is more than its list holds,
-    /// and start ≤ end ≤ the count of points (Rules 9.2). It may be empty.
+    /// There is one if `index` is less than the count of lines, neither count is more than its list
+    /// holds, and start ≤ end ≤ the count of points (Rules 9.2). It may be empty.
     pub fn get(self, index: usize) -> &'a [f64] {
         let part = boundary::get(self, index);
         &self.points[part.offset..part.offset + part.length]

@@ -35,8 +35,8 @@ impl Mapping {
     /// forward before reverse. Rows whose ends are close are tried at all offsets, others at 0.
     ///
     /// # Errors
-    /// 2 where a row is not of whole points or has more than 65,536, 4 where a coordinate is NaN, infinite
-    /// or beyond ±2^40.
+    /// 2 where a row is not of whole points or has more than 65,536, 4 where a coordinate is NaN,
+    /// infinite or beyond ±2^40.
     ///
     /// ```
     /// use merlontrispa::Mapping;

@@ -59,7 +59,8 @@ pub fn triangulate_grid(
     })
 }
 
-/// A triangulated grid in lists of its own. Made by [`Surface::triangulate`](crate::Surface::triangulate).
+/// A triangulated grid in lists of its own. Made by
+/// [`Surface::triangulate`](crate::Surface::triangulate).
 #[derive(Debug, Clone, PartialEq, Eq)]
 pub struct Mesh {
     /// The seams that were found and joined.

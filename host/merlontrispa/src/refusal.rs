@@ -3,16 +3,16 @@ use std::fmt;
 
 /// Why a call sent its caller back: a number, and nothing beside it (Rules 11).
 ///
-/// Where several apply it is the one with the lowest number; 11 and 12 come as the walk along the curve
-/// meets them. 1 to 10 leave lists that were lent for output as they were, 11 and 12 leave them all zero.
-/// `refusal as u8` is the number that the C boundary answers.
+/// Where several apply it is the one with the lowest number; 11 and 12 come as the walk along the
+/// curve meets them. 1 to 10 leave lists that were lent for output as they were, 11 and 12 leave
+/// them all zero. `refusal as u8` is the number that the C boundary answers.
 #[derive(Debug, Clone, Copy, PartialEq, Eq, Hash)]
 #[repr(u8)]
 pub enum Refusal {
     /// 1: M and N must each be from 1 to 255.
     Steps = 1,
-    /// 2: a list has the wrong length: a grid has 3·(M+1)·(N+1) numbers, samples two numbers for each mark
-    /// and at most 65,537 marks, a seam row whole points and at most 65,536 of them.
+    /// 2: a list has the wrong length: a grid has 3·(M+1)·(N+1) numbers, samples two numbers for
+    /// each mark and at most 65,537 marks, a seam row whole points and at most 65,536 of them.
     Length = 2,
     /// 3: a lent list is too short: it takes 6·M·N numbers for triangles, 2·(M+N) for flipped pairs,
     /// 6·(M+1)·(N+1) for the points of grid lines, M+N+2 for their starts.

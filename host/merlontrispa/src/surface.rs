@@ -7,8 +7,9 @@ use crate::trace::{OwnedTrace, Trace, TraceLists, trace_flat};
 
 /// A surface sampled into a grid of points, checked once.
 ///
-/// It has M steps in u and N in v. The number of point (u, v), u up to M and v up to N, is `u * (N + 1) + v`;
-/// a grid is x, y and z of point number 0, then of number 1, and so on (Rules 1).
+/// It has M steps in u and N in v. The number of point (u, v), u up to M and v up to N, is
+/// `u * (N + 1) + v`; a grid is x, y and z of point number 0, then of number 1, and so on (Rules
+/// 1).
 ///
 /// Methods whose names end in `_into` write to lists that the caller lends, and allocate nothing.
 ///
@@ -37,8 +38,8 @@ impl<'a> Surface<'a> {
     /// The surface of a grid with M and N steps.
     ///
     /// # Errors
-    /// 1 for M or N that is not from 1 to 255, 2 for a grid that has not `3 * (M + 1) * (N + 1)` numbers,
-    /// 4 for a coordinate that is NaN, infinite or beyond ±2^40.
+    /// 1 for M or N that is not from 1 to 255, 2 for a grid that has not `3 * (M + 1) * (N + 1)`
+    /// numbers, 4 for a coordinate that is NaN, infinite or beyond ±2^40.
     ///
     /// ```
     /// use merlontrispa::{Refusal, Surface};
@@ -119,8 +120,8 @@ impl<'a> Surface<'a> {
     /// [`triangulate_grid`] of this surface.
     ///
     /// # Errors
-    /// 3 for a list shorter than [`Surface::triangles_room`] or [`Surface::flipped_room`]; both are then as
-    /// they were.
+    /// 3 for a list shorter than [`Surface::triangles_room`] or [`Surface::flipped_room`]; both are
+    /// then as they were.
     pub fn triangulate_into(
         self,
         triangles: &mut [usize],
@@ -158,8 +159,8 @@ impl<'a> Surface<'a> {
     /// The lines of the grid, by [`grid_paths`]: N + 1 along u, then M + 1 along v.
     ///
     /// # Errors
-    /// 3 for a list shorter than [`Surface::grid_points_room`] or [`Surface::grid_starts_room`]; both are
-    /// then as they were.
+    /// 3 for a list shorter than [`Surface::grid_points_room`] or [`Surface::grid_starts_room`];
+    /// both are then as they were.
     ///
     /// ```
     /// use merlontrispa::Surface;
@@ -194,12 +195,12 @@ impl<'a> Surface<'a> {
         lines
     }
 
-    /// The lines of a curve across the cells, by [`trace_flat`]: `pairs` has u and v of each sample, and
-    /// `marks` is 1 for a point and 0 for a break.
+    /// The lines of a curve across the cells, by [`trace_flat`]: `pairs` has u and v of each
+    /// sample, and `marks` is 1 for a point and 0 for a break.
     ///
     /// # Errors
-    /// 2 for pairs that are not two numbers for each mark or more than 65,537 marks, 9 and 10, which leave
-    /// the lists as they were; 11 and 12, which leave them all zero.
+    /// 2 for pairs that are not two numbers for each mark or more than 65,537 marks, 9 and 10,
+    /// which leave the lists as they were; 11 and 12, which leave them all zero.
     pub fn trace_into<'b>(
         self,
         pairs: &[f64],
@@ -211,12 +212,12 @@ impl<'a> Surface<'a> {
         Ok(Trace::new(lists, drawn))
     }
 
-    /// Allocates lists that hold what is drawn and does [`Surface::trace_into`] with them. A sample is u
-    /// and v of a point, or `None` for a break.
+    /// Allocates lists that hold what is drawn and does [`Surface::trace_into`] with them. A sample
+    /// is u and v of a point, or `None` for a break.
     ///
     /// # Errors
-    /// 2 for more than 65,537 samples, 10 and 11. Never 12: while a trace is refused with it, it is done
-    /// again with twice the room.
+    /// 2 for more than 65,537 samples, 10 and 11. Never 12: while a trace is refused with it, it is
+    /// done again with twice the room.
     pub fn trace(self, samples: &[Option<[f64; 2]>]) -> Result<OwnedTrace, Refusal> {
         let pairs: Vec<_> = samples.iter().map(|s| s.unwrap_or_default()).collect();
         let marks: Vec<_> = samples.iter().map(|s| u8::from(s.is_some())).collect();
@@ -240,7 +241,8 @@ impl<'a> Surface<'a> {
     /// others takes [`Texture::sample_point`].
     ///
     /// # Errors
-    /// 5 for a twist or arms that are not allowed, 6 for more than 65,536 rays, or samples to a ray, 11.
+    /// 5 for a twist or arms that are not allowed, 6 for more than 65,536 rays, or samples to a
+    /// ray, 11.
     ///
     /// ```
     /// use merlontrispa::{Surface, Texture};

@@ -41,8 +41,8 @@ pub enum Texture {
     },
 }
 
-/// How many rays a texture has, and samples on each. A ray's samples have the numbers 0 to `samples`, so one
-/// more than it says.
+/// How many rays a texture has, and samples on each. A ray's samples have the numbers 0 to
+/// `samples`, so one more than it says.
 #[derive(Debug, Clone, Copy, PartialEq, Eq, Hash)]
 pub struct Plan {
     /// The rays, or arms: 0 for a grid.
@@ -55,8 +55,8 @@ impl Texture {
     /// Rays and samples per ray on M by N cells.
     ///
     /// # Errors
-    /// 1 for M or N that is not from 1 to 255, 5 for a twist or arms that are not allowed, 6 for more than
-    /// 65,536 rays, or samples to a ray.
+    /// 1 for M or N that is not from 1 to 255, 5 for a twist or arms that are not allowed, 6 for
+    /// more than 65,536 rays, or samples to a ray.
     pub fn plan(self, m: usize, n: usize) -> Result<Plan, Refusal> {
         let (kind, spacing, twist, arms) = self.parts();
         let answer = boundary::mt_plan(kind, spacing, twist, arms, m, n);

@@ -2,8 +2,9 @@ use crate::boundary;
 use crate::lines::{Drawn, Lines, OwnedLines};
 use crate::refusal::Refusal;
 
-/// The lists that a trace is written to. A point takes three numbers of `points`, two of `sides` and one
-/// of `fractions`; an end of a list that is too short for one more point holds none (Rules 8.1).
+/// The lists that a trace is written to. A point takes three numbers of `points`, two of `sides`
+/// and one of `fractions`; an end of a list that is too short for one more point holds none (Rules
+/// 8.1).
 #[derive(Debug, Default)]
 pub struct TraceLists<'a> {
     /// x, y and z of each point.
@@ -173,9 +174,9 @@ impl Sample {
 /// What [`trace_flat`] draws of the samples' points and marks, with the same refusals.
 ///
 /// # Stack
-/// The call needs 1.1 MB of the caller's stack, whatever the number of samples: it flattens them into lists
-/// of its own, of 1,114,129 bytes. A thread with less than 1,150 KiB calls [`trace_flat`], which needs 14 KB;
-/// a thread that Rust starts has 2 MiB unless it asks for less.
+/// The call needs 1.1 MB of the caller's stack, whatever the number of samples: it flattens them
+/// into lists of its own, of 1,114,129 bytes. A thread with less than 1,150 KiB calls
+/// [`trace_flat`], which needs 14 KB; a thread that Rust starts has 2 MiB unless it asks for less.
 ///
 /// # Errors
 /// 1, 2 (more than 65,537 samples), 4, 9 and 10, which leave the lists as they were; 11 and 12, which

@@ -41,8 +41,8 @@ impl Vector {
         boundary::mt_vector_mul_scalar(self.x, self.y, self.z, s).into()
     }
 
-    /// Whether the two are close (Rules 2.1): of the magnitudes of their three differences, the largest is
-    /// less than 10^-9.
+    /// Whether the two are close (Rules 2.1): of the magnitudes of their three differences, the
+    /// largest is less than 10^-9.
     pub fn all_close(self, other: Self) -> bool {
         boundary::mt_vector_all_close(self.x, self.y, self.z, other.x, other.y, other.z)
     }

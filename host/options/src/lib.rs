@@ -1,5 +1,6 @@
-//! What the user of `./draw` asks for: the options and their help, the surfaces by name, and formulas. The
-//! proved library is not needed here, so that a fault in the options is told before it is built.
+//! What the user of `./draw` asks for: the options and their help, the surfaces by name, and
+//! formulas. The proved library is not needed here, so that a fault in the options is told before
+//! it is built.
 
 mod formula;
 mod parametric;

@@ -1,4 +1,5 @@
-//! Surfaces: a formula, the ranges that u and v run through, and the grid of points that is taken of them.
+//! Surfaces: a formula, the ranges that u and v run through, and the grid of points that is taken
+//! of them.
 
 use crate::formula::Formula;
 use std::f64::consts::{PI, TAU};
@@ -89,7 +90,8 @@ impl ParametricSurface {
         points.collect()
     }
 
-    /// Which coordinate of a grid is the first that is not finite or too large for the library, and where.
+    /// Which coordinate of a grid is the first that is not finite or too large for the library, and
+    /// where.
     pub fn first_refused(&self, steps: [usize; 2]) -> Option<String> {
         self.parameters(steps).find_map(|[u, v]| {
             let mut coordinates = std::iter::zip(["x", "y", "z"], self.formula.at(u, v));
@@ -122,13 +124,15 @@ const TORUS: &str = "
     y = (2 + cos(v))*sin(u);
     z = sin(v)";
 
-/// A tube of three lobes that makes a third of a turn on its way: lobe meets lobe where N is a multiple of 3.
+/// A tube of three lobes that makes a third of a turn on its way: lobe meets lobe where N is a
+/// multiple of 3.
 const TWISTED_TORUS: &str = "
     x = (3 + (1 + cos(3*v)/4)*cos(v + u/3))*cos(u);
     y = (3 + (1 + cos(3*v)/4)*cos(v + u/3))*sin(u);
     z = (1 + cos(3*v)/4)*sin(v + u/3)";
 
-/// A tube, as wide as 3 + 5 cos u sin u, that passes through its side and meets its start from the inside.
+/// A tube, as wide as 3 + 5 cos u sin u, that passes through its side and meets its start from the
+/// inside.
 const KLEIN_BOTTLE: &str = "
     x = 2/15*cos(u)*(3 + 5*cos(u)*sin(u))*sin(v) - 4*cos(u)*sin(u)^5*(1 + 2*cos(u)^2);
     y = 2/15*(3 + 5*cos(u)*sin(u))*cos(v);

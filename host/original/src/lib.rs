@@ -1,5 +1,5 @@
-//! The original, compiled unchanged over stand-ins of our own, and beside it what the comparison calls; in
-//! `rays` one file of it once more, with cosine and sine lent.
+//! The original, compiled unchanged over stand-ins of our own, and beside it what the comparison
+//! calls; in `rays` one file of it once more, with cosine and sine lent.
 //!
 //! The sources are not part of this repository: `build.rs` says where they are looked for. Where they
 //! are absent this crate is empty, and its dependents learn it from `DEP_LARNT_PRESENT`.

@@ -1,9 +1,9 @@
 //! The samples of a texture's rays, one by one, from the closures that make them.
 //!
-//! They stand inside the loops of `paths_swirl` and `paths_spiral`, so these are compiled once more from a
-//! copy of parametric.rs in which `build.rs` replaces three things: `angle.cos()` and `angle.sin()` are numbers
-//! that the caller lends, and the trace of a ray is that of `lent`, which keeps the samples that are asked for and
-//! draws nothing.
+//! They stand inside the loops of `paths_swirl` and `paths_spiral`, so these are compiled once more
+//! from a copy of parametric.rs in which `build.rs` replaces three things: `angle.cos()` and
+//! `angle.sin()` are numbers that the caller lends, and the trace of a ray is that of `lent`, which
+//! keeps the samples that are asked for and draws nothing.
 
 /// The copy, and beside it what its rays are made by.
 #[allow(clippy::all, dead_code, missing_docs)]
@@ -43,7 +43,8 @@ mod lent {
     use crate::path::Paths;
     use std::cell::{Cell, RefCell};
 
-    /// The cosine and the sine that are lent to a sample of a number and an angle, where it is asked for.
+    /// The cosine and the sine that are lent to a sample of a number and an angle, where it is
+    /// asked for.
     pub(super) type Lend = Box<dyn Fn(usize, f64) -> Option<[f64; 2]>>;
 
     /// The sample that is being made.
@@ -138,8 +139,9 @@ pub struct Rays {
     pub samples: Vec<RaySample>,
 }
 
-/// Goes through the rays of a texture on `u_steps` by `v_steps` cells, and makes the samples of one. `lend` takes
-/// the number and the angle of each, and hands back its cosine and sine, or nothing where it is not asked for.
+/// Goes through the rays of a texture on `u_steps` by `v_steps` cells, and makes the samples of
+/// one. `lend` takes the number and the angle of each, and hands back its cosine and sine, or
+/// nothing where it is not asked for.
 pub fn rays(
     texture: crate::ParametricSurfaceTexture,
     u_steps: usize,

@@ -1,5 +1,5 @@
-//! A line on stderr that says how far a comparison has come: rewritten in place on a terminal, a new one
-//! every few seconds elsewhere.
+//! A line on stderr that says how far a comparison has come: rewritten in place on a terminal, a
+//! new one every few seconds elsewhere.
 
 use std::io::{IsTerminal, stderr};
 use std::time::{Duration, Instant};

@@ -33,8 +33,8 @@ impl Grid {
         self.refusal_with_lists([0; 2], |_, _| [0; 2])
     }
 
-    /// The first of the refusals 1, 2, 3 and 4 that applies where two lists of these lengths are lent; `least`
-    /// has the least lengths for so many steps.
+    /// The first of the refusals 1, 2, 3 and 4 that applies where two lists of these lengths are
+    /// lent; `least` has the least lengths for so many steps.
     pub fn refusal_with_lists(
         &self,
         lengths: [usize; 2],

@@ -3,8 +3,8 @@
 use crate::inputs::grids::Grid;
 use crate::random::Random;
 
-/// Grids of fewer cells, each with lists of these lengths, and with lists that are as far from the least
-/// as these are.
+/// Grids of fewer cells, each with lists of these lengths, and with lists that are as far from the
+/// least as these are.
 pub fn fewer_cells(
     grid: &Grid,
     lengths: [usize; 2],

@@ -1,4 +1,5 @@
-//! The trace of samples that are records: against the original's, and against the trace of flat samples.
+//! The trace of samples that are records: against the original's, and against the trace of flat
+//! samples.
 
 use crate::case::{Case, Smaller};
 use crate::driver::{Compared, Driver};
@@ -111,8 +112,8 @@ fn counted() -> impl Iterator<Item = Input> {
     })
 }
 
-/// So many samples on a circle around the first cells, with a break now and then. The lists have up to two
-/// places more than are needed; at 3 the fractions have one too few.
+/// So many samples on a circle around the first cells, with a break now and then. The lists have up
+/// to two places more than are needed; at 3 the fractions have one too few.
 fn around(scene: &Rc<Scene>, count: usize, more: usize) -> Input {
     let pairs = (0..count).flat_map(|i| {
         let angle = i as f64 * 0.7;

@@ -233,7 +233,8 @@ fn spell(letters: [[f64; 3]; 3], word: u64, length: u32) -> Vec<f64> {
     (0..length).flat_map(digit).collect()
 }
 
-/// Rows that fit by a mapping, whole or but for one point that is moved about as far as closeness reaches.
+/// Rows that fit by a mapping, whole or but for one point that is moved about as far as closeness
+/// reaches.
 fn planted(random: &mut Random) -> Rows {
     let steps = match random.below(4) {
         0 => 1 + random.below(4) as usize,
@@ -276,7 +277,8 @@ fn pattern(random: &mut Random, count: usize) -> Vec<[f64; 3]> {
     (0..count).map(|j| one[j % period]).collect()
 }
 
-/// Row a of these points, the last the same as the first where it is closed, and the row b that it fits.
+/// Row a of these points, the last the same as the first where it is closed, and the row b that it
+/// fits.
 fn fitting(points: &[[f64; 3]], closed: bool, reverse: bool, offset: usize) -> Rows {
     let steps = points.len() - 1;
     let offset = if closed { offset } else { 0 };

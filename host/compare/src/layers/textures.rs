@@ -1,6 +1,6 @@
-//! Plans, angles and sample points of textures against the original's: its counts, what the closures of its
-//! rays make (`rays`), and the lines of whole swirls and spirals, which the library draws alone but for the
-//! cosine and the sine.
+//! Plans, angles and sample points of textures against the original's: its counts, what the
+//! closures of its rays make (`rays`), and the lines of whole swirls and spirals, which the library
+//! draws alone but for the cosine and the sine.
 
 mod rays;
 
@@ -271,7 +271,8 @@ fn any_scene(random: &mut Random) -> Scene {
 /// How many samples a drawing may have that is drawn in some milliseconds.
 const WORK: usize = 12_000;
 
-/// A swirl or a spiral anywhere in the domain, brought to so few rays and samples that it is soon drawn.
+/// A swirl or a spiral anywhere in the domain, brought to so few rays and samples that it is soon
+/// drawn.
 fn wide_scene(random: &mut Random) -> Scene {
     let mut input = wide_input(random);
     while !soon_drawn(&input) {
@@ -342,7 +343,8 @@ fn wide_input(random: &mut Random) -> Input {
     Input { texture, m, n }
 }
 
-/// Swirls and spirals at the limits of what is drawn: the most turns, arms, rays and samples, and one more.
+/// Swirls and spirals at the limits of what is drawn: the most turns, arms, rays and samples, and
+/// one more.
 fn limits_drawn() -> impl Iterator<Item = Scene> {
     let swirl = |spacing, twist| Texture::Swirl { spacing, twist };
     let spiral = |spacing, arms| Texture::Spiral { spacing, arms };
@@ -528,8 +530,8 @@ impl Input {
     }
 }
 
-/// Whether the closures' samples, with Rust's cosine and sine, draw what the original draws of the texture, bit
-/// by bit.
+/// Whether the closures' samples, with Rust's cosine and sine, draw what the original draws of the
+/// texture, bit by bit.
 fn drawn_alike(radii: &[f64], scene: &Scene) -> bool {
     let Scene { texture, ref grid } = *scene;
     let (m, n) = (grid.u_steps, grid.v_steps);

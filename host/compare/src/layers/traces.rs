@@ -1,4 +1,5 @@
-//! The trace of flat samples against the original's, bit by bit, with the sides and fractions of its points.
+//! The trace of flat samples against the original's, bit by bit, with the sides and fractions of
+//! its points.
 
 pub mod curves;
 mod walks;
@@ -253,8 +254,8 @@ impl Input {
         }
     }
 
-    /// What a trace that is drawn reaches: the kinds of its events, by their sides, where they lie on a step,
-    /// and how its lines end.
+    /// What a trace that is drawn reaches: the kinds of its events, by their sides, where they lie
+    /// on a leg, and how its lines end.
     fn reached(&self, case: Recorded, drawn: Drawn) -> Recorded {
         let walk = self.walk.as_deref().unwrap_or_default();
         let sides: Vec<_> = walk.iter().filter_map(|made| Some(made.point?.1)).collect();

@@ -1,4 +1,5 @@
-//! Stands in for the crate `rand`: the trait that the original names. Nothing that is compared calls it.
+//! Stands in for the crate `rand`: the trait that the original names. Nothing that is compared
+//! calls it.
 
 /// A source of random values.
 pub trait Rng {

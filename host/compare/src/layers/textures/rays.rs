@@ -76,14 +76,15 @@ fn original_samples(radii: &[f64], ray: &Ray) -> Samples {
     Ok(samples.map(|sample| (sample.angle, sample.point)).collect())
 }
 
-/// Where the parts of a ray end that has so many samples: at each sample where there are no fewer parts.
+/// Where the parts of a ray end that has so many samples: at each sample where there are no fewer
+/// parts.
 fn ends(samples: usize, parts: usize) -> impl Iterator<Item = usize> {
     let parts = parts.clamp(1, samples.max(1));
     (0..=parts).map(move |part| samples * part / parts)
 }
 
-/// The cosine and the sine that are lent for an angle: its own, or any that are not refused. The same angle gets
-/// the same.
+/// The cosine and the sine that are lent for an angle: its own, or any that are not refused. The
+/// same angle gets the same.
 fn direction(angle: f64) -> [f64; 2] {
     let mut random = Random::new(angle.to_bits());
     match random.below(4) {

@@ -211,8 +211,8 @@ pub fn bent(u_steps: usize, v_steps: usize) -> Grid {
     })
 }
 
-/// Some grids of all kinds, now and then with coordinates at their limits. Another takes the place of one
-/// of them at every thousandth input or so.
+/// Some grids of all kinds, now and then with coordinates at their limits. Another takes the place
+/// of one of them at every thousandth input or so.
 pub struct Scenes<S> {
     scenes: Vec<Rc<Scene>>,
     most: usize,
@@ -299,7 +299,8 @@ pub fn spare(need: Need, more: usize) -> Room {
     }
 }
 
-/// Samples on one of the scenes, and lists that just hold what is needed, just do not, or have more room.
+/// Samples on one of the scenes, and lists that just hold what is needed, just do not, or have more
+/// room.
 pub fn traced(random: &mut Random, scenes: &mut Scenes<impl Fn(&mut Random) -> usize>) -> Input {
     let scene = scenes.any(random);
     let (pairs, marks) = any_samples(random, scene.grid.u_steps, scene.grid.v_steps);
@@ -327,8 +328,8 @@ fn any_room(random: &mut Random, need: Need) -> Room {
     }
 }
 
-/// 1 to 300 samples, mostly few, with breaks. The original takes a millisecond for a step that goes as
-/// far away as it may, so that such steps are few.
+/// 1 to 300 samples, mostly few, with breaks. The original takes a millisecond for a leg that goes as
+/// far away as it may, so that such legs are few.
 fn any_samples(random: &mut Random, m: usize, n: usize) -> (Vec<f64>, Vec<u8>) {
     let count = 1 + match random.below(256) {
         0 => random.below(300),
