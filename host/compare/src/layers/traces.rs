@@ -22,7 +22,7 @@ pub fn compare(driver: &mut Driver) -> Compared {
     for (m, n) in [(1, 1), (2, 1)] {
         let scene = Rc::new(Scene::new(bent(m, n)));
         driver.compare_each(
-            &format!("trace_flat, each step between edges of {m} by {n} cells"),
+            &format!("trace_flat, each leg between edges of {m} by {n} cells"),
             steps_between_edges(&scene),
             library,
             original,
