@@ -12,7 +12,7 @@ use crate::layers::lines::{coordinates, firsts};
 use crate::random::Random;
 use crate::record::{Call, Record, Recorded};
 use crate::value::{Show, Value};
-use curves::{FAR, Input, Room, Scene, Scenes, bent, faulty, spare, steps_between_edges, traced};
+use curves::{FAR, Input, Room, Scene, Scenes, bent, faulty, legs_between_edges, spare, traced};
 use merlontrispa::{Drawn, Refusal, TraceLists, trace_flat};
 use original::{Paths, Side, Vector};
 use std::rc::Rc;
@@ -23,7 +23,7 @@ pub fn compare(driver: &mut Driver) -> Compared {
         let scene = Rc::new(Scene::new(bent(m, n)));
         driver.compare_each(
             &format!("trace_flat, each leg between edges of {m} by {n} cells"),
-            steps_between_edges(&scene),
+            legs_between_edges(&scene),
             library,
             original,
         )?;
@@ -262,9 +262,9 @@ impl Input {
         let event = |on: &dyn Fn(&Side) -> bool| sides.iter().any(on);
         let v_steps = self.scene.grid.v_steps;
         let samples = self.samples();
-        let steps = samples.windows(2).filter_map(|s| Some([s[0]?, s[1]?]));
-        let steps: Vec<Step> = steps.collect();
-        let step = |of: fn(&Step) -> bool| drawn.points > 0 && steps.iter().any(of);
+        let legs = samples.windows(2).filter_map(|s| Some([s[0]?, s[1]?]));
+        let legs: Vec<Leg> = legs.collect();
+        let leg = |of: fn(&Leg) -> bool| drawn.points > 0 && legs.iter().any(of);
         let kept = walk.iter().filter(|made| made.close != Some(true)).count();
         case.reaching_if(event(&|side| side.q == side.p + 1), "a U event")
             .reaching_if(event(&|side| side.q == side.p + v_steps + 1), "a V event")
@@ -272,8 +272,8 @@ impl Input {
                 event(&|side| side.p == side.q + v_steps),
                 "a diagonal event",
             )
-            .reaching_if(step(ends_on_a_line), "an event at an end")
-            .reaching_if(step(goes_down_from_a_line), "an event at -0")
+            .reaching_if(leg(ends_on_a_line), "an event at an end")
+            .reaching_if(leg(goes_down_from_a_line), "an event at -0")
             .reaching_if(kept < walk.len(), "a point close to the last one")
             .reaching_if(drawn.points < kept, "a line of one point")
             .reaching_if(drawn.lines > 1, "several lines")
@@ -282,20 +282,20 @@ impl Input {
 }
 
 /// Two samples that follow each other.
-type Step = [(f64, f64); 2];
+type Leg = [(f64, f64); 2];
 
 fn whole(x: f64) -> bool {
     x == x.trunc()
 }
 
 /// Whether one of its ends is on a grid line or a diagonal.
-fn ends_on_a_line(step: &Step) -> bool {
+fn ends_on_a_line(leg: &Leg) -> bool {
     let on_a_line = |&(u, v): &(f64, f64)| whole(u) || whole(v) || whole(u + v);
-    step.iter().any(on_a_line)
+    leg.iter().any(on_a_line)
 }
 
 /// Whether it goes down from a grid line: lambda has the numerator 0 and a negative denominator.
-fn goes_down_from_a_line(&[from, to]: &Step) -> bool {
+fn goes_down_from_a_line(&[from, to]: &Leg) -> bool {
     whole(from.0) && to.0 < from.0 || whole(from.1) && to.1 < from.1
 }
 

@@ -275,8 +275,8 @@ fn edges(steps: usize) -> Vec<f64> {
     .concat()
 }
 
-/// Each step from one point at edges of both axes to another, with room to spare.
-pub fn steps_between_edges(scene: &Rc<Scene>) -> impl Iterator<Item = Input> {
+/// Each leg from one point at edges of both axes to another, with room to spare.
+pub fn legs_between_edges(scene: &Rc<Scene>) -> impl Iterator<Item = Input> {
     let (us, vs) = (edges(scene.grid.u_steps), edges(scene.grid.v_steps));
     let ends: Vec<_> = us
         .iter()
