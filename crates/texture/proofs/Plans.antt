@@ -9,7 +9,7 @@ use Rattle.refusal.specs.declared.Check.the-variants.{Passed}
 use Rattle.refusal.specs.Refusals.{Answer, ok, refused, unless, passing}
 use Rattle.refusal.specs.declared.Refusal.the-variants.{Steps, Texture, Count}
 use Rattle.grid.specs.Grid.{stepsFit}
-use Rattle.refusal.proofs.Laws.{unless-passed, never, answered}
+use Rattle.refusal.proofs.Laws.{unless-passed, unless-then, answered, refused-first}
 use Rattle.texture.specs.declared.plan.ParametricSurfaceTexture.{ParametricSurfaceTexture}
 use Rattle.texture.specs.declared.plan.ParametricSurfaceTexture.the-variants.{Swirl, Spiral}
 use Rattle.texture.specs.Plan.{textureSpacing, swirlRays, radialSampleCount, spiralSampleCount, raysOf}
@@ -65,17 +65,6 @@ checks t m n after h =
     let c = unless-passed counts Count after (b .1) in
     (a .0, b .0, c .0, c .1)
 
--- the three tests, by what they say
-abbrev chain : Bool → Bool → Bool → Check → Check
-chain a b c after = unless a Steps (unless b Texture (unless c Count after))
-
-chain-failed : {A B : Type 0} (a b c : Bool) (y : A) {k : ℕ} (after : Check) (z : Answer B) →
-    refused k ≡ passing (chain a b c Passed) (ok y) → refused k ≡ passing (chain a b c after) z
-chain-failed true true true y after z e = never (sym e)
-chain-failed true true false y after z e = cc
-chain-failed true false c y after z e = cc
-chain-failed false b c y after z e = cc
-
 module _ (t : ParametricSurfaceTexture) (m n : ℕ) (after : Check) where
   -- where there is a plan, only the tests after its own are left
   pub plan-passed : {p : Plan} → ok p ≡ plan t m n → (planCheck t m n after ≡ after) × (p ≡ planOf t m n)
@@ -90,5 +79,11 @@ module _ (t : ParametricSurfaceTexture) (m n : ℕ) (after : Check) where
       refused k ≡ passing (planCheck t m n after) z
   unfolding plan planCheck
   plan-failed z e =
-      chain-failed (stepsFit m n) (textureFits t) (countsFit (raysOf m n t) (samplesPerRay m n t))
-      (planOf t m n) after z e
+      let counts = unless (countsFit (raysOf m n t) (samplesPerRay m n t)) Count Passed in
+      let texture = unless (textureFits t) Texture counts in
+      rw (
+        unless-then (countsFit (raysOf m n t) (samplesPerRay m n t)) Count Passed after,
+        unless-then (textureFits t) Texture counts after,
+        unless-then (stepsFit m n) Steps texture after,
+      )
+      (refused-first (planCheck t m n Passed) after (planOf t m n) z e)
