@@ -10,8 +10,8 @@ use borrow.Author.Needs.{needs}
 use Rattle.crossing.proofs.edge_point.Statement.{statement}
 use Rattle.crossing.proofs.edge_point.Tie as tie
 
--- the start, from where the match finds a U line, a V line, a diagonal; and that line, from where the cell on it is
--- found
+-- the start, from where the match finds a U line, a V line, a diagonal; and that line, from where the cell on it, or
+-- the diagonal's fraction, is found
 abbrev start-u : tie.After-edge → tie.Start
 start-u e = e .before .before .before
 
@@ -26,6 +26,9 @@ line-u e = e .before .before .before .before
 
 abbrev line-v : tie.After-u → tie.After-edge2
 line-v e = e .before .before .before .before
+
+abbrev line-d : tie.After-clamp → tie.After-edge3
+line-d e = e .before .before .before .before
 
 -- arm by arm: the side's own indices are on the grid, and the cell that `step_index` gave is one of the steps
 side-u : (c : tie.After-edge) → c .edge .given .0 .0 ≤ start-u c .args .cells .m
@@ -62,7 +65,7 @@ between-requires-2 c κs =
 
 between-requires-3 : tie.Need-between-requires-3
 between-requires-3 c κs =
-    let e = c .before .before .before .before in
+    let e = line-d c in
     let s = start-d e in
     let d = side-diagonal e in
     sides-stand (now (s .args .grid)) (s .args .cells) _ _ _ _ (s .pre .0) (omega arith)
@@ -118,8 +121,8 @@ edge-point-spec =
     (λ c. search needs)
     (λ c κs. search needs)
     (λ c κs. search needs)
-    (λ c. omega (arith, side-diagonal (c .before .before .before .before)))
-    (λ c. omega (arith, side-diagonal (c .before .before .before .before)))
+    (λ c. omega (arith, side-diagonal (line-d c)))
+    (λ c. omega (arith, side-diagonal (line-d c)))
     between-requires-3
     returns
     returns-2

@@ -17,7 +17,14 @@ use Rattle.page.proofs.push_segment_point.Tie as tie
 abbrev started : tie.Joined1 → tie.Start
 started j = j .before .before .before .before .before
 
--- past them no pending point is close
+-- where the point is written, from the end; and where the lists are known to have room for it, from there
+abbrev written : tie.After-slice-known6 → tie.After-write-crossing
+written c = c .before .before .before .before .before .before
+
+abbrev roomy : tie.After-write-crossing → tie.Else5
+roomy w = w .before .before .before .before
+
+-- past the tests no pending point is close
 far : (j : tie.Joined1) (s : List ℕ) →
     let a = started j .args in
     closeToPending eps (a .c) (page (lists (now (a .points)) s (now (a .sides)) (now (a .fractions))) (a .pen)) ≡ false
@@ -46,8 +53,8 @@ returns-4 c s = push-full eps _ (lists _ s _ _) _ (far (c .before .before .befor
 
 returns-5 : tie.Need-returns-5
 returns-5 c s =
-    let w = c .before .before .before .before .before .before in
-    let e = w .before .before .before .before in
+    let w = written c in
+    let e = roomy w in
     push-writes eps _ (lists _ s _ _) _ (far (e .before .before .before) s)
     (omega (arith, e .before .before .if3 .left, e .before .if4 .left, e .if5 .left)) (w .write-crossing .ensures s)
 

@@ -6,17 +6,19 @@ use Rattle.float.proofs.Cut.{Cut, kept, kept-is, cut-of, high-end, low-
 use Rattle.float.proofs.whole.floor_i64.Statement.{statement}
 use Rattle.float.proofs.whole.floor_i64.Tie as tie
 
+abbrev started : tie.After-nearest-i64-to-f64 → tie.Start
+started e = e .before .before .before .before
+
 truncating-f64-to-i64-requires : tie.Need-truncating-f64-to-i64-requires
 unfolding ofBits neg
 truncating-f64-to-i64-requires c κs = (rw (c .before .if1 .taken) tt, rw (c .if2 .taken) tt)
 
 cut : (c : tie.After-nearest-i64-to-f64) →
-    Cut (c .before .before .before .before .args .x) (kept (c .before .truncating-f64-to-i64 .result))
-    (c .nearest-i64-to-f64 .result)
+    Cut (started c .args .x) (kept (c .before .truncating-f64-to-i64 .result)) (c .nearest-i64-to-f64 .result)
 unfolding ofBits neg
 cut c =
     let t = c .before .before in
-    let s = t .before .before in
+    let s = started c in
     cut-of (s .args .x) (s .good .0 .1) (t .before .if1 .taken) (t .if2 .taken)
     (c .before .truncating-f64-to-i64 .ensures) (c .nearest-i64-to-f64 .ensures)
 

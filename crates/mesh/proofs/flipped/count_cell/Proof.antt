@@ -33,7 +33,11 @@ returns c =
     let f = g .before in
     let t = f .before in
     let a = t .args in
-    cell-counted (shapeOf (a .surface)) (a .surface .n) (a .u) (a .v) (t .pre .1) (f .first-differs .ensures) (g .one-more .ensures) (c .before .second-differs .ensures) (c .one-more2 .ensures)
+    cell-counted (shapeOf (a .surface)) (a .surface .n) (a .u) (a .v) (t .pre .1)
+    (f .first-differs .ensures)
+    (g .one-more .ensures)
+    (c .before .second-differs .ensures)
+    (c .one-more2 .ensures)
 
 pub count-cell-spec : {M : Type 1} → statement M
 count-cell-spec =

@@ -20,29 +20,37 @@ Inv-loop surface u start counts₀ n count₀ v₀ counts count v =
 abbrev μ-loop : tie.MeasureT-loop
 μ-loop surface u start counts₀ n count₀ v₀ counts count v = surface .n - v
 
+-- the start, from the loop
+abbrev started : tie.At-loop Inv-loop μ-loop → tie.Start Inv-loop μ-loop
+started l = l .before .before
+
+-- the number of the triangles before cell (u, i)
+abbrev number : tie.Start Inv-loop μ-loop → ℕ → ℕ
+number t i = let a = t .args in triangleNumber (shapeOf (a .surface)) (2 * (a .u * a .surface .n + i))
+
 loop-holds : tie.Need-loop-holds Inv-loop μ-loop
 loop-holds c =
     let t = c .before in
     let a = t .args in
-    let s = shapeOf (a .surface) in
     let e : 2 * (a .u * a .surface .n) ≡ 2 * (a .u * a .surface .n + 0) = omega arith in
-    let z = t .pre .1 ∙ ap (triangleNumber s) e in
-    (omega arith, z, refl, value-first (λ (i : ℕ). triangleNumber s (2 * (a .u * a .surface .n + i))) (a .counts .now) (a .start) (omega arith) z)
+    let z = t .pre .1 ∙ ap (triangleNumber (shapeOf (a .surface))) e in
+    (omega arith, z, refl, value-first (number t) (a .counts .now) (a .start) (omega arith) z)
 
 slice-write-counts-2 : tie.Need-slice-write-counts-2 Inv-loop μ-loop
 slice-write-counts-2 c =
-    let a = c .before .before .before .before .args in
+    let a = started (c .before .before) .args in
     omega (arith, length-set (a .counts .now) 0 (a .start))
 
 loop-again : tie.Need-loop-again Inv-loop μ-loop
 loop-again c =
-    let w = c .before .before .loop in
-    let a = c .before .before .before .before .args in
-    let s = shapeOf (a .surface) in (
+    let l = c .before .before in
+    let w = l .loop in
+    let t = started l in
+    let a = t .args in (
       omega arith,
       c .count-cell .ensures,
       length-set (w .counts) (w .v + 1) (c .count-cell .result) ∙ w .inv .2,
-      values-more (λ (i : ℕ). triangleNumber s (2 * (a .u * a .surface .n + i))) (w .counts) (w .v) (c .count-cell .result)
+      values-more (number t) (w .counts) (w .v) (c .count-cell .result)
           (omega (arith, length-set (a .counts .now) 0 (a .start)))
           (w .inv .3)
           (c .count-cell .ensures),
@@ -50,8 +58,9 @@ loop-again c =
 
 same-length : tie.Need-same-length Inv-loop μ-loop
 same-length c =
-    let a = c .before .before .before .args in
-    c .before .loop .inv .2 ∙ length-set (a .counts .now) 0 (a .start)
+    let l = c .before in
+    let a = started l .args in
+    l .loop .inv .2 ∙ length-set (a .counts .now) 0 (a .start)
 
 returns : tie.Need-returns Inv-loop μ-loop
 returns c =

@@ -10,7 +10,8 @@ returns : tie.Need-returns
 returns c =
     let t = c .before .before in
     let a = t .args in
-    c .differ .ensures ∙ ap proper (slot-first (a .surface) (a .u) (a .v) (t .pre .2) (c .before .cell-corners .ensures))
+    c .differ .ensures
+    ∙ ap proper (slot-first (a .surface) (a .u) (a .v) (t .pre .2) (c .before .cell-corners .ensures))
 
 pub first-differs-spec : {M : Type 1} → statement M
 first-differs-spec = tie.close (tie.spec (λ c κs. search needs) (λ c κs. search needs) returns)

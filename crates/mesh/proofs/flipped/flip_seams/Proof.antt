@@ -12,33 +12,40 @@ use Rattle.mesh.proofs.Flips.{rims-v, seam-most, held-pairs, flipped-is
 use Rattle.mesh.proofs.flipped.flip_seams.Statement.{statement}
 use Rattle.mesh.proofs.flipped.flip_seams.Tie as tie
 
--- the start, from where the u seam is done; and that place, from where the v seam is done
+-- the start, from where the u seam is done; and that place, from before the v seam
 abbrev started : tie.After-flip-seam → tie.Start
 started e = e .before .before .before .before .before .before
 
-abbrev first-done : tie.After-flip-seam2 → tie.After-flip-seam
-first-done e = e .before .before .before .before
+abbrev first-done : tie.After-flip-seam-arg2 → tie.After-flip-seam
+first-done e = e .before .before .before
 
 -- the u seam's pairs
-first : (e : tie.After-flip-seam) → pairsIn (e .flip-seam .result) (e .flip-seam .last .1 .1 .1 .1 .1 .0) ≡ flips AxisU (shapeOf (started e .args .surface)) (seamOf (started e .args .surface .u)) []
+first : (e : tie.After-flip-seam) →
+    let s = started e .args .surface in
+    pairsIn (e .flip-seam .result) (e .flip-seam .last .1 .1 .1 .1 .1 .0) ≡ flips AxisU (shapeOf s) (seamOf (s .u)) []
 unfolding firsts
 first e = e .flip-seam .ensures
 
 flip-seam-requires-2 : tie.Need-flip-seam-requires-2
 flip-seam-requires-2 c κs =
-    let e = c .before .before .before in
+    let e = first-done c in
     let t = started e in
     let a = t .args in
+    let s = a .surface in
     let f = e .flip-seam in
     let k = held-pairs (f .result) (f .last .1 .1 .1 .1 .1 .0) (first e) in (
       (t .pre .0 .0, t .pre .0 .0 .v-maps),
-      (rims-v (a .surface) (t .pre .0 .0) (a .starts .now) (t .pre .0 .2), omega (arith, seam-most AxisU (shapeOf (a .surface)) (seamOf (a .surface .u)) [])),
+      (
+        rims-v s (t .pre .0 .0) (a .starts .now) (t .pre .0 .2),
+        omega (arith, seam-most AxisU (shapeOf s) (seamOf (s .u)) []),
+      ),
     )
 
 returns : tie.Need-returns
 returns c =
-    let e = first-done (c .before .before) in
-    rw (first e) at (c .before .before .flip-seam2 .ensures) ∙ flipped-is (shapeOf (started e .args .surface))
+    let v = c .before .before in
+    let e = first-done (v .before) in
+    rw (first e) at (v .flip-seam2 .ensures) ∙ flipped-is (shapeOf (started e .args .surface))
 
 pub flip-seams-spec : {M : Type 1} → statement M
 flip-seams-spec = tie.close (tie.spec (λ c κs. search needs) flip-seam-requires-2 (λ c. search needs) returns)

@@ -23,20 +23,26 @@ Inv-loop surface axis mapping low high flipped₀ start steps count₀ i₀ flip
 abbrev μ-loop : tie.MeasureT-loop
 μ-loop surface axis mapping low high flipped₀ start steps count₀ i₀ flipped count i = steps - i
 
--- the start, from the loop
-abbrev started : tie.At-loop Inv-loop μ-loop → tie.Start Inv-loop μ-loop
-started l = l .before .before .before .before .before
+-- the start, from where the rims' steps are known; and the loop, from before a step
+abbrev started : tie.After-rim-steps Inv-loop μ-loop → tie.Start Inv-loop μ-loop
+started e = e .before .before .before .before
+
+abbrev looped : tie.After-flip-step-arg Inv-loop μ-loop → tie.At-loop Inv-loop μ-loop
+looped e = e .before .before
 
 loop-holds : tie.Need-loop-holds Inv-loop μ-loop
 loop-holds c =
-    let a = c .before .before .before .before .args in
-    (omega arith, flips-none (a .axis) (shapeOf (a .surface)) (ofMapping (a .mapping)) (pairsIn (a .start) (a .flipped .now)), refl)
+    let a = started c .args in (
+      omega arith,
+      flips-none (a .axis) (shapeOf (a .surface)) (ofMapping (a .mapping)) (pairsIn (a .start) (a .flipped .now)),
+      refl,
+    )
 
 flip-step-requires : tie.Need-flip-step-requires Inv-loop μ-loop
 flip-step-requires c κs =
-    let l = c .before .before in
+    let l = looped c in
     let w = l .loop in
-    let t = started l in
+    let t = started (l .before) in
     let a = t .args in
     let s = shapeOf (a .surface) in
     let ps = pairsIn (a .start) (a .flipped .now) in
@@ -44,16 +50,21 @@ flip-step-requires c κs =
       (t .pre .0 .0, t .pre .0 .1, omega arith),
       (
         t .pre .1 .0,
-        omega (arith, flips-most (a .axis) s (ofMapping (a .mapping)) (w .i) ps, length-firsts (pairAt (a .flipped .now)) (a .start)),
+        omega (
+          arith,
+          flips-most (a .axis) s (ofMapping (a .mapping)) (w .i) ps,
+          length-firsts (pairAt (a .flipped .now)) (a .start),
+        ),
       ),
     )
 
 loop-again : tie.Need-loop-again Inv-loop μ-loop
 loop-again c =
-    let f = c .before .before .flip-step in
-    let l = c .before .before .before .before .before in
+    let e = c .before .before in
+    let f = e .flip-step in
+    let l = looped (e .before) in
     let w = l .loop in
-    let a = started l .args in
+    let a = started (l .before) .args in
     let s = shapeOf (a .surface) in
     let m = ofMapping (a .mapping) in (
       omega arith,
@@ -64,7 +75,7 @@ loop-again c =
 returns : tie.Need-returns Inv-loop μ-loop
 returns c =
     let w = c .before .loop in
-    let a = started (c .before) .args in
+    let a = started (c .before .before) .args in
     let e : w .i ≡ stepsOf (a .axis) (shapeOf (a .surface)) = omega arith in
     rw e at (w .inv .1)
 

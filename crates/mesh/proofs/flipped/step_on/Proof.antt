@@ -12,7 +12,9 @@ use Rattle.mesh.proofs.flipped.step_on.Tie as tie
 
 -- an index of the row has its inverse image on the row
 within : (t : tie.Start) (j : ℕ) → j ≤ t .args .steps → inverse (t .args .mapping) j ≤ stepsOf (t .args .mapping)
-within t j h = inverse-within (t .args .mapping) j (maps-joins (Joined (t .args .mapping)) (t .args .steps) j (t .pre .0) (omega arith) h)
+within t j h =
+    let m = t .args .mapping in
+    inverse-within m j (maps-joins (Joined m) (t .args .steps) j (t .pre .0) (omega arith) h)
 
 wrap-ends-requires : tie.Need-wrap-ends-requires
 wrap-ends-requires c κs =
@@ -22,7 +24,10 @@ wrap-ends-requires c κs =
 returns : tie.Need-returns
 returns c =
     let t = c .before .before .before in
-    step-is (t .args .mapping) (t .args .steps) (t .args .i) (t .pre .0 .0) (c .before .before .inverse .ensures) (c .before .inverse2 .ensures) (c .wrap-ends .ensures)
+    step-is (t .args .mapping) (t .args .steps) (t .args .i) (t .pre .0 .0)
+    (c .before .before .inverse .ensures)
+    (c .before .inverse2 .ensures)
+    (c .wrap-ends .ensures)
 
 pub step-on-spec : {M : Type 1} → statement M
 step-on-spec =

@@ -1,4 +1,5 @@
--- `mesh::triangles::build_inner_row` meets its contract: after v cells the list holds the triangles of the slots up to cell (u, v).
+-- `mesh::triangles::build_inner_row` meets its contract: after v cells the list holds the triangles of the slots up to
+-- cell (u, v).
 use Prim.Native.Nat.{_+_, _-_, _*_, _≤_}
 use mathlib.Core.Path.{_≡_, refl, _∙_}
 use native.Mathlib.Omega.{arith}
@@ -13,10 +14,16 @@ use Rattle.mesh.proofs.triangles.build_inner_row.Tie as tie
 
 abbrev Inv-loop : tie.InvT-loop
 Inv-loop surface u triangles₀ start last count₀ v₀ triangles count v =
-    (v ≤ surface .n - 1) × (trianglesIn count triangles ≡ kept (shapeOf surface) (2 * (u * surface .n + v))) × (length triangles ≡ length triangles₀)
+    (v ≤ surface .n - 1)
+    × (trianglesIn count triangles ≡ kept (shapeOf surface) (2 * (u * surface .n + v)))
+    × (length triangles ≡ length triangles₀)
 
 abbrev μ-loop : tie.MeasureT-loop
 μ-loop surface u triangles₀ start last count₀ v₀ triangles count v = surface .n - 1 - v
+
+-- the start, from the loop
+abbrev started : tie.At-loop Inv-loop μ-loop → tie.Start Inv-loop μ-loop
+started l = l .before .before .before
 
 loop-holds : tie.Need-loop-holds Inv-loop μ-loop
 loop-holds c =
@@ -25,14 +32,14 @@ loop-holds c =
 
 build-inner-cell-requires : tie.Need-build-inner-cell-requires Inv-loop μ-loop
 build-inner-cell-requires c κs =
-    let w = c .before .before .loop in
-    let t = c .before .before .before .before .before in
-    ((t .pre .0 .0, t .pre .0 .1, omega arith), (omega arith, w .inv .1))
+    let l = c .before .before in
+    let t = started l in
+    ((t .pre .0 .0, t .pre .0 .1, omega arith), (omega arith, l .loop .inv .1))
 
 returns : tie.Need-returns Inv-loop μ-loop
 returns c =
     let w = c .before .loop in
-    let a = c .before .before .before .before .args in
+    let a = started (c .before) .args in
     let e : w .v ≡ a .surface .n - 1 = omega arith in
     rw e at (w .inv .1)
 

@@ -1,4 +1,5 @@
--- `mesh::triangles::build_rule_row` meets its contract: after v cells the list holds the triangles of the slots up to cell (u, v).
+-- `mesh::triangles::build_rule_row` meets its contract: after v cells the list holds the triangles of the slots up to
+-- cell (u, v).
 use Prim.Native.Nat.{_+_, _-_, _*_, _≤_}
 use mathlib.Core.Path.{_≡_, refl, _∙_}
 use native.Mathlib.Omega.{arith}
@@ -13,7 +14,9 @@ use Rattle.mesh.proofs.triangles.build_rule_row.Tie as tie
 
 abbrev Inv-loop : tie.InvT-loop
 Inv-loop surface u triangles₀ start n count₀ v₀ triangles count v =
-    (v ≤ surface .n) × (trianglesIn count triangles ≡ kept (shapeOf surface) (2 * (u * surface .n + v))) × (length triangles ≡ length triangles₀)
+    (v ≤ surface .n)
+    × (trianglesIn count triangles ≡ kept (shapeOf surface) (2 * (u * surface .n + v)))
+    × (length triangles ≡ length triangles₀)
 
 abbrev μ-loop : tie.MeasureT-loop
 μ-loop surface u triangles₀ start n count₀ v₀ triangles count v = surface .n - v

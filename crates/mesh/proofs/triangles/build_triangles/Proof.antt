@@ -1,4 +1,5 @@
--- `mesh::triangles::build_triangles` meets its contract: after u rows the list holds the triangles of their slots, and the starts are known up to u.
+-- `mesh::triangles::build_triangles` meets its contract: after u rows the list holds the triangles of their slots, and
+-- the starts are known up to u.
 use Prim.Native.Nat.{ℕ, _+_, _-_, _*_, _≤_}
 use mathlib.Core.Path.{_≡_, refl, _∙_}
 use native.Mathlib.Omega.{arith}
@@ -23,9 +24,16 @@ Inv-loop surface triangles₀ starts₀ m count₀ u₀ triangles starts count u
 abbrev μ-loop : tie.MeasureT-loop
 μ-loop surface triangles₀ starts₀ m count₀ u₀ triangles starts count u = surface .m - u
 
--- the start, from the loop
+-- the start, from the loop; and the loop, from where a row is built
 abbrev started : tie.At-loop Inv-loop μ-loop → tie.Start Inv-loop μ-loop
 started l = l .before .before .before
+
+abbrev looped : tie.After-build-row Inv-loop μ-loop → tie.At-loop Inv-loop μ-loop
+looped e = e .before .before .before
+
+-- the number of the triangles before row i
+abbrev number : tie.Start Inv-loop μ-loop → ℕ → ℕ
+number t i = let s = t .args .surface in triangleNumber (shapeOf s) (2 * (i * s .n))
 
 loop-holds : tie.Need-loop-holds Inv-loop μ-loop
 loop-holds c =
@@ -34,23 +42,27 @@ loop-holds c =
     let s = shapeOf (a .surface) in
     let none = none-held s (a .surface .n) (a .triangles .now) in
     let zero-first = held-count s (2 * (0 * a .surface .n)) 0 (a .triangles .now) none in
-    (omega arith, none, refl, refl, value-first (λ (i : ℕ). triangleNumber s (2 * (i * a .surface .n))) (a .starts .now) 0 (omega arith) zero-first)
+    (omega arith, none, refl, refl, value-first (number t) (a .starts .now) 0 (omega arith) zero-first)
 
 slice-write-starts-2 : tie.Need-slice-write-starts-2 Inv-loop μ-loop
-slice-write-starts-2 c = omega (arith, length-set (started (c .before .before .before .before .before) .args .starts .now) 0 0)
+slice-write-starts-2 c =
+    let a = started (looped (c .before .before)) .args in
+    omega (arith, length-set (a .starts .now) 0 0)
 
 loop-again : tie.Need-loop-again Inv-loop μ-loop
 loop-again c =
-    let b = c .before .before .build-row in
-    let l = c .before .before .before .before .before in
+    let e = c .before .before in
+    let b = e .build-row in
+    let l = looped e in
     let w = l .loop in
-    let a = started l .args in
+    let t = started l in
+    let a = t .args in
     let s = shapeOf (a .surface) in (
       omega arith,
       b .ensures,
       omega arith,
       length-set (w .starts) (w .u + 1) (b .result) ∙ w .inv .3,
-      values-more (λ (i : ℕ). triangleNumber s (2 * (i * a .surface .n))) (w .starts) (w .u) (b .result)
+      values-more (number t) (w .starts) (w .u) (b .result)
           (omega (arith, length-set (a .starts .now) 0 0))
           (w .inv .4)
           (held-count s (2 * ((w .u + 1) * a .surface .n)) (b .result) (b .last .1 .1 .0) (b .ensures)),
@@ -63,8 +75,10 @@ returns : tie.Need-returns Inv-loop μ-loop
 returns c =
     let w = c .before .loop in
     let a = started (c .before) .args in
-    let e : w .u ≡ a .surface .m = omega arith in
-    (rw e at (w .inv .1), record { room = omega (arith, length-set (a .starts .now) 0 0); at = λ i h. w .inv .4 i (omega arith) })
+    let e : w .u ≡ a .surface .m = omega arith in (
+      rw e at (w .inv .1),
+      record { room = omega (arith, length-set (a .starts .now) 0 0); at = λ i h. w .inv .4 i (omega arith) },
+    )
 
 pub build-triangles-spec : {M : Type 1} → statement M
 build-triangles-spec =

@@ -7,6 +7,13 @@ use Rattle.vector.proofs.Close.{none-apart}
 use Rattle.vector.proofs.Vector.all_close.Statement.{statement}
 use Rattle.vector.proofs.Vector.all_close.Tie as tie
 
+-- where the difference is taken, from where its x is not apart; and that place, from where its y is not either
+abbrev subtracted : tie.Else1 → tie.After-sub
+subtracted x = x .before .before
+
+abbrev x-near : tie.Else2 → tie.Else1
+x-near y = y .before .before
+
 returns : tie.Need-returns
 unfolding eps
 returns c =
@@ -19,7 +26,7 @@ returns c =
 returns-2 : tie.Need-returns-2
 unfolding eps
 returns-2 c =
-    let s = c .before .before .before .before in
+    let s = subtracted (c .before .before) in
     let a = s .before .args in
     let d = s .sub .result in
     apart-second (a .self) (a .other) d eps (s .sub .ensures)
@@ -28,7 +35,7 @@ returns-2 c =
 returns-3 : tie.Need-returns-3
 unfolding eps
 returns-3 c =
-    let s = c .before .before .before .before .before .before in
+    let s = subtracted (x-near (c .before .before)) in
     let a = s .before .args in
     let d = s .sub .result in
     apart-third (a .self) (a .other) d eps (s .sub .ensures)
@@ -39,8 +46,8 @@ unfolding eps
 returns-4 c =
     let z = c .before .before .before in
     let y = z .before .before in
-    let x = y .before .before in
-    let s = x .before .before in
+    let x = x-near y in
+    let s = subtracted x in
     let a = s .before .args in
     let d = s .sub .result in
     none-apart (a .self) (a .other) d eps (s .sub .ensures)
