@@ -2,7 +2,7 @@
 -- offsets that are left, after the comparisons so far. The inner loops': all points tried at an offset are the points
 -- that are left, after one comparison for each before, and k is the image of j. At most 131,072 comparisons are made at
 -- an offset, so that their sum fits.
-use Prim.Native.Nat.{_+_, _-_, _*_, _<_}
+use Prim.Native.Nat.{ℕ, _+_, _-_, _*_, _≤_}
 use native.Mathlib.Omega.{arith}
 use mathlib.Core.Path.{sym, _∙_}
 use mathlib.Core.Logic.{⊎-elim}
@@ -10,6 +10,7 @@ use borrow.Author.Needs.{needs}
 use denote.Ref.{now}
 use Rattle.float.specs.Consts.{eps}
 use Rattle.cyclic.specs.declared.mapping.CyclicMapping.the-variants.{Forward, Reverse}
+use Rattle.cyclic.specs.Mapping.{HasIndex}
 use Rattle.cyclic.specs.Search.{rowOf, closeAt}
 use Rattle.cyclic.proofs.Remains.{Trying, point-after-run, first-point, next-point, last-point, far-point}
 use Rattle.cyclic.proofs.Remains.{Searching, first-offset, forward-fits, reverse-fits, next-offset, no-offset}
@@ -70,6 +71,11 @@ stand-reverse r =
     inside (started (offset-tried (forward (r .before .before))) .pre) (r .loop2 .j) (r .loop2 .k)
     (r .loop2 .inv .index .2) (r .loop2 .inv .other)
 
+-- an index of the rows is one at the offset that is tried, forward and in reverse
+there : (e : tie.Else2 Inv-loop μ-loop Inv-loop2 μ-loop2 Inv-offsets μ-offsets) (j : ℕ) →
+    let n = started e .args .steps in j ≤ n → HasIndex (Forward (e .before .offsets .offset) n) j
+there e j l = (started e .pre .steps-most, omega (arith, e .before .offsets .inv, e .if2 .left), l)
+
 offsets-holds : tie.Need-offsets-holds Inv-loop μ-loop Inv-loop2 μ-loop2 Inv-offsets μ-offsets
 offsets-holds c =
     first-offset (called c .pre .steps-least) (c .before .rows-closed .ensures)
@@ -84,13 +90,9 @@ opposite-requires c κs = c .close-run .ensures .0
 loop-holds : tie.Need-loop-holds Inv-loop μ-loop Inv-loop2 μ-loop2 Inv-offsets μ-offsets
 loop-holds c =
     let e = c .before in
-    let o = e .before in
-    let s = started e in
-    let below : o .offsets .offset < s .args .steps = omega (arith, o .offsets .inv, e .if2 .left) in
     ⊎-elim
-    (λ w. point-after-run (w .0 .taken) (s .pre .steps-most, below, w .1 .ensures .0) (w .1 .ensures .1) (w .3)
-    (w .4 ∙ w .2 .ensures))
-    (λ w. first-point (w .0 .left) (s .pre .steps-most, below, omega arith) (w .1) (w .2))
+    (λ w. point-after-run (w .0 .taken) (there e _ (w .1 .ensures .0)) (w .1 .ensures .1) (w .3) (w .4 ∙ w .2 .ensures))
+    (λ w. first-point (w .0 .left) (there e 0 (omega arith)) (w .1) (w .2))
     (c .if3 .came)
 
 loop-again : tie.Need-loop-again Inv-loop μ-loop Inv-loop2 μ-loop2 Inv-offsets μ-offsets
@@ -111,13 +113,9 @@ opposite-requires-2 c κs = c .close-run2 .ensures .0
 loop2-holds : tie.Need-loop2-holds Inv-loop μ-loop Inv-loop2 μ-loop2 Inv-offsets μ-offsets
 loop2-holds c =
     let e = offset-tried (forward (c .before)) in
-    let o = e .before in
-    let s = started e in
-    let below : o .offsets .offset < s .args .steps = omega (arith, o .offsets .inv, e .if2 .left) in
     ⊎-elim
-    (λ w. point-after-run (w .0 .taken) (s .pre .steps-most, below, w .1 .ensures .0) (w .1 .ensures .1) (w .3)
-    (w .4 ∙ w .2 .ensures))
-    (λ w. first-point (w .0 .left) (s .pre .steps-most, below, omega arith) (w .1) (w .2))
+    (λ w. point-after-run (w .0 .taken) (there e _ (w .1 .ensures .0)) (w .1 .ensures .1) (w .3) (w .4 ∙ w .2 .ensures))
+    (λ w. first-point (w .0 .left) (there e 0 (omega arith)) (w .1) (w .2))
     (c .if6 .came)
 
 loop2-again : tie.Need-loop2-again Inv-loop μ-loop Inv-loop2 μ-loop2 Inv-offsets μ-offsets
