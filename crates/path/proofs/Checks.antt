@@ -27,7 +27,8 @@ module _ (g : List Float) (m n : ℕ) (points : List Float) (starts : List ℕ) 
   abbrev Leaves : GridPathsAnswer → List Float → List ℕ → Type 0
   Leaves a ps ss = afterwards (statedPaths a) (pathLists ps ss) ≡ gridPaths g m n (pathLists points starts)
 
-  pub refused : {c : Check} {k : Refusal} → c ≡ pathsCheck g m n points starts → c ≡ Failed k → Leaves (Refused k) points starts
+  pub refused : {c : Check} {k : Refusal} → c ≡ pathsCheck g m n points starts → c ≡ Failed k →
+      Leaves (Refused k) points starts
   unfolding gridPaths
   refused ec e = rw (← ec, e)
 
@@ -43,9 +44,11 @@ module _ (g : List Float) (m n : ℕ) (points : List Float) (starts : List ℕ) 
   unfolding pathsCheck
   passed-shape h = grid-passed g m n (unless (roomFits m n points starts) Room Passed) h .shaped
 
-  pub passed-room : pathsCheck g m n points starts ≡ Passed → (6 * ((m + 1) * (n + 1)) ≤ length points) × (m + n + 2 ≤ length starts)
+  pub passed-room : pathsCheck g m n points starts ≡ Passed →
+      (6 * ((m + 1) * (n + 1)) ≤ length points) × (m + n + 2 ≤ length starts)
   unfolding pathsCheck
   passed-room h =
       let own = grid-passed g m n (unless (roomFits m n points starts) Room Passed) h .own in
-      let t = and-both (leb (6 * ((m + 1) * (n + 1))) (length points)) (leb (m + n + 2) (length starts)) (unless-passed (roomFits m n points starts) Room Passed own .0) in
+      let fits = unless-passed (roomFits m n points starts) Room Passed own .0 in
+      let t = and-both (leb (6 * ((m + 1) * (n + 1))) (length points)) (leb (m + n + 2) (length starts)) fits in
       (leb-true _ _ (t .0), leb-true _ _ (t .1))

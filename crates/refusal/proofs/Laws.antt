@@ -1,4 +1,5 @@
--- Where tests pass one after the other, each of them passes: a test that fails answers by itself. And an answer behind tests.
+-- Where tests pass one after the other, each of them passes: a test that fails answers by itself. And an answer behind
+-- tests.
 use mathlib.Core.Path.{_≡_, refl, sym}
 use mathlib.Core.Bool.{Bool, true, false, true≢false}
 use Prim.Native.Nat.{ℕ}

@@ -57,7 +57,8 @@ floor-cut (fin false m e) = wider (m * up e / down e)
 cut-between : (x : Float) (k n : ℕ) → k ≤ 2 ^ 53 → n ≤ 2 ^ 53 → le (natFloat k) x ≡ true → le x (natFloat n) ≡ true →
     (k ≤ toUnsigned 64 x) × (toUnsigned 64 x ≤ n)
 cut-between x k n hk hn lo hi =
-    let from-zero = le-of-not-lt zero64 (natFloat k) (unfold isNan ofBits in refl) (nat-not-nan k hk) (nat-nonneg k) in (
+    let from-zero =
+    le-of-not-lt zero64 (natFloat k) (unfold isNan ofBits in refl) (nat-not-nan k hk) (nat-nonneg k) in (
       le-trans (floor-at-least x k lo hk) (floor-cut x),
       counted x n hn (le-transitive zero64 (natFloat k) x from-zero lo) hi .1,
     )

@@ -1,4 +1,5 @@
--- `path::check_paths` meets its contract: 1 is refused at once, and past it M and N are at most 255, so that the room is a number that fits.
+-- `path::check_paths` meets its contract: 1 is refused at once, and past it M and N are at most 255, so that the room
+-- is a number that fits.
 use mathlib.Core.Path.{sym, ap, _∙_}
 use native.Mathlib.Omega.{arith}
 use borrow.Author.Needs.{needs}
@@ -9,8 +10,11 @@ use Rattle.path.specs.GridPaths.{pathsCheck}
 use Rattle.path.proofs.check_paths.Statement.{statement}
 use Rattle.path.proofs.check_paths.Tie as tie
 
+abbrev started : tie.After-steps-fit → tie.Start
+started s = s .before .before .before .before
+
 -- 1 does not apply
-stepped : (e : tie.Else1) → let a = e .before .before .before .before .before .args in Stepped (a .m) (a .n)
+stepped : (e : tie.Else1) → let a = started (e .before) .args in Stepped (a .m) (a .n)
 stepped e = steps-known _ _ (held (e .before .steps-fit .ensures) (e .if1 .left))
 
 -- the grid's tests, with the test of room between them, are those of `pathsCheck`

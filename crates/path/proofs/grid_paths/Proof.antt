@@ -24,7 +24,9 @@ abbrev points-drawn : tie.After-starts → tie.After-points
 points-drawn s = s .before .before .before .before
 
 -- no refusal applies
-passed : (e : tie.After-enum-told) → let a = started (tested e) .args in pathsCheck (a .grid .now) (a .m) (a .n) (a .points .now) (a .starts .now) ≡ Passed
+passed : (e : tie.After-enum-told) →
+    let a = started (tested e) .args in
+    pathsCheck (a .grid .now) (a .m) (a .n) (a .points .now) (a .starts .now) ≡ Passed
 passed e = sym (tested e .check-paths .ensures) ∙ e .enum-told .given .1
 
 -- the grid that passed

@@ -9,14 +9,17 @@ use Rattle.cyclic.proofs.Rows.{no-length, no-coordinate, rows-pass}
 use Rattle.cyclic.proofs.seam.check_rows.Statement.{statement}
 use Rattle.cyclic.proofs.seam.check_rows.Tie as tie
 
+abbrev started : tie.After-row-fits → tie.Start
+started r = r .before .before .before
+
 returns : tie.Need-returns
 returns c =
     sym (no-length _ _
     (failed (ap₂ _&&_ (c .before .before .row-fits .ensures) (c .before .row-fits2 .ensures)) (c .if1 .taken)))
 
 -- past the first test both lengths fit
-lengths : (t : tie.Else1) → let s =
-    t .before .before .before .before .before .args in rowFits (now (s .a)) && rowFits (now (s .b)) ≡ true
+lengths : (t : tie.Else1) →
+    let s = started (t .before .before) .args in rowFits (now (s .a)) && rowFits (now (s .b)) ≡ true
 lengths t = held (ap₂ _&&_ (t .before .before .row-fits .ensures) (t .before .row-fits2 .ensures)) (t .if1 .left)
 
 returns-2 : tie.Need-returns-2

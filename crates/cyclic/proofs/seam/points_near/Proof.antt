@@ -10,13 +10,20 @@ use Rattle.grid.specs.Grid.{pointAt}
 use Rattle.cyclic.proofs.seam.points_near.Statement.{statement}
 use Rattle.cyclic.proofs.seam.points_near.Tie as tie
 
+-- places: the start, and the difference of the points
+abbrev started : tie.After-point-at → tie.Start
+started p = p .before .before .before
+
+abbrev subtracted : tie.After-struct-known6 → tie.After-sub
+subtracted c = c .before .before .before .before .before .before
+
 returns : tie.Need-returns
 unfolding eps ofBits
 returns c =
-    let d = c .before .before .before .before .before .before in
+    let d = subtracted c in
     let q = d .before in
     let p = q .before in
-    let s = p .before .before .before .args in
+    let s = started p .args in
     λ h. close-within (pointAt (now (s .a)) (s .i)) (pointAt (now (s .b)) (s .k)) (d .sub .result) eps
     (d .sub .ensures ∙ ap₂ minus (p .point-at .ensures) (q .point-at2 .ensures)) h
 

@@ -18,36 +18,52 @@ Inv-loop grid first apart step count points₀ at width number₀ place₀ left�
 abbrev μ-loop : tie.MeasureT-loop
 μ-loop grid first apart step count points₀ at width number₀ place₀ left₀ points number place left = left
 
+-- places: the start; the turn of the loop, from where its first point is put; and where a point is put, from where the
+-- next one is
+abbrev started : tie.At-loop Inv-loop μ-loop → tie.Start Inv-loop μ-loop
+started l = l .before .before .before
+
+abbrev looped : tie.After-put Inv-loop μ-loop → tie.In-loop Inv-loop μ-loop
+looped u = u .before .before .before
+
+abbrev first-put : tie.After-put2 Inv-loop μ-loop → tie.After-put Inv-loop μ-loop
+first-put u = u .before .before .before .before .before
+
+abbrev second-put : tie.After-put3 Inv-loop μ-loop → tie.After-put2 Inv-loop μ-loop
+second-put u = u .before .before .before .before .before
+
+abbrev third-put : tie.After-put4 Inv-loop μ-loop → tie.After-put3 Inv-loop μ-loop
+third-put u = u .before .before .before .before .before
+
+-- the turn, seen from before the second, the third and the fourth point, and from after the last
+abbrev turn₂ : tie.After-slice-known2 Inv-loop μ-loop → tie.In-loop Inv-loop μ-loop
+turn₂ c = looped (c .before .before)
+
+abbrev turn₃ : tie.After-slice-known3 Inv-loop μ-loop → tie.In-loop Inv-loop μ-loop
+turn₃ c = looped (first-put (c .before .before))
+
+abbrev turn₄ : tie.After-slice-known4 Inv-loop μ-loop → tie.In-loop Inv-loop μ-loop
+turn₄ c = looped (first-put (second-put (c .before .before)))
+
+abbrev turn₅ : tie.After-slice-known5 Inv-loop μ-loop → tie.In-loop Inv-loop μ-loop
+turn₅ c = looped (first-put (second-put (third-put (c .before .before))))
+
 loop-holds : tie.Need-loop-holds Inv-loop μ-loop
 loop-holds c = (refl, refl, refl, omega arith, refl)
 
 -- in a turn of the loop
-less : (t : tie.In-loop Inv-loop μ-loop) →
-    Fewer 1 (t .before .loop .left) (t .before .before .before .before .args .step)
+less : (t : tie.In-loop Inv-loop μ-loop) → Fewer 1 (t .before .loop .left) (started (t .before) .args .step)
 less t = fewer 1 _ _ (t .loop-test .taken)
-
--- the turn, seen from before the second, the third and the fourth point, and from after the last
-abbrev turn₂ : tie.After-slice-known2 Inv-loop μ-loop → tie.In-loop Inv-loop μ-loop
-turn₂ c = c .before .before .before .before .before
-
-abbrev turn₃ : tie.After-slice-known3 Inv-loop μ-loop → tie.In-loop Inv-loop μ-loop
-turn₃ c = turn₂ (c .before .before .before .before .before)
-
-abbrev turn₄ : tie.After-slice-known4 Inv-loop μ-loop → tie.In-loop Inv-loop μ-loop
-turn₄ c = turn₃ (c .before .before .before .before .before)
-
-abbrev turn₅ : tie.After-slice-known5 Inv-loop μ-loop → tie.In-loop Inv-loop μ-loop
-turn₅ c = turn₄ (c .before .before .before .before .before)
 
 loop-again : tie.Need-loop-again Inv-loop μ-loop
 loop-again c =
     let u4 = c .before .before in
-    let u3 = u4 .before .before .before .before .before in
-    let u2 = u3 .before .before .before .before .before in
-    let u1 = u2 .before .before .before .before .before in
-    let t = u1 .before .before .before in
+    let u3 = third-put u4 in
+    let u2 = second-put u3 in
+    let u1 = first-put u2 in
+    let t = looped u1 in
     let l = t .before .loop in
-    let a = t .before .before .before .before .args in
+    let a = started (t .before) .args in
     let step = less t in (
       omega (arith, u1, u2, u3),
       omega (arith, t),
@@ -62,7 +78,7 @@ loop-again c =
 returns : tie.Need-returns Inv-loop μ-loop
 returns c =
     let l = c .before .loop in
-    let a = c .before .before .before .before .args in
+    let a = started (c .before) .args in
     sym (sym
     (lanes-runs (a .grid .now) (a .apart) (a .step) (3 * a .count) (a .count) 4 (a .points .now) (a .at)
     (a .first) refl)

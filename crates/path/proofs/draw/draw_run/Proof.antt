@@ -20,18 +20,24 @@ Inv-loop grid first step count points₀ at number₀ place₀ left₀ points nu
 abbrev μ-loop : tie.MeasureT-loop
 μ-loop grid first step count points₀ at number₀ place₀ left₀ points number place left = left
 
+-- places: the start, and the turn of the loop, from where its point is put
+abbrev started : tie.At-loop Inv-loop μ-loop → tie.Start Inv-loop μ-loop
+started l = l .before .before .before
+
+abbrev looped : tie.After-put Inv-loop μ-loop → tie.In-loop Inv-loop μ-loop
+looped u = u .before .before .before
+
 loop-holds : tie.Need-loop-holds Inv-loop μ-loop
 loop-holds c = (refl, refl, refl, refl)
 
 -- in a turn of the loop
-less : (t : tie.In-loop Inv-loop μ-loop) →
-    Fewer 1 (t .before .loop .left) (t .before .before .before .before .args .step)
+less : (t : tie.In-loop Inv-loop μ-loop) → Fewer 1 (t .before .loop .left) (started (t .before) .args .step)
 less t = fewer 1 _ _ (t .loop-test .taken)
 
 loop-again : tie.Need-loop-again Inv-loop μ-loop
 loop-again c =
     let u = c .before .before in
-    let t = u .before .before .before in
+    let t = looped u in
     let l = t .before .loop in (
       omega arith,
       omega (arith, less t),
@@ -51,7 +57,7 @@ draw-run-spec =
     loop-holds
     (λ c κs. omega (arith, less (c .before)))
     (λ c κs. omega arith)
-    (λ c. omega (arith, less (c .before .before .before .before .before)))
+    (λ c. omega (arith, less (looped (c .before .before))))
     (λ c. omega arith)
     (λ c. omega arith)
     (λ c. omega arith)

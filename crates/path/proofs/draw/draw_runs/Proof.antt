@@ -31,24 +31,34 @@ Inv-loop2 grid lines apart step count points₀ at width first₀ place₀ left�
 abbrev μ-loop2 : tie.MeasureT-loop2
 μ-loop2 grid lines apart step count points₀ at width first₀ place₀ left₀ points first place left = left
 
+-- places: the start, and the turn of either loop, from where its runs are drawn
+abbrev started : tie.At-loop Inv-loop μ-loop Inv-loop2 μ-loop2 → tie.Start Inv-loop μ-loop Inv-loop2 μ-loop2
+started l = l .before .before .before
+
+abbrev looped : tie.After-draw-four Inv-loop μ-loop Inv-loop2 μ-loop2 → tie.In-loop Inv-loop μ-loop Inv-loop2 μ-loop2
+looped d = d .before .before
+
+abbrev looped2 : tie.After-draw-run Inv-loop μ-loop Inv-loop2 μ-loop2 → tie.In-loop2 Inv-loop μ-loop Inv-loop2 μ-loop2
+looped2 d = d .before .before
+
 loop-holds : tie.Need-loop-holds Inv-loop μ-loop Inv-loop2 μ-loop2
 loop-holds c = (refl, omega arith, refl, refl)
 
 -- in a turn of the first loop, and of the second
 four-less : (t : tie.In-loop Inv-loop μ-loop Inv-loop2 μ-loop2) →
-    let a = t .before .before .before .before .args in
+    let a = started (t .before) .args in
     let left = t .before .loop .left in Fewer 4 left (a .apart) × Fewer 4 left (3 * a .count)
 four-less t = (fewer 4 _ _ (t .loop-test .taken), fewer 4 _ _ (t .loop-test .taken))
 
 one-less : (t : tie.In-loop2 Inv-loop μ-loop Inv-loop2 μ-loop2) →
-    let a = t .before .before .before .before .before .before .args in
+    let a = started (t .before .before .before) .args in
     let left = t .before .loop2 .left in Fewer 1 left (a .apart) × Fewer 1 left (3 * a .count)
 one-less t = (fewer 1 _ _ (t .loop2-test .taken), fewer 1 _ _ (t .loop2-test .taken))
 
 loop-again : tie.Need-loop-again Inv-loop μ-loop Inv-loop2 μ-loop2
 loop-again c =
     let d = c .before .before in
-    let t = d .before .before in
+    let t = looped d in
     let l = t .before .loop in (
       omega arith,
       omega (arith, four-less t),
@@ -62,7 +72,7 @@ loop2-holds c = let l = c .before .loop in (refl, l .inv .1, l .inv .2, refl)
 loop2-again : tie.Need-loop2-again Inv-loop μ-loop Inv-loop2 μ-loop2
 loop2-again c =
     let d = c .before .before in
-    let t = d .before .before in
+    let t = looped2 d in
     let l = t .before .loop2 in (
       omega arith,
       omega (arith, one-less t),
@@ -88,15 +98,15 @@ draw-runs-spec =
     loop-holds
     (λ c κs. omega (arith, four-less (c .before)))
     (λ c. omega arith)
-    (λ c. omega (arith, four-less (c .before .before .before .before)))
-    (λ c. omega (arith, four-less (c .before .before .before .before)))
-    (λ c. omega (arith, four-less (c .before .before .before .before)))
+    (λ c. omega (arith, four-less (looped (c .before .before))))
+    (λ c. omega (arith, four-less (looped (c .before .before))))
+    (λ c. omega (arith, four-less (looped (c .before .before))))
     (λ c. omega arith)
     loop-again
     loop2-holds
     (λ c κs. let t = c .before in omega (arith, one-less t, t))
-    (λ c. let t = c .before .before .before .before in omega (arith, one-less t, t))
-    (λ c. let t = c .before .before .before .before in omega (arith, one-less t, t))
+    (λ c. let t = looped2 (c .before .before) in omega (arith, one-less t, t))
+    (λ c. let t = looped2 (c .before .before) in omega (arith, one-less t, t))
     (λ c. omega arith)
     (λ c. omega arith)
     loop2-again

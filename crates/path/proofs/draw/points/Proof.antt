@@ -5,13 +5,22 @@ use borrow.Author.Needs.{needs}
 use Rattle.path.proofs.draw.points.Statement.{statement}
 use Rattle.path.proofs.draw.points.Tie as tie
 
+-- places: the start, and where the lines along u and those along v are drawn
+abbrev started : tie.After-draw-runs → tie.Start
+started u = u .before .before .before .before
+
+abbrev u-drawn : tie.After-draw-runs2 → tie.After-draw-runs
+u-drawn v = v .before .before .before .before
+
+abbrev v-drawn : tie.After-zero-floats → tie.After-draw-runs2
+v-drawn z = z .before .before .before .before
+
 returns : tie.Need-returns
 returns c =
     let z = c .before .before in
-    let d2 = z .before .before .before .before in
-    let d1 = d2 .before .before .before .before in
-    let s = d1 .before .before .before .before in
-    points-drawn _ _ _ _ (s .pre .3) (d1 .draw-runs .ensures) (d2 .draw-runs2 .ensures) (z .zero-floats .ensures)
+    let v = v-drawn z in
+    let u = u-drawn v in
+    points-drawn _ _ _ _ (started u .pre .3) (u .draw-runs .ensures) (v .draw-runs2 .ensures) (z .zero-floats .ensures)
 
 pub points-spec : {M : Type 1} → statement M
 points-spec =

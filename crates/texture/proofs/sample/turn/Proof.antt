@@ -5,6 +5,10 @@ use borrow.Author.Needs.{needs}
 use Rattle.texture.proofs.sample.turn.Statement.{statement}
 use Rattle.texture.proofs.sample.turn.Tie as tie
 
+-- where the match tells a spiral
+abbrev told : tie.After-part → tie.After-texture2
+told c = c .before .before .before .before
+
 returns-2 : tie.Need-returns-2
 unfolding tau
 returns-2 c =
@@ -13,8 +17,8 @@ returns-2 c =
 returns-3 : tie.Need-returns-3
 unfolding tau
 returns-3 c =
-    turn-spiral _ _ _ _ (c .before .before .before .before .texture2 .given .1)
-    (c .before .before .texture-spacing .ensures) (c .before .spiral-turns .ensures) (c .part .ensures)
+    turn-spiral _ _ _ _ (told c .texture2 .given .1) (c .before .before .texture-spacing .ensures)
+    (c .before .spiral-turns .ensures) (c .part .ensures)
 
 pub turn-spec : {M : Type 1} → statement M
 turn-spec =

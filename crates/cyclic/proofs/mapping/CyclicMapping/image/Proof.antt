@@ -9,11 +9,14 @@ use Rattle.cyclic.proofs.Mappings.{forward-zero, forward-other, has-ind
 use Rattle.cyclic.proofs.mapping.CyclicMapping.image.Statement.{statement}
 use Rattle.cyclic.proofs.mapping.CyclicMapping.image.Tie as tie
 
+abbrev started : tie.After-self → tie.Start
+started s = s .before .before
+
 -- forward, at an offset other than 0
 there : (c : tie.Else1) →
-    HasIndex (Forward (c .before .before .self .given .0 .0) (c .before .before .self .given .0 .1 .0))
-    (c .before .before .before .before .args .a-idx)
-there c = let s = c .before .before in has-index-as _ (s .self .given .1) (s .before .before .pre)
+    let s = c .before .before in
+    HasIndex (Forward (s .self .given .0 .0) (s .self .given .0 .1 .0)) (started s .args .a-idx)
+there c = let s = c .before .before in has-index-as _ (s .self .given .1) (started s .pre)
 
 returns : tie.Need-returns
 returns c = rw (c .before .before .self .given .1) (sym (forward-zero _ _ _ (c .if1 .taken)))

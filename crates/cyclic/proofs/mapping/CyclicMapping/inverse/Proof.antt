@@ -10,11 +10,14 @@ use Rattle.cyclic.proofs.Mappings.{inverse-zero, inverse-other, has-ind
 use Rattle.cyclic.proofs.mapping.CyclicMapping.inverse.Statement.{statement}
 use Rattle.cyclic.proofs.mapping.CyclicMapping.inverse.Tie as tie
 
+abbrev started : tie.After-self → tie.Start
+started s = s .before .before
+
 -- forward, at an offset other than 0
 there : (c : tie.Else1) →
-    HasIndex (Forward (c .before .before .self .given .0 .0) (c .before .before .self .given .0 .1 .0))
-    (c .before .before .before .before .args .b-idx)
-there c = let s = c .before .before in has-index-as _ (s .self .given .1) (s .before .before .pre)
+    let s = c .before .before in
+    HasIndex (Forward (s .self .given .0 .0) (s .self .given .0 .1 .0)) (started s .args .b-idx)
+there c = let s = c .before .before in has-index-as _ (s .self .given .1) (started s .pre)
 
 returns : tie.Need-returns
 returns c = rw (c .before .before .self .given .1) (sym (inverse-zero _ _ _ (c .if1 .taken)))

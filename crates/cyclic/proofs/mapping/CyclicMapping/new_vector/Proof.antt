@@ -10,25 +10,32 @@ use Rattle.cyclic.proofs.Rows.{passed-length, refused-is, answer-is}
 use Rattle.cyclic.proofs.mapping.CyclicMapping.new_vector.Statement.{statement}
 use Rattle.cyclic.proofs.mapping.CyclicMapping.new_vector.Tie as tie
 
+-- the start, from where the tests are done; and that place, from where the match tells that none failed
+abbrev started : tie.After-check-rows → tie.Start
+started r = r .before .before .before
+
+abbrev tested : tie.After-enum-told → tie.After-check-rows
+tested t = t .before .before
+
 search-requires : tie.Need-search-requires
 search-requires c κs =
-    let r = c .before .before in
-    let s = r .before .before .before .args in
+    let r = tested c in
+    let s = started r .args in
     passed-length (now (s .a)) (now (s .b)) (sym (r .check-rows .ensures) ∙ c .enum-told .given .1)
 
 returns : tie.Need-returns
 returns c =
     let r = c .before .before .before in
-    let s = r .before .before .before .args in
+    let s = started r .args in
     refused-is (now (s .a)) (now (s .b)) eps (sym (r .check-rows .ensures) ∙ c .before .k .given .1)
 
 -- what the search answers, as either arm has its seam
 found : (f : tie.After-search) {x : Seam} → f .search .result .seam ≡ x →
-    let s = f .before .before .before .before .before .before .args in
+    let s = started (tested (f .before)) .args in
     ok (searched x (f .search .result .comparisons)) ≡ newVector (now (s .a)) (now (s .b)) eps
 found f e =
     let t = f .before in
-    let r = t .before .before in
+    let r = tested t in
     ap (λ (x : Seam). ok (searched x (f .search .result .comparisons))) (sym e)
     ∙ answer-is _ _ eps (sym (r .check-rows .ensures) ∙ t .enum-told .given .1) (f .search .ensures)
 
