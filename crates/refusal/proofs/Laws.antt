@@ -18,7 +18,8 @@ then-passed Passed after h = (refl, h)
 then-passed (Failed k) after h = absurd (true≢false (cc))
 
 -- a test before others is a test before the first of them
-pub unless-then : (t : Bool) (k : Refusal) (c after : Check) → unless t k (andThen c after) ≡ andThen (unless t k c) after
+pub unless-then : (t : Bool) (k : Refusal) (c after : Check) →
+    unless t k (andThen c after) ≡ andThen (unless t k c) after
 unless-then true k c after = refl
 unless-then false k c after = refl
 
