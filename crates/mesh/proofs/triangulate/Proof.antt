@@ -14,7 +14,8 @@ use Rattle.mesh.proofs.Answers.{pairs-most, pairs-filled, lists-written
 use Rattle.mesh.proofs.triangulate.Statement.{statement}
 use Rattle.mesh.proofs.triangulate.Tie as tie
 
--- ---- places: the start, the triangles, the pairs, and zero past the triangles, each from the next
+-- ---- places: the start, from where the triangles are asked for; the triangles, the pairs, and zero past the
+-- triangles, each from the next
 
 abbrev started : tie.After-starts → tie.Start
 started e = e .before .before .before .before

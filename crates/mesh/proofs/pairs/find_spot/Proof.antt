@@ -45,8 +45,8 @@ loop-again c =
     let f = pairAt (a .list .now) in
     let w = l .loop in (
       omega arith,
-      spot-on f (a .count) (w .i) (pair (a .low) (a .high)) (omega arith) (w .inv .1) (c .before .if1 .left)
-          (c .if2 .left),
+      spot-on f (a .count) (w .i) (pair (a .low) (a .high)) (omega arith) (w .inv .1)
+          (c .before .if1 .left) (c .if2 .left),
     )
 
 returns-3 : tie.Need-returns-3 Inv-loop μ-loop
