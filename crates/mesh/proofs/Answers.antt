@@ -51,11 +51,16 @@ admitted g m n t f h =
     let room = unless (roomFits m n t f) Room Passed in
     let own = unless-passed (roomFits m n t f) Room Passed (grid-passed g m n room h .own) .0 in
     let r = and-both (leb (6 * (m * n)) (length t)) (leb (2 * (m + n)) (length f)) own in
-    record { accepted = grid-accepted g m n room h; triangle-room = leb-true (6 * (m * n)) (length t) (r .0); pair-room = leb-true (2 * (m + n)) (length f) (r .1) }
+    record {
+      accepted = grid-accepted g m n room h;
+      triangle-room = leb-true (6 * (m * n)) (length t) (r .0);
+      pair-room = leb-true (2 * (m + n)) (length f) (r .1);
+    }
 
 -- The seams that are found fit the grid
 
-pub found-bounded : (g : List Float) (m n : ℕ) {u v : SeamSearch} → Accepted g m n → u ≡ uSearch g m n → v ≡ vSearch g m n →
+pub found-bounded : (g : List Float) (m n : ℕ) {u v : SeamSearch} →
+    Accepted g m n → u ≡ uSearch g m n → v ≡ vSearch g m n →
     Bounded (record { m = m; n = n; u = u .seam; v = v .seam })
 found-bounded g m n {u} {v} h p q =
     let s = accepted-known g m n h .steps in
@@ -71,7 +76,8 @@ found-bounded g m n {u} {v} h p q =
 -- Filled lists
 
 -- a list whose contents stand in front, with zero written past them
-list-filled : (k : ℕ) (contents l lent : List ℕ) → k ≤ length l → contents ≡ take k l → length l ≡ length lent → zeroedFrom 0 k l ≡ filled 0 contents lent
+list-filled : (k : ℕ) (contents l lent : List ℕ) → k ≤ length l → contents ≡ take k l → length l ≡ length lent →
+    zeroedFrom 0 k l ≡ filled 0 contents lent
 list-filled k contents l lent h e q =
     let n : length contents ≡ k = ap length e ∙ length-take-le k l h in
     rw (← n) (zeroed-filled 0 contents l lent q (rw n (sym e)))
@@ -81,26 +87,39 @@ pub all-kept : (s : Shape) {ts : List Triangle} → ts ≡ kept s (2 * (s .M * s
 unfolding triangles slots
 all-kept s e = e
 
-pub triangles-most : (s : Shape) (count : ℕ) (l : List ℕ) → trianglesIn count l ≡ kept s (2 * (s .M * s .N)) → 3 * count ≤ 6 * (s .M * s .N)
+pub triangles-most : (s : Shape) (count : ℕ) (l : List ℕ) → trianglesIn count l ≡ kept s (2 * (s .M * s .N)) →
+    3 * count ≤ 6 * (s .M * s .N)
 triangles-most s count l e = omega (arith, held-most s (2 * (s .M * s .N)) count l e)
 
-pub triangles-filled : (s : Shape) (count : ℕ) (l lent : List ℕ) → trianglesIn count l ≡ triangles s → 3 * count ≤ length l → length l ≡ length lent →
+pub triangles-filled : (s : Shape) (count : ℕ) (l lent : List ℕ) →
+    trianglesIn count l ≡ triangles s → 3 * count ≤ length l → length l ≡ length lent →
     zeroedFrom 0 (3 * count) l ≡ filled 0 (triangleNumbers (triangles s)) lent
-triangles-filled s count l lent e h q = list-filled (3 * count) (triangleNumbers (triangles s)) l lent h (ap triangleNumbers (sym e) ∙ triangles-held count l h) q
+triangles-filled s count l lent e h q =
+    list-filled (3 * count) (triangleNumbers (triangles s)) l lent h
+    (ap triangleNumbers (sym e) ∙ triangles-held count l h) q
 
 pub pairs-most : (s : Shape) (count : ℕ) (l : List ℕ) → pairsIn count l ≡ flipped s → 2 * count ≤ 2 * (s .M + s .N)
 pairs-most s count l e =
     let us = flips AxisU s (s .su) [] in
-    omega (arith, held-pairs count l (e ∙ sym (flipped-is s)), seam-most AxisV s (s .sv) us, seam-most AxisU s (s .su) [])
+    omega (
+      arith,
+      held-pairs count l (e ∙ sym (flipped-is s)),
+      seam-most AxisV s (s .sv) us,
+      seam-most AxisU s (s .su) [],
+    )
 
-pub pairs-filled : (s : Shape) (count : ℕ) (l lent : List ℕ) → pairsIn count l ≡ flipped s → 2 * count ≤ length l → length l ≡ length lent →
+pub pairs-filled : (s : Shape) (count : ℕ) (l lent : List ℕ) →
+    pairsIn count l ≡ flipped s → 2 * count ≤ length l → length l ≡ length lent →
     zeroedFrom 0 (2 * count) l ≡ filled 0 (pairNumbers (flipped s)) lent
-pairs-filled s count l lent e h q = list-filled (2 * count) (pairNumbers (flipped s)) l lent h (ap pairNumbers (sym e) ∙ pairs-held count l h) q
+pairs-filled s count l lent e h q =
+    list-filled (2 * count) (pairNumbers (flipped s)) l lent h
+    (ap pairNumbers (sym e) ∙ pairs-held count l h) q
 
 -- What is handed over
 
 pub lists-written : (s : Shape) (t f : List ℕ) {t′ f′ : List ℕ} {k p : ℕ} →
-    t′ ≡ filled 0 (triangleNumbers (triangles s)) t → f′ ≡ filled 0 (pairNumbers (flipped s)) f → k ≡ length (triangles s) → p ≡ length (flipped s) →
+    t′ ≡ filled 0 (triangleNumbers (triangles s)) t → f′ ≡ filled 0 (pairNumbers (flipped s)) f →
+    k ≡ length (triangles s) → p ≡ length (flipped s) →
     afterwards (record { triangles = k; pairs = p }) (meshLists t′ f′) ≡ written s (meshLists t f)
 lists-written s t f ts ps k p = rw (ts, ps, k, p)
 
@@ -108,12 +127,15 @@ lists-written s t f ts ps k p = rw (ts, ps, k, p)
 abbrev Hands : List Float → ℕ → ℕ → List ℕ → List ℕ → Triangulation → List ℕ → List ℕ → Type 0
 Hands g m n t f a t′ f′ = afterwards (statedTriangulation a) (meshLists t′ f′) ≡ triangulateGrid g m n (meshLists t f)
 
-pub refused-hands : (g : List Float) (m n : ℕ) (t f : List ℕ) {c : Check} {k : Refusal} → c ≡ meshCheck g m n t f → c ≡ Failed k → Hands g m n t f (Refused k) t f
+pub refused-hands : (g : List Float) (m n : ℕ) (t f : List ℕ) {c : Check} {k : Refusal} →
+    c ≡ meshCheck g m n t f → c ≡ Failed k → Hands g m n t f (Refused k) t f
 unfolding triangulateGrid
 refused-hands g m n t f p e = rw (← p, e)
 
-pub passed-hands : (g : List Float) (m n : ℕ) (t f t′ f′ : List ℕ) {c : Check} {u v : SeamSearch} {r : MeshCounts} → c ≡ meshCheck g m n t f → c ≡ Passed →
-    u ≡ uSearch g m n → v ≡ vSearch g m n → afterwards r (meshLists t′ f′) ≡ written (surfaceWith m n (u .seam) (v .seam)) (meshLists t f) →
+pub passed-hands : (g : List Float) (m n : ℕ) (t f t′ f′ : List ℕ) {c : Check} {u v : SeamSearch} {r : MeshCounts} →
+    c ≡ meshCheck g m n t f → c ≡ Passed → u ≡ uSearch g m n → v ≡ vSearch g m n →
+    afterwards r (meshLists t′ f′) ≡ written (surfaceWith m n (u .seam) (v .seam)) (meshLists t f) →
     Hands g m n t f (Triangulated u v (r .triangles) (r .pairs)) t′ f′
 unfolding triangulateGrid
-passed-hands g m n t f t′ f′ p e a b w = rw (← p, e) (answered-in (meshed (uSearch g m n) (vSearch g m n)) (rw (a, b)) (rw (a, b) at w))
+passed-hands g m n t f t′ f′ p e a b w =
+    rw (← p, e) (answered-in (meshed (uSearch g m n) (vSearch g m n)) (rw (a, b)) (rw (a, b) at w))

@@ -34,7 +34,8 @@ pub added-one : (ts : List Triangle) (t : Triangle) → proper t ≡ true → ts
 added-one ts t e = rw e
 
 -- one slot more
-kept-more : (s : Shape) (k : ℕ) {t : Triangle} {before after : List Triangle} → t ≡ slot s k → before ≡ kept s k → after ≡ before ++ addedBy t → after ≡ kept s (k + 1)
+kept-more : (s : Shape) (k : ℕ) {t : Triangle} {before after : List Triangle} →
+    t ≡ slot s k → before ≡ kept s k → after ≡ before ++ addedBy t → after ≡ kept s (k + 1)
 unfolding kept
 kept-more s k e b a = rw (add-one, a, b, e)
 
@@ -71,25 +72,30 @@ row-first s n u = ap (kept s) (omega arith)
 
 module _ (surface : Surface) (u v : ℕ) (h : v < surface .n) where
   -- slot i, of half x of the cell
-  slot-of : (i x : ℕ) → i % 2 ≡ x → i / 2 ≡ u * surface .n + v → slot (shapeOf surface) i ≡ halfOf (shapeOf surface) falling x u v
+  slot-of : (i x : ℕ) → i % 2 ≡ x → i / 2 ≡ u * surface .n + v →
+      slot (shapeOf surface) i ≡ halfOf (shapeOf surface) falling x u v
   unfolding slot
   slot-of i x e d = rw (e, d, digits-div u h, digits-mod u h)
 
   -- the cell's triangles are those of its two slots
-  pub slot-first : {cell : Cell} → cell ≡ cellOf (shapeOf surface) u v → firstOf cell ≡ slot (shapeOf surface) (2 * (u * surface .n + v))
+  pub slot-first : {cell : Cell} → cell ≡ cellOf (shapeOf surface) u v →
+      firstOf cell ≡ slot (shapeOf surface) (2 * (u * surface .n + v))
   unfolding halfOf
   slot-first c = ap firstOf c ∙ sym (slot-of (2 * (u * surface .n + v)) 0 (omega arith) (omega arith))
 
-  pub slot-second : {cell : Cell} → cell ≡ cellOf (shapeOf surface) u v → secondOf cell ≡ slot (shapeOf surface) (2 * (u * surface .n + v) + 1)
+  pub slot-second : {cell : Cell} → cell ≡ cellOf (shapeOf surface) u v →
+      secondOf cell ≡ slot (shapeOf surface) (2 * (u * surface .n + v) + 1)
   unfolding halfOf
   slot-second c = ap secondOf c ∙ sym (slot-of (2 * (u * surface .n + v) + 1) 1 (omega arith) (omega arith))
 
   -- what the cell's triangles are added to, and give
-  pub cell-first : {cell : Cell} {before after : List Triangle} → cell ≡ cellOf (shapeOf surface) u v → before ≡ kept (shapeOf surface) (2 * (u * surface .n + v)) →
+  pub cell-first : {cell : Cell} {before after : List Triangle} →
+      cell ≡ cellOf (shapeOf surface) u v → before ≡ kept (shapeOf surface) (2 * (u * surface .n + v)) →
       after ≡ before ++ addedBy (firstOf cell) → after ≡ kept (shapeOf surface) (2 * (u * surface .n + v) + 1)
   cell-first c b a = kept-more (shapeOf surface) (2 * (u * surface .n + v)) (slot-first c) b a
 
-  pub cell-second : {cell : Cell} {before after : List Triangle} → cell ≡ cellOf (shapeOf surface) u v → before ≡ kept (shapeOf surface) (2 * (u * surface .n + v) + 1) →
+  pub cell-second : {cell : Cell} {before after : List Triangle} →
+      cell ≡ cellOf (shapeOf surface) u v → before ≡ kept (shapeOf surface) (2 * (u * surface .n + v) + 1) →
       after ≡ before ++ addedBy (secondOf cell) → after ≡ kept (shapeOf surface) (2 * (u * surface .n + (v + 1)))
   cell-second c b a =
       let e : 2 * (u * surface .n + v) + 1 + 1 ≡ 2 * (u * surface .n + (v + 1)) = omega arith in

@@ -30,18 +30,22 @@ module _ {A : Type 0} where
   getD-firsts f (suc k) i d h =
       ⊎-elim
       (λ l. List·getD-append (firsts f k) (f k ∷ []) d i (omega (arith, length-firsts f k)) ∙ getD-firsts f k i d l)
-      (λ l. let e : i ≡ k = omega arith in getD-at (firsts f k) (f k) [] d i (omega (arith, length-firsts f k)) ∙ ap f (sym e))
+      (λ l. getD-at (firsts f k) (f k) [] d i (omega (arith, length-firsts f k)) ∙ ap f (omega arith))
       (lt-or-le i k)
 
   -- p in front of value i, the values from there on one place further
-  pub firsts-put : (f g : ℕ → A) (k i : ℕ) (p : A) → i ≤ k → ((j : ℕ) → j < i → g j ≡ f j) → g i ≡ p → ((j : ℕ) → i ≤ j → j < k → g (suc j) ≡ f j) →
+  pub firsts-put : (f g : ℕ → A) (k i : ℕ) (p : A) → i ≤ k →
+      ((j : ℕ) → j < i → g j ≡ f j) → g i ≡ p → ((j : ℕ) → i ≤ j → j < k → g (suc j) ≡ f j) →
       firsts g (suc k) ≡ take i (firsts f k) ++ (p ∷ drop i (firsts f k))
   unfolding firsts
   firsts-put f g zero i p h low here high =
       let z : i ≡ 0 = omega arith in
       rw (z, rw z at here)
   firsts-put f g (suc k) i p h low here high =
-      ⊎-elim (λ l. inside l (firsts-put f g k i p (omega arith) low here (λ j q r. high j q (omega arith)))) end (lt-or-le i (suc k))
+      ⊎-elim
+      (λ l. inside l (firsts-put f g k i p (omega arith) low here (λ j q r. high j q (omega arith))))
+      end
+      (lt-or-le i (suc k))
     where
       end : suc k ≤ i → firsts g (suc (suc k)) ≡ take i (firsts f (suc k)) ++ (p ∷ drop i (firsts f (suc k)))
       end l =
@@ -53,7 +57,9 @@ module _ {A : Type 0} where
           let last : g (suc k) ≡ p = ap g (sym e) ∙ here in
           rw (all, none, same, last)
 
-      inside : i < suc k → firsts g (suc k) ≡ take i (firsts f k) ++ (p ∷ drop i (firsts f k)) → firsts g (suc (suc k)) ≡ take i (firsts f (suc k)) ++ (p ∷ drop i (firsts f (suc k)))
+      inside : i < suc k →
+          firsts g (suc k) ≡ take i (firsts f k) ++ (p ∷ drop i (firsts f k)) →
+          firsts g (suc (suc k)) ≡ take i (firsts f (suc k)) ++ (p ∷ drop i (firsts f (suc k)))
       inside l init =
           let n = length-firsts f k in
           let front = take-append-le i (firsts f k) (f k ∷ []) (omega arith) in
@@ -62,13 +68,15 @@ module _ {A : Type 0} where
           rw (front, back, init, last, append-assoc)
 
 -- the first value of f written into a list
-pub value-first : (f : ℕ → ℕ) (l : List ℕ) (x : ℕ) → 0 < length l → x ≡ f 0 → (i : ℕ) → i ≤ 0 → getD (set l 0 x) i 0 ≡ f i
+pub value-first : (f : ℕ → ℕ) (l : List ℕ) (x : ℕ) → 0 < length l → x ≡ f 0 →
+    (i : ℕ) → i ≤ 0 → getD (set l 0 x) i 0 ≡ f i
 value-first f l x h z i q =
     let e : i ≡ 0 = omega arith in
     rw (e, getD-set-same l 0 x 0 h) z
 
 -- one more value of f written into a list that has those up to u
-pub values-more : (f : ℕ → ℕ) (l : List ℕ) (u x : ℕ) → u + 1 < length l → ((i : ℕ) → i ≤ u → getD l i 0 ≡ f i) → x ≡ f (u + 1) →
+pub values-more : (f : ℕ → ℕ) (l : List ℕ) (u x : ℕ) → u + 1 < length l →
+    ((i : ℕ) → i ≤ u → getD l i 0 ≡ f i) → x ≡ f (u + 1) →
     (i : ℕ) → i ≤ u + 1 → getD (set l (u + 1) x) i 0 ≡ f i
 values-more f l u x h known e i q =
     ⊎-elim

@@ -33,7 +33,8 @@ steps-most AxisU surface b = b .n-most
 steps-most AxisV surface b = b .m-most
 
 -- the number of a triangle from the count after it
-pub number-before : (s : Shape) (k x : ℕ) → x ≡ triangleNumber s (k + 1) → proper (slot s k) ≡ true → x ≡ triangleNumber s k + 1
+pub number-before : (s : Shape) (k x : ℕ) → x ≡ triangleNumber s (k + 1) → proper (slot s k) ≡ true →
+    x ≡ triangleNumber s k + 1
 number-before s k x e p = rw (e, number-step, p)
 
 pub ordered-up : (a b : ℕ) → a < b → pair a b ≡ ordered a b
@@ -48,14 +49,17 @@ ordered-down a b h =
     let r : max a b ≡ a = omega arith in
     rw (l, r)
 
-module _ (axis : Axis) (s : Shape) (m : Seam) (i : ℕ) (ps : List Pair) {on : ℕ} (here : on ≡ stepOn m (stepsOf axis s) i) where
+module _ (axis : Axis) (s : Shape) (m : Seam) (i : ℕ) (ps : List Pair)
+    {on : ℕ} (here : on ≡ stepOn m (stepsOf axis s) i) where
   -- no step of the low rim lies on step i of the high rim
   pub no-step : stepsOf axis s ≤ on → ps ≡ flipStep axis s m i ps
   no-step h = rw (← here, le-ltb on (stepsOf axis s) h)
 
   -- one does: their triangles are a pair if both are there
-  pub step-pair : {a b : Bool} → on < stepsOf axis s → a ≡ proper (slot s (lowOf axis s on)) → b ≡ proper (slot s (highOf axis s i)) →
-      flipStep axis s m i ps ≡ cond (a && b) (insert (ordered (triangleNumber s (lowOf axis s on)) (triangleNumber s (highOf axis s i))) ps) ps
+  pub step-pair : {a b : Bool} → on < stepsOf axis s →
+      a ≡ proper (slot s (lowOf axis s on)) → b ≡ proper (slot s (highOf axis s i)) →
+      let p = ordered (triangleNumber s (lowOf axis s on)) (triangleNumber s (highOf axis s i)) in
+      flipStep axis s m i ps ≡ cond (a && b) (insert p ps) ps
   step-pair h low high = rw (← here, lt-ltb on (stepsOf axis s) h, low, high)
 
 -- Steps one after another
@@ -64,7 +68,8 @@ pub flips-none : (axis : Axis) (s : Shape) (m : Seam) (ps : List Pair) → ps �
 unfolding process
 flips-none axis s m ps = refl
 
-pub flips-more : (axis : Axis) (s : Shape) (m : Seam) (i : ℕ) (ps : List Pair) → flipStep axis s m i (flipSteps axis s m i ps) ≡ flipSteps axis s m (i + 1) ps
+pub flips-more : (axis : Axis) (s : Shape) (m : Seam) (i : ℕ) (ps : List Pair) →
+    flipStep axis s m i (flipSteps axis s m i ps) ≡ flipSteps axis s m (i + 1) ps
 unfolding process
 flips-more axis s m i ps = rw (add-one i)
 
@@ -80,21 +85,27 @@ insert-most p (q ∷ qs) =
     (cond-most (ltb (p .high) (q .high)) _ _ _ (omega arith)
     (cond-most (ltb (q .high) (p .high)) _ _ _ (omega arith) (omega arith))))
 
-step-most : (axis : Axis) (s : Shape) (m : Seam) (i : ℕ) (ps : List Pair) → length (flipStep axis s m i ps) ≤ suc (length ps)
+step-most : (axis : Axis) (s : Shape) (m : Seam) (i : ℕ) (ps : List Pair) →
+    length (flipStep axis s m i ps) ≤ suc (length ps)
 step-most axis s m i ps =
-    cond-most (ltb (stepOn m (stepsOf axis s) i) (stepsOf axis s)) _ _ _
-    (cond-most (proper (slot s (lowOf axis s (stepOn m (stepsOf axis s) i))) && proper (slot s (highOf axis s i))) _ _ _
-    (insert-most (ordered (triangleNumber s (lowOf axis s (stepOn m (stepsOf axis s) i))) (triangleNumber s (highOf axis s i))) ps)
+    let on = stepOn m (stepsOf axis s) i in
+    let a = lowOf axis s on in
+    let b = highOf axis s i in
+    cond-most (ltb on (stepsOf axis s)) _ _ _
+    (cond-most (proper (slot s a) && proper (slot s b)) _ _ _
+    (insert-most (ordered (triangleNumber s a) (triangleNumber s b)) ps)
     (omega arith))
     (omega arith)
 
 -- at most one pair a step
-pub flips-most : (axis : Axis) (s : Shape) (m : Seam) (n : ℕ) (ps : List Pair) → length (flipSteps axis s m n ps) ≤ length ps + n
+pub flips-most : (axis : Axis) (s : Shape) (m : Seam) (n : ℕ) (ps : List Pair) →
+    length (flipSteps axis s m n ps) ≤ length ps + n
 unfolding process
 flips-most axis s m zero ps = omega arith
 flips-most axis s m (suc n) ps = omega (arith, step-most axis s m n (flipSteps axis s m n ps), flips-most axis s m n ps)
 
-pub seam-most : (axis : Axis) (s : Shape) (m : Seam) (ps : List Pair) → length (flips axis s m ps) ≤ length ps + stepsOf axis s
+pub seam-most : (axis : Axis) (s : Shape) (m : Seam) (ps : List Pair) →
+    length (flips axis s m ps) ≤ length ps + stepsOf axis s
 seam-most axis s m ps = cond-most (reversed m) _ _ _ (flips-most axis s m (stepsOf axis s) ps) (omega arith)
 
 -- the count is the number of pairs that the list holds
@@ -104,11 +115,13 @@ held-pairs count l e = sym (length-firsts (pairAt l) count) ∙ ap length e
 -- One seam
 
 -- a found seam's mapping fits where the seam does
-pub maps-told : {seam : Found} {m : CyclicMapping} {steps : ℕ} → seam ≡ Joined m → Maps seam steps → Maps (Joined m) steps
+pub maps-told : {seam : Found} {m : CyclicMapping} {steps : ℕ} →
+    seam ≡ Joined m → Maps seam steps → Maps (Joined m) steps
 maps-told e h = rw e at h
 
 -- what a found seam's test says of it
-pub seam-told : {seam : Found} {m : CyclicMapping} {r t : Bool} → seam ≡ Joined m → r ≡ cyclic.isReverse m → r ≡ t → reversed (seamOf seam) ≡ t
+pub seam-told : {seam : Found} {m : CyclicMapping} {r t : Bool} →
+    seam ≡ Joined m → r ≡ cyclic.isReverse m → r ≡ t → reversed (seamOf seam) ≡ t
 seam-told {m = m} e i h = rw (e, ← reverse-is m, ← i, h)
   where
     reverse-is : (k : CyclicMapping) → cyclic.isReverse k ≡ reversed (ofMapping k)
@@ -119,25 +132,29 @@ seam-told {m = m} e i h = rw (e, ← reverse-is m, ← i, h)
 
 -- along u, the counts before each cell of the first u and of the last
 pub rims-u : (surface : Surface) (low high : List ℕ) → surface .n < length low → surface .n < length high →
-    ((i : ℕ) → i ≤ surface .n → getD low i 0 ≡ triangleNumber (shapeOf surface) (2 * (0 * surface .n + i))) →
-    ((i : ℕ) → i ≤ surface .n → getD high i 0 ≡ triangleNumber (shapeOf surface) (2 * ((surface .m - 1) * surface .n + i))) →
+    let number = triangleNumber (shapeOf surface) in
+    ((i : ℕ) → i ≤ surface .n → getD low i 0 ≡ number (2 * (0 * surface .n + i))) →
+    ((i : ℕ) → i ≤ surface .n → getD high i 0 ≡ number (2 * ((surface .m - 1) * surface .n + i))) →
     Rims AxisU (shapeOf surface) low high
 rims-u surface low high p q l h =
+    let number = triangleNumber (shapeOf surface) in
     record {
       low-room = p;
       high-room = q;
-      before = λ i k. l i (omega arith) ∙ ap (triangleNumber (shapeOf surface)) (low-u surface i);
-      after = λ i k. h (i + 1) (omega arith) ∙ ap (triangleNumber (shapeOf surface)) (omega (arith, high-u surface i));
+      before = λ i k. l i (omega arith) ∙ ap number (low-u surface i);
+      after = λ i k. h (i + 1) (omega arith) ∙ ap number (omega (arith, high-u surface i));
     }
 
 -- along v, the counts before each u: its first cell is on the low rim, its last on the high one
-pub rims-v : (surface : Surface) → Bounded surface → (starts : List ℕ) → Starts surface starts → Rims AxisV (shapeOf surface) starts starts
+pub rims-v : (surface : Surface) → Bounded surface → (starts : List ℕ) → Starts surface starts →
+    Rims AxisV (shapeOf surface) starts starts
 rims-v surface b starts t =
+    let number = triangleNumber (shapeOf surface) in
     record {
       low-room = t .room;
       high-room = t .room;
-      before = λ i k. t .at i (omega arith) ∙ ap (triangleNumber (shapeOf surface)) (omega (arith, low-v surface i));
-      after = λ i k. t .at (i + 1) (omega arith) ∙ ap (triangleNumber (shapeOf surface)) (omega (arith, high-v surface i));
+      before = λ i k. t .at i (omega arith) ∙ ap number (omega (arith, low-v surface i));
+      after = λ i k. t .at (i + 1) (omega arith) ∙ ap number (omega (arith, high-v surface i));
     }
 
 pub flipped-is : (s : Shape) → flips AxisV s (s .sv) (flips AxisU s (s .su) []) ≡ flipped s

@@ -29,14 +29,16 @@ take-two l i h =
     let e : i + 2 ≡ i + 1 + 1 = omega arith in
     rw (e, take-one l (i + 1) (omega arith), take-one l i (omega arith), append-assoc)
 
-take-three : (l : List ℕ) (i : ℕ) → i + 3 ≤ length l → take (i + 3) l ≡ take i l ++ (getD l i 0 ∷ getD l (i + 1) 0 ∷ getD l (i + 2) 0 ∷ [])
+take-three : (l : List ℕ) (i : ℕ) → i + 3 ≤ length l →
+    take (i + 3) l ≡ take i l ++ (getD l i 0 ∷ getD l (i + 1) 0 ∷ getD l (i + 2) 0 ∷ [])
 take-three l i h =
     let e : i + 3 ≡ i + 2 + 1 = omega arith in
     rw (e, take-one l (i + 2) (omega arith), take-two l i (omega arith), append-assoc)
 
 -- Triangles
 
-triangles-last : (ts : List Triangle) (t : Triangle) → triangleNumbers (ts ++ (t ∷ [])) ≡ triangleNumbers ts ++ (t .a ∷ t .b ∷ t .c ∷ [])
+triangles-last : (ts : List Triangle) (t : Triangle) →
+    triangleNumbers (ts ++ (t ∷ [])) ≡ triangleNumbers ts ++ (t .a ∷ t .b ∷ t .c ∷ [])
 unfolding triangleNumbers
 triangles-last [] t = refl
 triangles-last (x ∷ ts) t = rw (triangles-last ts t)
@@ -47,7 +49,12 @@ unfolding firsts triangleNumbers
 triangles-held zero l h = refl
 triangles-held (suc k) l h =
     let e : 3 * suc k ≡ 3 * k + 3 = omega arith in
-    rw (e, take-three l (3 * k) (omega arith), triangles-last (trianglesIn k l) (triangleAt l k), triangles-held k l (omega arith))
+    rw (
+      e,
+      take-three l (3 * k) (omega arith),
+      triangles-last (trianglesIn k l) (triangleAt l k),
+      triangles-held k l (omega arith),
+    )
 
 -- three numbers written from place i on
 abbrev written : List ℕ → ℕ → ℕ → ℕ → ℕ → List ℕ
@@ -60,7 +67,9 @@ written-before l i a b c j h =
     ∙ getD-set-other l i j a 0 (λ e. omega arith)
 
 written-at : (l : List ℕ) (i a b c : ℕ) → i + 3 ≤ length l →
-    (getD (written l i a b c) i 0 ≡ a) × (getD (written l i a b c) (i + 1) 0 ≡ b) × (getD (written l i a b c) (i + 2) 0 ≡ c)
+    (getD (written l i a b c) i 0 ≡ a)
+    × (getD (written l i a b c) (i + 1) 0 ≡ b)
+    × (getD (written l i a b c) (i + 2) 0 ≡ c)
 written-at l i a b c h = (
   getD-set-other (set (set l i a) (i + 1) b) (i + 2) i c 0 (λ e. omega arith)
       ∙ getD-set-other (set l i a) (i + 1) i b 0 (λ e. omega arith)
@@ -76,11 +85,17 @@ pub triangle-added : (k : ℕ) (l : List ℕ) (a b c : ℕ) → 3 * k + 3 ≤ le
 unfolding firsts
 triangle-added k l a b c h =
     let w = written-at l (3 * k) a b c h in
-    let init : trianglesIn k (written l (3 * k) a b c) ≡ trianglesIn k l = firsts-same (triangleAt (written l (3 * k) a b c)) (triangleAt l) k same in
+    let l′ = written l (3 * k) a b c in
+    let init : trianglesIn k l′ ≡ trianglesIn k l = firsts-same (triangleAt l′) (triangleAt l) k same in
     rw (add-one k, init, w .0, w .1, w .2)
   where
     same : (i : ℕ) → i < k → triangleAt (written l (3 * k) a b c) i ≡ triangleAt l i
-    same i q = rw (written-before l (3 * k) a b c (3 * i) (omega arith), written-before l (3 * k) a b c (3 * i + 1) (omega arith), written-before l (3 * k) a b c (3 * i + 2) (omega arith))
+    same i q =
+        rw (
+          written-before l (3 * k) a b c (3 * i) (omega arith),
+          written-before l (3 * k) a b c (3 * i + 1) (omega arith),
+          written-before l (3 * k) a b c (3 * i + 2) (omega arith),
+        )
 
 -- Pairs
 
@@ -130,15 +145,25 @@ insert-alike p q qs h =
     let w = and-both (eqb (p .low) (q .low)) (eqb (p .high) (q .high)) h in
     let l = eqb-true (p .low) (q .low) (w .0) in
     let r = eqb-true (p .high) (q .high) (w .1) in
-    rw (le-ltb (p .low) (q .low) (omega arith), le-ltb (q .low) (p .low) (omega arith), le-ltb (p .high) (q .high) (omega arith), le-ltb (q .high) (p .high) (omega arith))
+    rw (
+      le-ltb (p .low) (q .low) (omega arith),
+      le-ltb (q .low) (p .low) (omega arith),
+      le-ltb (p .high) (q .high) (omega arith),
+      le-ltb (q .high) (p .high) (omega arith),
+    )
 
-insert-behind : (p q : Pair) (qs : List Pair) → comes p q ≡ false → alike p q ≡ false → insert p (q ∷ qs) ≡ q ∷ insert p qs
+insert-behind : (p q : Pair) (qs : List Pair) → comes p q ≡ false → alike p q ≡ false →
+    insert p (q ∷ qs) ≡ q ∷ insert p qs
 insert-behind p q qs h k =
     let w = or-neither (ltb (p .low) (q .low)) (eqb (p .low) (q .low) && ltb (p .high) (q .high)) h in
     let l : q .low ≤ p .low = ltb-false (p .low) (q .low) (w .0) in
-    ⊎-elim (λ m. rw (w .0, lt-ltb (q .low) (p .low) m)) (λ m. level (w .0) (w .1) (omega arith)) (lt-or-le (q .low) (p .low))
+    ⊎-elim
+    (λ m. rw (w .0, lt-ltb (q .low) (p .low) m))
+    (λ m. level (w .0) (w .1) (omega arith))
+    (lt-or-le (q .low) (p .low))
   where
-    level : ltb (p .low) (q .low) ≡ false → eqb (p .low) (q .low) && ltb (p .high) (q .high) ≡ false → p .low ≡ q .low → insert p (q ∷ qs) ≡ q ∷ insert p qs
+    level : ltb (p .low) (q .low) ≡ false → eqb (p .low) (q .low) && ltb (p .high) (q .high) ≡ false →
+        p .low ≡ q .low → insert p (q ∷ qs) ≡ q ∷ insert p qs
     level a b e =
         let t = eq-eqb (p .low) (q .low) e in
         let f = and-other (eqb (p .low) (q .low)) (ltb (p .high) (q .high)) b t in
@@ -162,12 +187,14 @@ module _ (f : ℕ → Pair) (k i : ℕ) (p : Pair) (h : i < k) (passed : PassedT
   spot-before e = rw (passed, here, insert-front p (f i) (drop (suc i) (firsts f k)) e)
 
   pub spot-there : alike p (f i) ≡ true → insert p (firsts f k) ≡ firsts f k
-  spot-there e = rw (passed, here, insert-alike p (f i) (drop (suc i) (firsts f k)) e, ← here) (take-append-drop i (firsts f k))
+  spot-there e =
+      rw (passed, here, insert-alike p (f i) (drop (suc i) (firsts f k)) e, ← here) (take-append-drop i (firsts f k))
 
   pub spot-on : comes p (f i) ≡ false → alike p (f i) ≡ false → PassedTo (i + 1) p (firsts f k)
   spot-on a b = rw (add-one, so-far, append-snoc, passed, here, insert-behind p (f i) (drop (suc i) (firsts f k)) a b)
 
-pub spot-end : (f : ℕ → Pair) (k i : ℕ) (p : Pair) → i ≡ k → PassedTo i p (firsts f k) → insert p (firsts f k) ≡ putAt k p (firsts f k)
+pub spot-end : (f : ℕ → Pair) (k i : ℕ) (p : Pair) → i ≡ k → PassedTo i p (firsts f k) →
+    insert p (firsts f k) ≡ putAt k p (firsts f k)
 spot-end f k i p e passed =
     let none = drop-of-length-le (firsts f k) {i = k} (omega (arith, length-firsts f k)) in
     rw e at passed ∙ rw none
@@ -200,13 +227,20 @@ module _ (l l₀ : List ℕ) (k i low high : ℕ) (within : i ≤ k) (room : 2 *
 
   before-it : (j : ℕ) → j < i → pairAt both-written j ≡ pairAt l₀ j
   before-it j h =
-      rw (other (2 * j) (λ e. omega arith) (λ e. omega arith), other (2 * j + 1) (λ e. omega arith) (λ e. omega arith), below (2 * j) (omega arith), below (2 * j + 1) (omega arith))
+      rw (
+        other (2 * j) (λ e. omega arith) (λ e. omega arith),
+        other (2 * j + 1) (λ e. omega arith) (λ e. omega arith),
+        below (2 * j) (omega arith),
+        below (2 * j + 1) (omega arith),
+      )
 
   itself : pairAt both-written i ≡ pair low high
   itself =
-      let a = getD-set-other (set l (2 * i) low) (2 * i + 1) (2 * i) high 0 (λ e. omega arith) ∙ getD-set-same l (2 * i) low 0 (omega arith) in
-      let b = getD-set-same (set l (2 * i) low) (2 * i + 1) high 0 (simp length-set (omega arith)) in
-      rw (a, b)
+      rw (
+        getD-set-other (set l (2 * i) low) (2 * i + 1) (2 * i) high 0 (λ e. omega arith),
+        getD-set-same l (2 * i) low 0 (omega arith),
+        getD-set-same (set l (2 * i) low) (2 * i + 1) high 0 (simp length-set (omega arith)),
+      )
 
   after-it : (j : ℕ) → i ≤ j → j < k → pairAt both-written (suc j) ≡ pairAt l₀ j
   after-it j h q =
@@ -222,4 +256,6 @@ module _ (l l₀ : List ℕ) (k i low high : ℕ) (within : i ≤ k) (room : 2 *
       )
 
   pub pair-put : pairsIn (k + 1) both-written ≡ putAt i (pair low high) (pairsIn k l₀)
-  pair-put = rw (add-one k) (firsts-put (pairAt l₀) (pairAt both-written) k i (pair low high) within before-it itself after-it)
+  pair-put =
+      rw (add-one k)
+      (firsts-put (pairAt l₀) (pairAt both-written) k i (pair low high) within before-it itself after-it)

@@ -20,9 +20,15 @@ abbrev plainCell : ℕ → ℕ → Cell
 plainCell n i = record { i00 = i; i10 = i + n + 1; i01 = i + 1; i11 = i + n + 1 + 1 }
 
 module _ (surface : Surface) where
-  plain-corner : (row u v : ℕ) → u < surface .m → row + 1 < surface .n → corner (shapeOf surface) row u v ≡ pointNumber (surface .n) u v
+  plain-corner : (row u v : ℕ) → u < surface .m → row + 1 < surface .n →
+      corner (shapeOf surface) row u v ≡ pointNumber (surface .n) u v
   unfolding corner cornerBy
-  plain-corner row u v p q = rw (ne-eqb (row + 1) (surface .n) (λ e. omega arith), ne-eqb u (surface .m) (λ e. omega arith), and-false (joined (seamOf (surface .u))))
+  plain-corner row u v p q =
+      rw (
+        ne-eqb (row + 1) (surface .n) (λ e. omega arith),
+        ne-eqb u (surface .m) (λ e. omega arith),
+        and-false (joined (seamOf (surface .u))),
+      )
 
   module _ (u v : ℕ) (p : u + 1 < surface .m) (q : v + 1 < surface .n) where
     plain-cell : cellOf (shapeOf surface) u v ≡ plainCell (surface .n) (pointNumber (surface .n) u v)
@@ -31,11 +37,21 @@ module _ (surface : Surface) where
         let i10 : pointNumber n (u + 1) v ≡ pointNumber n u v + n + 1 = omega arith in
         let i01 : pointNumber n u (v + 1) ≡ pointNumber n u v + 1 = omega arith in
         let i11 : pointNumber n (u + 1) (v + 1) ≡ pointNumber n u v + n + 1 + 1 = omega arith in
-        rw (plain-corner v u v (omega arith) q, plain-corner v (u + 1) v p q, plain-corner v u (v + 1) (omega arith) q, plain-corner v (u + 1) (v + 1) p q, i10, i01, i11)
+        rw (
+          plain-corner v u v (omega arith) q,
+          plain-corner v (u + 1) v p q,
+          plain-corner v u (v + 1) (omega arith) q,
+          plain-corner v (u + 1) (v + 1) p q,
+          i10,
+          i01,
+          i11,
+        )
 
     -- the cell's two triangles, put after those before it
-    pub inner-cell : {i : ℕ} {ts after both : List Triangle} → i ≡ pointNumber (surface .n) u v → ts ≡ kept (shapeOf surface) (2 * (u * surface .n + v)) →
-        after ≡ ts ++ (firstOf (plainCell (surface .n) i) ∷ []) → both ≡ after ++ (secondOf (plainCell (surface .n) i) ∷ []) →
+    pub inner-cell : {i : ℕ} {ts after both : List Triangle} →
+        i ≡ pointNumber (surface .n) u v → ts ≡ kept (shapeOf surface) (2 * (u * surface .n + v)) →
+        after ≡ ts ++ (firstOf (plainCell (surface .n) i) ∷ []) →
+        both ≡ after ++ (secondOf (plainCell (surface .n) i) ∷ []) →
         both ≡ kept (shapeOf surface) (2 * (u * surface .n + (v + 1)))
     inner-cell {i} {ts} {after} e t a b =
         let c = plainCell (surface .n) i in

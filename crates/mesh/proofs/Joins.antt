@@ -22,11 +22,13 @@ use Rattle.mesh.specs.Corners.{shapeOf, Joins, Bounded, placed, joinOf}
 
 -- The cases of one rule
 
-pub join-last : {seam : Seam} {m : CyclicMapping} (last line step : ℕ) → seam ≡ Joined m → line ≡ last → placed 0 (cyclic.inverse m step) ≡ joinOf seam last line step
+pub join-last : {seam : Seam} {m : CyclicMapping} (last line step : ℕ) → seam ≡ Joined m → line ≡ last →
+    placed 0 (cyclic.inverse m step) ≡ joinOf seam last line step
 unfolding joinOf
 join-last last line step e h = rw (e, eq-eqb line last h)
 
-pub join-other : {seam : Seam} {m : CyclicMapping} (last line step : ℕ) → seam ≡ Joined m → (line ≡ last → ⊥) → placed line step ≡ joinOf seam last line step
+pub join-other : {seam : Seam} {m : CyclicMapping} (last line step : ℕ) → seam ≡ Joined m → (line ≡ last → ⊥) →
+    placed line step ≡ joinOf seam last line step
 unfolding joinOf
 join-other last line step e h = rw (e, ne-eqb line last h)
 
@@ -45,22 +47,27 @@ join-bounds : (seam : Seam) (steps last line step : ℕ) → Maps seam steps →
 unfolding joinOf
 join-bounds Unjoined steps last line step h most l = (omega arith, l)
 join-bounds (Joined m) steps last line step h most l =
-    cond-keeps (λ (p : Place). (p .line ≤ line) × (p .step ≤ steps)) (eqb line last) (placed 0 (cyclic.inverse m step)) (placed line step)
+    cond-keeps (λ (p : Place). (p .line ≤ line) × (p .step ≤ steps)) (eqb line last)
+    (placed 0 (cyclic.inverse m step)) (placed line step)
     (omega arith, omega (arith, inverse-within m step (maps-joins (Joined m) steps step h most l)))
     (omega arith, l)
 
-pub join-within : (seam : Seam) (steps last line step : ℕ) {p : Place} → p ≡ joinOf seam last line step → Maps seam steps → steps ≤ 255 → step ≤ steps →
+pub join-within : (seam : Seam) (steps last line step : ℕ) {p : Place} →
+    p ≡ joinOf seam last line step → Maps seam steps → steps ≤ 255 → step ≤ steps →
     (p .line ≤ line) × (p .step ≤ steps)
 join-within seam steps last line step e h most l = rw e (join-bounds seam steps last line step h most l)
 
 -- The two rules
 
-pub inverse-is : (m : CyclicMapping) (steps j : ℕ) → cyclic.stepsOf m ≡ steps → inverse (ofMapping m) steps j ≡ cyclic.inverse m j
+pub inverse-is : (m : CyclicMapping) (steps j : ℕ) → cyclic.stepsOf m ≡ steps →
+    inverse (ofMapping m) steps j ≡ cyclic.inverse m j
 inverse-is m steps j e = rw (← e) (inverse-of m j)
 
 -- the rules of Rules 4.2, of points that are given by their lines and steps
 rule-is : (f : Place → Point) (seam : Seam) (steps last line step : ℕ) → Maps seam steps →
-    cond (joined (seamOf seam) && eqb line last) (f (placed 0 (inverse (seamOf seam) steps step))) (f (placed line step)) ≡ f (joinOf seam last line step)
+    cond (joined (seamOf seam) && eqb line last)
+    (f (placed 0 (inverse (seamOf seam) steps step))) (f (placed line step))
+    ≡ f (joinOf seam last line step)
 unfolding joinOf
 rule-is f Unjoined steps last line step h = refl
 rule-is f (Joined m) steps last line step h = rw (found m, inverse-is m steps step (h .0)) (go (eqb line last))
@@ -69,7 +76,9 @@ rule-is f (Joined m) steps last line step h = rw (found m, inverse-is m steps st
     found (Forward o n) = refl
     found (Reverse o n) = refl
 
-    go : (b : Bool) → cond b (f (placed 0 (cyclic.inverse m step))) (f (placed line step)) ≡ f (cond b (placed 0 (cyclic.inverse m step)) (placed line step))
+    go : (b : Bool) →
+        cond b (f (placed 0 (cyclic.inverse m step))) (f (placed line step))
+        ≡ f (cond b (placed 0 (cyclic.inverse m step)) (placed line step))
     go true = refl
     go false = refl
 
@@ -85,7 +94,8 @@ module _ (s : Surface) (b : Bounded s) where
   unfolding corner cornerBy
   corner-other row u v h e = rw (e, ne-eqb (row + 1) (s .n) h, u-rule u v)
 
-  pub corner-last : (row u v : ℕ) {p q : Place} → row + 1 ≡ s .n → p ≡ joinOf (s .u) (s .m) u v → q ≡ joinOf (s .v) (s .n) (p .step) (p .line) →
+  pub corner-last : (row u v : ℕ) {p q : Place} → row + 1 ≡ s .n →
+      p ≡ joinOf (s .u) (s .m) u v → q ≡ joinOf (s .v) (s .n) (p .step) (p .line) →
       pointNumber (s .n) (q .step) (q .line) ≡ corner (shapeOf s) row u v
   unfolding corner cornerBy
   corner-last row u v h e f = rw (f, e, eq-eqb (row + 1) (s .n) h, u-rule u v, v-rule)

@@ -38,7 +38,8 @@ pub cells-most : (m n : ℕ) → m ≤ 255 → n ≤ 255 → m * n ≤ 65025
 cells-most m n p q = mul-le-mul {n₂ = 255} {m₂ = 255} p q
 
 -- both triangles of cell (u, v) counted
-pub cell-counted : (s : Shape) (n u v : ℕ) {count first last : ℕ} {a b : Bool} → count ≡ triangleNumber s (2 * (u * n + v)) →
+pub cell-counted : (s : Shape) (n u v : ℕ) {count first last : ℕ} {a b : Bool} →
+    count ≡ triangleNumber s (2 * (u * n + v)) →
     a ≡ proper (slot s (2 * (u * n + v))) → first ≡ oneMore count a →
     b ≡ proper (slot s (2 * (u * n + v) + 1)) → last ≡ oneMore first b →
     last ≡ triangleNumber s (2 * (u * n + (v + 1)))
@@ -67,7 +68,8 @@ module _ (surface : Surface) (i : ℕ) where
 
 -- The step of one rim on another
 
-pub step-is : (m : CyclicMapping) (steps i : ℕ) {a b r : ℕ} → cyclic.stepsOf m ≡ steps → a ≡ cyclic.inverse m i → b ≡ cyclic.inverse m (i + 1) →
+pub step-is : (m : CyclicMapping) (steps i : ℕ) {a b r : ℕ} →
+    cyclic.stepsOf m ≡ steps → a ≡ cyclic.inverse m i → b ≡ cyclic.inverse m (i + 1) →
     r ≡ wrapEnds steps a b → r ≡ stepOn (ofMapping m) steps i
 unfolding stepOn
 step-is m steps i e p q h = rw (h, p, q, inverse-is m steps i e, inverse-is m steps (i + 1) e)

@@ -1,4 +1,5 @@
--- `mesh::check_mesh` meets its contract: 1 is refused at once, and past it M and N are at most 255, so that the room is a number that fits.
+-- `mesh::check_mesh` meets its contract: 1 is refused at once, and past it M and N are at most 255, so that the room
+-- is a number that fits.
 use mathlib.Core.Path.{sym, ap, _∙_}
 use native.Mathlib.Omega.{arith}
 use borrow.Author.Needs.{needs}
@@ -9,8 +10,11 @@ use Rattle.mesh.specs.Mesh.{meshCheck}
 use Rattle.mesh.proofs.check_mesh.Statement.{statement}
 use Rattle.mesh.proofs.check_mesh.Tie as tie
 
+abbrev started : tie.Else1 → tie.Start
+started e = e .before .before .before .before .before
+
 -- 1 does not apply
-stepped : (e : tie.Else1) → let a = e .before .before .before .before .before .args in Stepped (a .m) (a .n)
+stepped : (e : tie.Else1) → let a = started e .args in Stepped (a .m) (a .n)
 stepped e = steps-known _ _ (held (e .before .steps-fit .ensures) (e .if1 .left))
 
 -- the grid's tests, with the test of room between them, are those of `meshCheck`

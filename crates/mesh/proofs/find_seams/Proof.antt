@@ -42,10 +42,12 @@ search-rows-requires-2 c κs =
 
 returns : tie.Need-returns
 returns c =
-    let a = c .before .before .before .args in
-    let s = shaped (c .before .before .before) in
-    let z = s .steps in
-    (c .before .search-rows .ensures ∙ sym (u-search (a .grid .now) (a .m) (a .n) (z .n-least)), c .search-rows2 .ensures ∙ sym (v-search (a .grid .now) (a .m) (a .n) (z .m-least)))
+    let t = c .before .before .before in
+    let a = t .args in
+    let z = shaped t .steps in (
+      c .before .search-rows .ensures ∙ sym (u-search (a .grid .now) (a .m) (a .n) (z .n-least)),
+      c .search-rows2 .ensures ∙ sym (v-search (a .grid .now) (a .m) (a .n) (z .m-least)),
+    )
 
 pub find-seams-spec : {M : Type 1} → statement M
 find-seams-spec =

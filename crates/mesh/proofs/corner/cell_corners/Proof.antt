@@ -4,7 +4,13 @@ use Rattle.mesh.proofs.corner.cell_corners.Statement.{statement}
 use Rattle.mesh.proofs.corner.cell_corners.Tie as tie
 
 returns : tie.Need-returns
-returns c = rw (c .before .before .before .corner .ensures, c .before .before .corner2 .ensures, c .before .corner3 .ensures, c .corner4 .ensures)
+returns c =
+    rw (
+      c .before .before .before .corner .ensures,
+      c .before .before .corner2 .ensures,
+      c .before .corner3 .ensures,
+      c .corner4 .ensures,
+    )
 
 pub cell-corners-spec : {M : Type 1} → statement M
 cell-corners-spec =

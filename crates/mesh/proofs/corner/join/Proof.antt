@@ -7,13 +7,17 @@ use Rattle.mesh.proofs.corner.join.Statement.{statement}
 use Rattle.mesh.proofs.corner.join.Tie as tie
 
 inverse-requires : tie.Need-inverse-requires
-inverse-requires c κs = rw (c .before .before .seam .given .1) at (c .before .before .before .before .pre)
+inverse-requires c κs =
+    let t = c .before .before in
+    let s = t .before .before in
+    rw (t .seam .given .1) at (s .pre)
 
 returns : tie.Need-returns
 returns c =
     let t = c .before .before .before in
     let a = t .before .before .args in
-    ap (placed 0) (c .inverse .ensures) ∙ join-last (a .last) (a .line) (a .step) (t .seam .given .1) (c .before .if1 .taken)
+    ap (placed 0) (c .inverse .ensures)
+    ∙ join-last (a .last) (a .line) (a .step) (t .seam .given .1) (c .before .if1 .taken)
 
 returns-2 : tie.Need-returns-2
 returns-2 c =

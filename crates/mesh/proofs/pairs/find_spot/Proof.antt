@@ -1,4 +1,5 @@
--- `mesh::pairs::find_spot` meets its contract: the pairs before i all stand before (low, high), so that inserting it leaves them as they are.
+-- `mesh::pairs::find_spot` meets its contract: the pairs before i all stand before (low, high), so that inserting it
+-- leaves them as they are.
 use Prim.Native.Nat.{_≤_, _-_}
 use native.Mathlib.Omega.{arith}
 use Rattle.surface.specs.Surface.{pair}
@@ -15,29 +16,48 @@ Inv-loop list count low high i₀ i = (i ≤ count) × PassedTo i (pair low high
 abbrev μ-loop : tie.MeasureT-loop
 μ-loop list count low high i₀ i = count - i
 
+-- the loop, from where both numbers of a pair are read
+abbrev looping : tie.After-shared-slice-known2 Inv-loop μ-loop → tie.At-loop Inv-loop μ-loop
+looping e = e .before .before .before
+
 returns : tie.Need-returns Inv-loop μ-loop
 returns c =
-    let a = c .before .before .before .before .before .args in
-    let w = c .before .before .before .before .loop in
-    (omega (arith, length-firsts (pairAt (a .list .now)) (a .count)), spot-before (pairAt (a .list .now)) (a .count) (w .i) (pair (a .low) (a .high)) (omega arith) (w .inv .1) (c .if1 .taken))
+    let l = looping (c .before) in
+    let a = l .before .args in
+    let f = pairAt (a .list .now) in
+    let w = l .loop in (
+      omega (arith, length-firsts f (a .count)),
+      spot-before f (a .count) (w .i) (pair (a .low) (a .high)) (omega arith) (w .inv .1) (c .if1 .taken),
+    )
 
 returns-2 : tie.Need-returns-2 Inv-loop μ-loop
 returns-2 c =
-    let a = c .before .before .before .before .before .before .args in
-    let w = c .before .before .before .before .before .loop in
-    spot-there (pairAt (a .list .now)) (a .count) (w .i) (pair (a .low) (a .high)) (omega arith) (w .inv .1) (c .if2 .taken)
+    let l = looping (c .before .before) in
+    let a = l .before .args in
+    let f = pairAt (a .list .now) in
+    let w = l .loop in
+    spot-there f (a .count) (w .i) (pair (a .low) (a .high)) (omega arith) (w .inv .1) (c .if2 .taken)
 
 loop-again : tie.Need-loop-again Inv-loop μ-loop
 loop-again c =
-    let a = c .before .before .before .before .before .before .args in
-    let w = c .before .before .before .before .before .loop in
-    (omega arith, spot-on (pairAt (a .list .now)) (a .count) (w .i) (pair (a .low) (a .high)) (omega arith) (w .inv .1) (c .before .if1 .left) (c .if2 .left))
+    let l = looping (c .before .before) in
+    let a = l .before .args in
+    let f = pairAt (a .list .now) in
+    let w = l .loop in (
+      omega arith,
+      spot-on f (a .count) (w .i) (pair (a .low) (a .high)) (omega arith) (w .inv .1)
+          (c .before .if1 .left) (c .if2 .left),
+    )
 
 returns-3 : tie.Need-returns-3 Inv-loop μ-loop
 returns-3 c =
-    let a = c .before .before .args in
-    let w = c .before .loop in
-    (omega (arith, length-firsts (pairAt (a .list .now)) (a .count)), spot-end (pairAt (a .list .now)) (a .count) (w .i) (pair (a .low) (a .high)) (omega arith) (w .inv .1))
+    let l = c .before in
+    let a = l .before .args in
+    let f = pairAt (a .list .now) in
+    let w = l .loop in (
+      omega (arith, length-firsts f (a .count)),
+      spot-end f (a .count) (w .i) (pair (a .low) (a .high)) (omega arith) (w .inv .1),
+    )
 
 pub find-spot-spec : {M : Type 1} → statement M
 find-spot-spec =

@@ -1,4 +1,5 @@
--- `mesh::pairs::open_gap` meets its contract: what is below i stands where it did, what is from i on two places further.
+-- `mesh::pairs::open_gap` meets its contract: what is below i stands where it did, what is from i on two places
+-- further.
 use Prim.Native.Nat.{ℕ, _+_, _-_, _≤_, _<_}
 use mathlib.Core.Path.{_≡_}
 use native.Mathlib.Omega.{arith}
@@ -21,13 +22,15 @@ loop-again : tie.Need-loop-again Inv-loop μ-loop
 loop-again c =
     let a = c .before .before .before .args in
     let w = c .before .before .loop in
-    let below : (k : ℕ) → k < w .i - 1 + 1 → getD (w .list) k 0 ≡ getD (a .list .now) k 0 = λ k h. w .inv .3 k (omega arith) in
-    let moved : (k : ℕ) → w .i - 1 + 1 ≤ k → k < a .end → getD (w .list) (k + 2) 0 ≡ getD (a .list .now) k 0 = λ k h q. w .inv .4 k (omega arith) q in (
+    let l = w .list in
+    let l₀ = a .list .now in
+    let i = w .i - 1 in
+    let below : (k : ℕ) → k < i + 1 → getD l k 0 ≡ getD l₀ k 0 = λ k h. w .inv .3 k (omega arith) in (
       omega arith,
       omega arith,
       simp length-set (w .inv .2),
-      gap-below (w .list) (a .list .now) (w .i - 1) below,
-      gap-moved (w .list) (a .list .now) (w .i - 1) (a .end) (omega arith) (below (w .i - 1) (omega arith)) moved,
+      gap-below l l₀ i below,
+      gap-moved l l₀ i (a .end) (omega arith) (below i (omega arith)) (λ k h q. w .inv .4 k (omega arith) q),
     )
 
 returns : tie.Need-returns Inv-loop μ-loop

@@ -6,15 +6,21 @@ use borrow.Author.Needs.{needs}
 use Rattle.mesh.proofs.pairs.put_pair.Statement.{statement}
 use Rattle.mesh.proofs.pairs.put_pair.Tie as tie
 
+-- the start, from where the gap is open
+abbrev started : tie.After-open-gap → tie.Start
+started e = e .before .before .before
+
 slice-write-list-2 : tie.Need-slice-write-list-2
 slice-write-list-2 c = simp length-set (omega arith)
 
 returns : tie.Need-returns
 returns c =
-    let t = c .before .before .before .before .before in
+    let e = c .before .before in
+    let t = started e in
     let a = t .args in
-    let g = c .before .before .open-gap in
-    pair-put (g .last .0) (a .list .now) (a .count) (a .i) (a .low) (a .high) (t .pre .0) (omega arith) (g .ensures .0) (g .ensures .1)
+    let g = e .open-gap in
+    pair-put (g .last .0) (a .list .now) (a .count) (a .i) (a .low) (a .high) (t .pre .0) (omega arith)
+    (g .ensures .0) (g .ensures .1)
 
 pub put-pair-spec : {M : Type 1} → statement M
 put-pair-spec =
