@@ -85,7 +85,8 @@ fn trace_sample(
     ensures { λ r. ⌜ afterwards r
         (lists (now (points .exit)) (now (starts .exit)) (now (sides .exit)) (now (fractions .exit)))
         ≡ pageAfter (onPage (visitMoves (now (grid .entry)) cells visit)
-        (page (lists (now (points .entry)) (now (starts .entry)) (now (sides .entry)) (now (fractions .entry))) pen)) ⌝ }
+        (page (lists (now (points .entry)) (now (starts .entry)) (now (sides .entry)) (now (fractions .entry)))
+        pen)) ⌝ }
 {
     match visit {
         Visit::Break => flush_segment(starts, pen),

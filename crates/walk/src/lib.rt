@@ -110,7 +110,8 @@ fn draw_event(
     ensures { λ r. ⌜ afterwards r
         (lists (now (points .exit)) (now (starts .exit)) (now (sides .exit)) (now (fractions .exit)))
         ≡ pageAfter (onPage (movesOf decision)
-        (page (lists (now (points .entry)) (now (starts .entry)) (now (sides .entry)) (now (fractions .entry))) pen)) ⌝ }
+        (page (lists (now (points .entry)) (now (starts .entry)) (now (sides .entry)) (now (fractions .entry)))
+        pen)) ⌝ }
 {
     let inside = decision.inside;
     let point = decision.point;
@@ -154,7 +155,8 @@ pub fn append_edge_crossings(
     ensures { λ r. ⌜ afterwards r
         (lists (now (points .exit)) (now (starts .exit)) (now (sides .exit)) (now (fractions .exit)))
         ≡ pageAfter (onPage (legMoves (now (grid .entry)) cells leg)
-        (page (lists (now (points .entry)) (now (starts .entry)) (now (sides .entry)) (now (fractions .entry))) pen)) ⌝ }
+        (page (lists (now (points .entry)) (now (starts .entry)) (now (sides .entry)) (now (fractions .entry)))
+        pen)) ⌝ }
 {
     let count = sorted_edge_events(lambdas, codes, cells, leg);
     let mut pen = pen;

@@ -44,12 +44,35 @@ looped d = d .before .before .before .before .before .before
 abbrev decided : tie.After-draw-event Inv-loop μ-loop → tie.After-decide Inv-loop μ-loop
 decided d = d .before .before .before .before .before
 
+abbrev looping : tie.After-draw-event Inv-loop μ-loop → tie.At-loop Inv-loop μ-loop
+looping d = looped (decided d) .before
+
 -- where the scratch lists stand, from the loop
 abbrev lambdas-kept : tie.At-loop Inv-loop μ-loop → tie.After-lambdas Inv-loop μ-loop
 lambdas-kept l = l .before .before .before .before
 
 abbrev codes-kept : tie.At-loop Inv-loop μ-loop → tie.After-codes Inv-loop μ-loop
 codes-kept l = l .before .before
+
+-- the place where a drawn event is refused, and where the walk goes on after it
+abbrev refused : tie.After-known-told2 Inv-loop μ-loop → tie.After-draw-event Inv-loop μ-loop
+refused c = c .before .before .before .before .before .before .before .before .before .before .before
+
+abbrev went-on : tie.After-known-told Inv-loop μ-loop → tie.After-draw-event Inv-loop μ-loop
+went-on c = c .before .before .before .before .before .before .before .before .before .before .before
+
+-- the lists after it
+abbrev points-kept : tie.After-known-told Inv-loop μ-loop → tie.After-points Inv-loop μ-loop
+points-kept c = c .before .before .before .before .before .before .before .before .before .before
+
+abbrev starts-kept : tie.After-known-told Inv-loop μ-loop → tie.After-starts Inv-loop μ-loop
+starts-kept c = c .before .before .before .before .before .before .before .before
+
+abbrev sides-kept : tie.After-known-told Inv-loop μ-loop → tie.After-sides Inv-loop μ-loop
+sides-kept c = c .before .before .before .before .before .before
+
+abbrev fractions-kept : tie.After-known-told Inv-loop μ-loop → tie.After-fractions Inv-loop μ-loop
+fractions-kept c = c .before .before .before .before
 
 -- the events stand in the two scratch lists
 below : (l : tie.At-loop Inv-loop μ-loop) → let o = sorted l .sorted-edge-events in o .result ≤ length (o .last .0)
@@ -90,29 +113,6 @@ decide-requires c κs =
           (leg-inside (s .args .cells) (s .args .leg) (s .pre .1 .0 .0) (s .pre .1 .0 .1) (o .ensures .1))
           (n .loop-test .taken) (e .event-at .ensures),
     )
-
-abbrev looping : tie.After-draw-event Inv-loop μ-loop → tie.At-loop Inv-loop μ-loop
-looping d = looped (decided d) .before
-
--- the place where a drawn event is refused, and where the walk goes on after it
-abbrev refused : tie.After-known-told2 Inv-loop μ-loop → tie.After-draw-event Inv-loop μ-loop
-refused c = c .before .before .before .before .before .before .before .before .before .before .before
-
-abbrev went-on : tie.After-known-told Inv-loop μ-loop → tie.After-draw-event Inv-loop μ-loop
-went-on c = c .before .before .before .before .before .before .before .before .before .before .before
-
--- the lists after it
-abbrev points-kept : tie.After-known-told Inv-loop μ-loop → tie.After-points Inv-loop μ-loop
-points-kept c = c .before .before .before .before .before .before .before .before .before .before
-
-abbrev starts-kept : tie.After-known-told Inv-loop μ-loop → tie.After-starts Inv-loop μ-loop
-starts-kept c = c .before .before .before .before .before .before .before .before
-
-abbrev sides-kept : tie.After-known-told Inv-loop μ-loop → tie.After-sides Inv-loop μ-loop
-sides-kept c = c .before .before .before .before .before .before
-
-abbrev fractions-kept : tie.After-known-told Inv-loop μ-loop → tie.After-fractions Inv-loop μ-loop
-fractions-kept c = c .before .before .before .before
 
 same-length : tie.Need-same-length Inv-loop μ-loop
 same-length c = lambdas-kept (looping (refused c)) .lambdas .given

@@ -12,9 +12,12 @@ use borrow.Author.Needs.{needs}
 use Rattle.edges.proofs.cell.diagonal_cell_at.Statement.{statement}
 use Rattle.edges.proofs.cell.diagonal_cell_at.Tie as tie
 
--- the start, from where the four indices are found
+-- where the point's floors are found, and the start, from where the four indices are found
+abbrev floored : tie.After-index-of2 → tie.After-floor-i642
+floored e = e .before .before .before .before
+
 abbrev start : tie.After-index-of2 → tie.Start
-start e = e .before .before .before .before .before .before
+start e = floored e .before .before
 
 -- the four cells, from the indices that were found
 cells : (e : tie.After-index-of2) →
@@ -26,7 +29,7 @@ cells : (e : tie.After-index-of2) →
     FirstOf (a .point) u0 u1 v0 v1 (diagonalCellAt (a .cells) (a .point))
 cells e =
     let a = start e .args in
-    let y = e .before .before .before .before in
+    let y = floored e in
     let x = y .before in
     four-cells (a .cells) (a .point)
     (toZ-ofZ w64 (x .floor-i64 .result) (record { sfits = x .floor-i64 .ok }) ∙ x .floor-i64 .ensures)

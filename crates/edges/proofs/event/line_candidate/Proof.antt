@@ -7,9 +7,12 @@ use borrow.Author.Needs.{needs}
 use Rattle.edges.proofs.event.line_candidate.Statement.{statement}
 use Rattle.edges.proofs.event.line_candidate.Tie as tie
 
--- the start, from where the lambda is found
+-- the start, from where the lambda is found; and where the point is known, from the last test
 abbrev start : tie.After-lambda-at → tie.Start
 start l = l .before .before .before
+
+abbrev pointed : tie.After-on-line → tie.After-at
+pointed o = o .before .before .before .before
 
 -- the lambda that was found is the line's
 found : (l : tie.After-lambda-at) → let a = start l .args in
@@ -24,7 +27,7 @@ returns c =
 
 returns-2 : tie.Need-returns-2
 returns-2 c =
-    let p = c .before .before .before .before in
+    let p = pointed c in
     let t = p .before .before in
     let l = t .before .before in
     let a = start l .args in

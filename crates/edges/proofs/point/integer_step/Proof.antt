@@ -12,9 +12,13 @@ use borrow.Author.Needs.{needs}
 use Rattle.edges.proofs.point.integer_step.Statement.{statement}
 use Rattle.edges.proofs.point.integer_step.Tie as tie
 
+-- where the step is found, from where the tests are made
+abbrev step-found : tie.After-to-f64 → tie.After-round
+step-found c = c .before .before
+
 tests : (c : tie.After-to-f64) →
-    let step = c .before .before .round .result in
-    let a = c .before .before .before .args in
+    let step = step-found c .round .result in
+    let a = step-found c .before .args in
     lt (c .before .abs .result) eps && (le zero64 step && le step (c .to-f64 .result))
     ≡ lt (absolute (sub binary64 (a .value) (rounded (a .value)))) eps
     && (le zero64 (rounded (a .value)) && le (rounded (a .value)) (natFloat (a .steps)))
@@ -24,7 +28,7 @@ returns : tie.Need-returns
 unfolding integerStep eps
 returns c =
     simp (sym (tests (c .before .before)) ∙ c .before .if1 .taken)
-    (ap Step (c .to-usize .ensures ∙ ap (toUnsigned 64) (c .before .before .before .before .round .ensures)))
+    (ap Step (c .to-usize .ensures ∙ ap (toUnsigned 64) (step-found (c .before .before) .round .ensures)))
 
 returns-2 : tie.Need-returns-2
 unfolding integerStep eps

@@ -7,10 +7,13 @@ use borrow.Author.Needs.{needs}
 use Rattle.edges.proofs.scratch.event_at.Statement.{statement}
 use Rattle.edges.proofs.scratch.event_at.Tie as tie
 
+abbrev started : tie.After-shared-slice-known4 → tie.Start
+started c = c .before .before .before .before .before
+
 returns : tie.Need-returns
 returns c =
-    let a = c .before .before .before .before .before .args in ap (event (getD (a .lambdas .now) (a .i) nan))
-    (c .before .edge-of .ensures)
+    let a = started c .args in
+    ap (event (getD (a .lambdas .now) (a .i) nan)) (c .before .edge-of .ensures)
 
 pub event-at-spec : {M : Type 1} → statement M
 event-at-spec =

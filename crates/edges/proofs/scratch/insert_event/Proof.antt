@@ -11,12 +11,19 @@ use borrow.Author.Needs.{needs}
 use Rattle.edges.proofs.scratch.insert_event.Statement.{statement}
 use Rattle.edges.proofs.scratch.insert_event.Tie as tie
 
+-- the start, from where the place is found; and where the lambda is put there, from where the code is
+abbrev started : tie.After-place-of → tie.Start
+started p = p .before .before .before .before
+
+abbrev lambda-put : tie.After-insert-code → tie.After-insert-lambda
+lambda-put e = e .before .before .before .before .before
+
 returns : tie.Need-returns
 returns c =
     let codes = c .before .before in
-    let lambdas = codes .before .before .before .before .before in
+    let lambdas = lambda-put codes in
     let found = lambdas .before .before in
-    let s = found .before .before .before .before in
+    let s = started found in
     let e = s .args .event in
     let ls = s .args .lambdas .now in
     let cs = s .args .codes .now in

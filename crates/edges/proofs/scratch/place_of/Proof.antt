@@ -1,4 +1,5 @@
--- `edges::scratch::place_of` meets its contract: the place is after what `low` has passed, and not after `high`, which the lambda precedes.
+-- `edges::scratch::place_of` meets its contract: the place is after what `low` has passed, and not after `high`, which
+-- the lambda precedes.
 use mathlib.Core.Path.{_≡_, refl, sym, _∙_}
 use mathlib.Core.Bool.{true}
 use Prim.Native.Nat.{_≤_, _<_, _-_}
@@ -15,17 +16,22 @@ use Rattle.edges.proofs.scratch.place_of.Tie as tie
 
 abbrev Inv-loop : tie.InvT-loop
 Inv-loop lambdas count lambda low₀ high₀ low high =
-    (low ≤ high) × (high < count) × After lambda lambdas low × (precedes (totalOrder lambda (getD lambdas high nan)) ≡ true)
+    (low ≤ high) × (high < count) × After lambda lambdas low
+    × (precedes (totalOrder lambda (getD lambdas high nan)) ≡ true)
 
 abbrev μ-loop : tie.MeasureT-loop
 μ-loop lambdas count lambda low₀ high₀ low high = high - low
 
--- the start, from where the last lambda is compared; and that place, from the loop
+-- the start, from where the last lambda is compared; that place, from the loop; and the loop, from where a lambda
+-- between is compared
 abbrev started : tie.After-precedes Inv-loop μ-loop → tie.Start Inv-loop μ-loop
 started e = e .before .before .before .before
 
 abbrev compared : tie.At-loop Inv-loop μ-loop → tie.After-precedes Inv-loop μ-loop
 compared l = l .before .before
+
+abbrev looped : tie.After-precedes2 Inv-loop μ-loop → tie.In-loop Inv-loop μ-loop
+looped e = e .before .before
 
 returns : tie.Need-returns Inv-loop μ-loop
 returns c =
@@ -37,23 +43,35 @@ returns-2 c =
     let a = started (c .before) .args in
     record {
       most = search needs;
-      after = after-this (a .lambda) (a .lambdas .now) (a .count - 1) (a .count) (omega arith) (failed (c .before .precedes .ensures) (c .if2 .taken));
+      after =
+          after-this (a .lambda) (a .lambdas .now) (a .count - 1) (a .count) (omega arith)
+          (failed (c .before .precedes .ensures) (c .if2 .taken));
       before = λ h. absurd (omega arith);
     }
 
 loop-holds : tie.Need-loop-holds Inv-loop μ-loop
 loop-holds c =
-    let a = started (c .before) .args in
-    (search needs, search needs, after-none (a .lambda) (a .lambdas .now), held (c .before .precedes .ensures) (c .if2 .left))
+    let a = started (c .before) .args in (
+      search needs,
+      search needs,
+      after-none (a .lambda) (a .lambdas .now),
+      held (c .before .precedes .ensures) (c .if2 .left),
+    )
 
 loop-again : tie.Need-loop-again Inv-loop μ-loop
-loop-again c = (search needs, search needs, c .before .before .before .before .loop .inv .2, sym (c .before .precedes2 .ensures) ∙ c .if3 .taken)
+loop-again c =
+    let l = looped (c .before) .before in
+    (search needs, search needs, l .loop .inv .2, sym (c .before .precedes2 .ensures) ∙ c .if3 .taken)
 
 loop-again-2 : tie.Need-loop-again-2 Inv-loop μ-loop
 loop-again-2 c =
-    let l = c .before .before .before .before in
-    let a = started (compared l) .args in
-    (search needs, search needs, after-this (a .lambda) (a .lambdas .now) _ _ refl (sym (c .before .precedes2 .ensures) ∙ c .if3 .left), l .loop .inv .3)
+    let l = looped (c .before) .before in
+    let a = started (compared l) .args in (
+      search needs,
+      search needs,
+      after-this (a .lambda) (a .lambdas .now) _ _ refl (sym (c .before .precedes2 .ensures) ∙ c .if3 .left),
+      l .loop .inv .3,
+    )
 
 returns-3 : tie.Need-returns-3 Inv-loop μ-loop
 returns-3 c =

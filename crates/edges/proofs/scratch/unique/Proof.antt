@@ -14,33 +14,40 @@ Inv-loop lambdas₀ codes₀ count kept₀ last₀ i₀ lambdas codes kept last 
 abbrev μ-loop : tie.MeasureT-loop
 μ-loop lambdas₀ codes₀ count kept₀ last₀ i₀ lambdas codes kept last i = count - i
 
+-- the start, and the loop from where two lambdas are compared
+abbrev started : tie.After-slice-known3 Inv-loop μ-loop → tie.Start Inv-loop μ-loop
+started c = c .before .before .before .before
+
+abbrev looped : tie.After-abs Inv-loop μ-loop → tie.In-loop Inv-loop μ-loop
+looped e = e .before .before
+
 returns : tie.Need-returns Inv-loop μ-loop
 returns c = (search needs, keeping-none _ _ (c .if1 .taken))
 
 loop-holds : tie.Need-loop-holds Inv-loop μ-loop
 loop-holds c =
-    let s = c .before .before .before .before in
+    let s = started c in
     keeping-starts (s .pre .1) (s .pre .0) (search needs)
 
 loop-again : tie.Need-loop-again Inv-loop μ-loop
 unfolding eps
 loop-again c =
-    let t = c .before .before .before in
-    let s = t .before .before .before .before .before .before in
+    let t = looped (c .before) in
+    let s = started (t .before .before) in
     keeping-dropped (s .pre .1) (s .pre .0) (t .before .loop .inv) (t .loop-test .taken)
     (rw (c .before .abs .ensures) at (c .if2 .taken))
 
 loop-again-2 : tie.Need-loop-again-2 Inv-loop μ-loop
 unfolding eps
 loop-again-2 c =
-    let t = c .before .before .before .before in
-    let s = t .before .before .before .before .before .before in
+    let t = looped (c .before .before) in
+    let s = started (t .before .before) in
     keeping-kept (s .pre .1) (s .pre .0) (t .before .loop .inv) (t .loop-test .taken)
     (rw (c .before .before .abs .ensures) at (c .before .if2 .left))
 
 returns-2 : tie.Need-returns-2 Inv-loop μ-loop
 returns-2 c =
-    let s = c .before .before .before .before .before .before in
+    let s = started (c .before .before) in
     (search needs, keeping-ends (s .pre .1) (s .pre .0) (c .before .loop .inv) (c .loop-test .left))
 
 pub unique-spec : {M : Type 1} → statement M

@@ -5,7 +5,7 @@ use borrow.Author.Needs.{needs}
 use Rattle.edges.proofs.sorted.push_candidates.Statement.{statement}
 use Rattle.edges.proofs.sorted.push_candidates.Tie as tie
 
--- from each push the place after the one before it, and from the first the start
+-- from each push the place after the one before it, from the first the start, and from the end the last
 abbrev start : tie.After-push-ends → tie.Start
 start e = e .before .before .before .before .before
 
@@ -18,6 +18,9 @@ us-pushed e = e .before .before .before .before .before .before
 abbrev vs-pushed : tie.After-push-diagonals-arg2 → tie.After-push-lines2
 vs-pushed e = e .before .before .before .before .before .before
 
+abbrev diagonals-pushed : tie.After-slice-known10 → tie.After-push-diagonals
+diagonals-pushed e = e .before .before .before .before
+
 push-lines-requires : tie.Need-push-lines-requires
 push-lines-requires c κs = (search needs, ends-pushed c .push-ends .ensures .2)
 
@@ -29,7 +32,7 @@ push-diagonals-requires c κs = (search needs, vs-pushed c .push-lines2 .ensures
 
 returns : tie.Need-returns
 returns c =
-    let diagonals = c .before .before .before .before in
+    let diagonals = diagonals-pushed c in
     let vs = vs-pushed (diagonals .before) in
     let us = us-pushed (vs .before) in
     let ends = ends-pushed (us .before) in

@@ -30,6 +30,13 @@ start e = e .before .before .before .before .before
 abbrev changed : tie.After-past-sum Inv-loop μ-loop → tie.After-abs Inv-loop μ-loop
 changed e = e .before .before .before
 
+-- the loop, from where a candidate is found; and where that is pushed
+abbrev looped : tie.After-diagonal-candidate Inv-loop μ-loop → tie.In-loop Inv-loop μ-loop
+looped e = e .before .before .before
+
+abbrev pushed : tie.After-slice-known4 Inv-loop μ-loop → tie.After-push-candidate Inv-loop μ-loop
+pushed e = e .before .before .before .before
+
 returns : tie.Need-returns Inv-loop μ-loop
 unfolding eps
 returns c =
@@ -64,7 +71,7 @@ loop-holds c =
 
 push-candidate-requires : tie.Need-push-candidate-requires Inv-loop μ-loop
 push-candidate-requires c κs =
-    let l = c .before .before .before .before in
+    let l = looped c .before in
     let s = start (changed (l .before)) in
     let a = s .args in (
       search needs,
@@ -76,8 +83,8 @@ push-candidate-requires c κs =
 
 loop-again : tie.Need-loop-again Inv-loop μ-loop
 loop-again c =
-    let p = c .before .before .before .before in
-    let t = p .before .before .before .before in
+    let p = pushed c in
+    let t = looped (p .before) in
     let l = t .before .loop in (
       l .inv .0,
       l .inv .1,

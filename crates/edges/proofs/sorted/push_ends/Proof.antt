@@ -19,6 +19,9 @@ found e = e .before .before .before
 abbrev first-pushed : tie.After-push-candidate-arg4 → tie.After-push-candidate
 first-pushed e = e .before .before .before .before .before .before
 
+abbrev second-pushed : tie.After-slice-known6 → tie.After-push-candidate2
+second-pushed e = e .before .before .before .before
+
 push-candidate-requires : tie.Need-push-candidate-requires
 push-candidate-requires c κs =
     let p = c .before .before in
@@ -44,7 +47,7 @@ push-candidate-requires-2 c κs =
 
 returns : tie.Need-returns
 returns c =
-    let second = c .before .before .before .before in
+    let second = second-pushed c in
     let first = first-pushed (second .before) in
     let p = found first in
     let a = start p .args in (

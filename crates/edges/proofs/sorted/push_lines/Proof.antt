@@ -29,6 +29,13 @@ start e = e .before .before .before .before .before
 abbrev changed : tie.After-steps-on Inv-loop μ-loop → tie.After-abs Inv-loop μ-loop
 changed e = e .before .before
 
+-- where the candidate is known to be an event, and where that is inserted
+abbrev told : tie.After-insert-event-arg2 Inv-loop μ-loop → tie.After-event Inv-loop μ-loop
+told e = e .before .before .before
+
+abbrev inserted : tie.After-slice-known4 Inv-loop μ-loop → tie.After-insert-event Inv-loop μ-loop
+inserted e = e .before .before .before .before
+
 -- what is tested is whether the axis moves
 test : (e : tie.After-abs Inv-loop μ-loop) → let a = start e .args in
     lt eps (e .abs .result) ≡ moves (change (a .axis) (a .leg))
@@ -72,7 +79,7 @@ loop-again c =
 
 insert-event-requires : tie.Need-insert-event-requires Inv-loop μ-loop
 insert-event-requires c κs =
-    let e = c .before .before .before in
+    let e = told c in
     let t = e .before .before .before in
     let l = t .before .loop in
     let n = t .before .before in
@@ -88,8 +95,8 @@ insert-event-requires c κs =
 
 loop-again-2 : tie.Need-loop-again-2 Inv-loop μ-loop
 loop-again-2 c =
-    let i = c .before .before .before .before in
-    let e = i .before .before .before .before in
+    let i = inserted c in
+    let e = told (i .before) in
     let t = e .before .before .before in
     gather-turn (t .before .loop .inv) (t .loop-test .taken) (e .before .before .line-candidate .ensures)
     (search needs) (search needs) (

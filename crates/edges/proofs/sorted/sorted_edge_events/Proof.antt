@@ -6,16 +6,28 @@ use Rattle.edges.specs.Events.{unique, sortedEdgeEvents}
 use Rattle.edges.proofs.sorted.sorted_edge_events.Statement.{statement}
 use Rattle.edges.proofs.sorted.sorted_edge_events.Tie as tie
 
--- where all candidates are pushed, from where the close ones are dropped
+-- where the close candidates are dropped; and where all are pushed, from there
+abbrev dropped : tie.After-slice-known6 → tie.After-unique
+dropped e = e .before .before .before .before
+
 abbrev pushed : tie.After-unique → tie.After-push-candidates
 pushed e = e .before .before .before .before .before .before .before
 
 returns : tie.Need-returns
 unfolding sortedEdgeEvents
 returns c =
-    let kept = c .before .before .before .before in
-    let all = pushed kept in
-    (omega (arith, kept .unique .ensures .0, all .push-candidates .ensures .0), kept .unique .ensures .1 ∙ ap unique (all .push-candidates .ensures .1))
+    let kept = dropped c in
+    let all = pushed kept in (
+      omega (arith, kept .unique .ensures .0, all .push-candidates .ensures .0),
+      kept .unique .ensures .1 ∙ ap unique (all .push-candidates .ensures .1),
+    )
 
 pub sorted-edge-events-spec : {M : Type 1} → statement M
-sorted-edge-events-spec = tie.close (tie.spec (λ c κs. search needs) (λ c κs. search needs) (λ c. search needs) (λ c. search needs) returns)
+sorted-edge-events-spec =
+    tie.close
+    (tie.spec
+    (λ c κs. search needs)
+    (λ c κs. search needs)
+    (λ c. search needs)
+    (λ c. search needs)
+    returns)

@@ -35,8 +35,8 @@ abbrev started : tie.At-loop Inv-loop μ-loop → tie.Start Inv-loop μ-loop
 started l = l .before .before .before .before .before .before .before .before
 
 -- where it is known what the sample is, and the loop
-abbrev visited : tie.After-trace-sample Inv-loop μ-loop → tie.After-visit-of Inv-loop μ-loop
-visited t = t .before .before .before .before .before .before .before
+abbrev visited : tie.After-trace-sample-arg4 Inv-loop μ-loop → tie.After-visit-of Inv-loop μ-loop
+visited t = t .before .before .before .before .before .before
 
 abbrev looped : tie.After-visit-of Inv-loop μ-loop → tie.In-loop Inv-loop μ-loop
 looped v = v .before .before .before
@@ -64,13 +64,13 @@ fractions-kept c = c .before .before .before .before .before
 
 trace-sample-requires : tie.Need-trace-sample-requires Inv-loop μ-loop
 trace-sample-requires c κs =
-    let l = looped (c .before .before .before .before .before .before) .before in
+    let l = looped (visited c) .before in
     ((search needs, search needs), (started l .pre .0, l .loop .inv .7))
 
 returns : tie.Need-returns Inv-loop μ-loop
 returns c =
     let t = refused c in
-    let v = visited t in
+    let v = visited (t .before) in
     let l = looped v .before in
     let s = started l in
     trace-stops (now (s .args .grid)) (s .args .cells) (now (s .args .marks)) (now (s .args .pairs)) (l .loop .i)
@@ -80,13 +80,13 @@ returns c =
 
 add-i : tie.Need-add-i Inv-loop μ-loop
 add-i c =
-    let n = looped (visited (went-on c)) in
+    let n = looped (visited (went-on c .before)) in
     omega (arith, n .loop-test .taken, started (n .before) .pre .1 .1)
 
 loop-again : tie.Need-loop-again Inv-loop μ-loop
 loop-again c =
     let t = went-on c in
-    let v = visited t in
+    let v = visited (t .before) in
     let l = looped v .before in
     let s = started l in
     let a = s .args in
@@ -116,12 +116,14 @@ flush-segment-requires c κs = c .before .before .loop .inv .7 .0
 
 returns-2 : tie.Need-returns-2 Inv-loop μ-loop
 returns-2 c =
-    let l = c .before .before .before .before .before in
+    let f = c .before .before in
+    let e = f .before .before in
+    let l = e .before in
     let s = started l in
     let a = s .args in
     rw (l .loop .inv .8 ∙ trace-flushes (now (a .grid)) (a .cells) (now (a .marks)) (now (a .pairs)) (l .loop .i)
-    (s .pre .1 .0) _ _ (c .before .before .before .before .loop-test .left))
-    (c .before .before .flush-segment .ensures _ _ _)
+    (s .pre .1 .0) _ _ (e .loop-test .left))
+    (f .flush-segment .ensures _ _ _)
 
 pub trace-parametric-edge-curve-spec : {M : Type 1} → statement M
 trace-parametric-edge-curve-spec =

@@ -30,8 +30,9 @@ alone c = c .before .before .before .before .before .before .before .before .bef
 
 returns : tie.Need-returns
 returns c =
-    let e = c .before .before .before .before in
-    sample-break _ _ (lent (broken e)) (e .enum-told .given .1) (c .before .before .flush-segment .ensures _ _ _)
+    let f = c .before .before in
+    let e = f .before .before in
+    sample-break _ _ (lent (broken e)) (e .enum-told .given .1) (f .flush-segment .ensures _ _ _)
 
 returns-2 : tie.Need-returns-2
 returns-2 c =

@@ -16,8 +16,8 @@ use Rattle.trace.proofs.flat.trace_flat.Tie as tie
 abbrev started : tie.After-check-trace → tie.Start
 started c = c .before .before .before .before .before .before .before .before
 
-abbrev told : tie.After-trace-parametric-edge-curve → tie.After-enum-told
-told c = c .before .before .before .before .before
+abbrev told : tie.After-trace-parametric-edge-curve-arg4 → tie.After-enum-told
+told c = c .before .before .before .before
 
 abbrev checked : tie.After-enum-told → tie.After-check-trace
 checked c = c .before .before
@@ -28,8 +28,18 @@ walked c = c .before .before .before .before .before .before .before .before .be
 abbrev points-kept : tie.After-count-in → tie.After-points
 points-kept c = c .before .before .before .before .before .before .before .before
 
+-- where zero is written past the points, the starts and the sides; and where the count is known
+abbrev points-zeroed : tie.After-zero-numbers → tie.After-zero-floats
+points-zeroed c = c .before .before .before .before .before
+
+abbrev starts-zeroed : tie.After-zero-numbers-arg2 → tie.After-zero-numbers
+starts-zeroed c = c .before .before .before
+
+abbrev sides-zeroed : tie.After-zero-floats2 → tie.After-zero-numbers2
+sides-zeroed c = c .before .before .before .before
+
 abbrev counted-in : tie.After-zero-numbers-arg2 → tie.After-count-in
-counted-in c = c .before .before .before .before .before .before .before .before .before .before
+counted-in c = points-zeroed (starts-zeroed c) .before .before
 
 -- the lists as they were lent
 abbrev lent : tie.Start → Lists
@@ -42,7 +52,7 @@ lent-short s = omega arith
 fits : (c : tie.After-count-in) → 3 * c .count-in .result < 18446744073709551616
 fits c =
     let t = walked c in
-    let s = started (checked (told t)) in
+    let s = started (checked (told (t .before))) in
     let a = s .args in
     omega (
       arith,
@@ -64,7 +74,7 @@ returns c =
 
 trace-parametric-edge-curve-requires : tie.Need-trace-parametric-edge-curve-requires
 trace-parametric-edge-curve-requires c κs =
-    let e = c .before .before .before .before in
+    let e = told c in
     let a = started (checked e) .args in
     passes (now (a .grid)) (a .m) (a .n) (now (a .pairs)) (now (a .marks)) (checked e .check-trace .ensures)
     (e .enum-told .given .1)
@@ -78,12 +88,12 @@ mul-zero-numbers c = omega (arith, fits (counted-in c))
 returns-2 : tie.Need-returns-2
 returns-2 c =
     let f = c .before .before .before in
-    let d = f .before .before .before .before in
-    let s = d .before .before .before .before in
-    let p = s .before .before .before .before .before in
-    let n = p .before .before in
+    let d = sides-zeroed f in
+    let s = starts-zeroed (d .before) in
+    let p = points-zeroed s in
+    let n = counted-in (d .before) in
     let t = walked n in
-    let e = told t in
+    let e = told (t .before) in
     let k = checked e in
     let a = started k .args in (
       zeroed (now (a .grid)) (a .m) (a .n) (now (a .pairs)) (now (a .marks)) (lent (started k))

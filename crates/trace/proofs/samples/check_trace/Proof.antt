@@ -5,6 +5,9 @@ use borrow.Author.Needs.{needs}
 use Rattle.trace.proofs.samples.check_trace.Statement.{statement}
 use Rattle.trace.proofs.samples.check_trace.Tie as tie
 
+abbrev started : tie.After-check-grid → tie.Start
+started g = g .before .before .before .before .before
+
 returns : tie.Need-returns
 returns c =
     let g = c .before .before .before in
@@ -21,7 +24,7 @@ pairs-fit-requires : tie.Need-pairs-fit-requires
 pairs-fit-requires c κs =
     let t = c .before .before in
     let g = t .before .before in
-    let a = g .before .before .before .before .before .args in
+    let a = started g .args in
     pairs-twice (a .grid .now) (a .m) (a .n) (a .pairs .now) (a .marks .now) (g .before .check-lengths .ensures)
     (g .check-grid .ensures) (t .enum-told .given .1)
 

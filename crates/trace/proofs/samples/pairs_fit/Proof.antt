@@ -15,19 +15,26 @@ Inv-loop pairs marks i₀ i = (i ≤ length marks) × (pairsFit pairs marks ≡ 
 abbrev μ-loop : tie.MeasureT-loop
 μ-loop pairs marks i₀ i = length marks - i
 
+-- the start, from the loop; and the loop, from where a sample is tested
+abbrev started : tie.At-loop Inv-loop μ-loop → tie.Start Inv-loop μ-loop
+started l = l .before .before .before
+
+abbrev looped : tie.After-sample-fits Inv-loop μ-loop → tie.In-loop Inv-loop μ-loop
+looped t = t .before .before .before .before
+
 returns : tie.Need-returns Inv-loop μ-loop
 returns c =
-    let o = c .before .before .before .before .before in
+    let o = looped (c .before) in
     sym (o .before .loop .inv .1
-    ∙ pair-wrong _ _ _ (o .loop-test .taken) (o .before .before .before .before .pre)
+    ∙ pair-wrong _ _ _ (o .loop-test .taken) (started (o .before) .pre)
     (c .before .sample-fits .ensures) (not-true _ (c .if1 .taken)))
 
 loop-again : tie.Need-loop-again Inv-loop μ-loop
 loop-again c =
-    let o = c .before .before .before .before .before in (
+    let o = looped (c .before) in (
       search needs,
       o .before .loop .inv .1
-          ∙ pair-fits _ _ _ (o .loop-test .taken) (o .before .before .before .before .pre)
+          ∙ pair-fits _ _ _ (o .loop-test .taken) (started (o .before) .pre)
           (c .before .sample-fits .ensures) (not-false _ (c .if1 .left)),
     )
 
