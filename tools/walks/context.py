@@ -5,7 +5,7 @@ thing by its place there. Here each thing has a name and the places are computed
 wrong. Local k of the MIR is `l{k}` in the context, and that it dies is `d{k}`.
 """
 
-WIDTH = 200
+COLUMNS = 120
 
 
 def sub(number):
@@ -17,10 +17,77 @@ def places(numbers):
     return "(" + " ∷ ".join([str(n) for n in numbers] + ["[]"]) + ")"
 
 
+# ---- the lines
+
+
+def brackets(text):
+    """Of each bracket that opens and closes: where it does, and whether it holds a tuple or a record."""
+    found, stack = [], []
+    for k, letter in enumerate(text):
+        if letter in "({":
+            stack.append([k, letter == "{"])
+        elif letter == "," and stack:
+            stack[-1][1] = True
+        elif letter in ")}" and stack:
+            start, listed = stack.pop()
+            found.append((start, k, listed))
+    return sorted(found)
+
+
+def joints(text):
+    """Where a line may begin, and how deep it is there: before an argument in brackets, and before an operator. A tuple
+    is not broken, since the layout tool would give each of its parts a line. A chain, as of `and-then`, is as deep as
+    its first link."""
+    groups = brackets(text)
+    ends = {start: end for start, end, _ in groups}
+    depths = {}
+    for k in range(1, len(text)):
+        around = [group for group in groups if group[0] < k < group[1]]
+        if text[k - 1] != " " or not (k in ends or text[k] in "⊛∷"):
+            continue
+        if text[: k - 1].endswith(("‵", "λ")) or any(listed for _, _, listed in around):
+            continue
+        depths[k] = len(around)
+        if k in ends and around:
+            start, end, _ = around[-1]
+            if ends[k] + 1 == end and text[k:].split()[0] == text[start:].split()[0]:
+                depths[k] = depths.get(start, len(around))
+    return depths
+
+
+def broken(text, width):
+    """A step in lines of at most `width` columns: each ends at the last of the outermost joints in its later part."""
+    depths, start = joints(text), 0
+    while len(text) - start > width:
+        near = [k for k in depths if start < k <= start + width + 1]
+        late = [k for k in near if k > start + width / 5] or near
+        end = min(late, key=lambda k: (depths[k], -k))
+        yield text[start : end - 1]
+        start = end
+    yield text[start:]
+
+
+def filled(steps, width):
+    """Steps in lines of at most `width` columns. One that is broken has its lines for itself."""
+    line = ""
+    for step in steps:
+        if line and len(line) + 1 + len(step) <= width:
+            line += " " + step
+            continue
+        if line:
+            yield line
+        *whole, line = broken(step, width)
+        if whole:
+            yield from [*whole, line]
+            line = ""
+    if line:
+        yield line
+
+
 class Walk:
     def __init__(self, *context):
         self.context = list(context)
-        self.lines = [""]
+        self.lines = [[]]
         self.open = 0
 
     # ---- the text
@@ -28,18 +95,16 @@ class Walk:
     def line(self):
         """The next step begins a line."""
         if self.lines[-1]:
-            self.lines.append("")
+            self.lines.append([])
 
     def note(self, words):
         """A comment that says where the walk is."""
         self.line()
-        self.lines[-1] = "-- " + words
-        self.lines.append("")
+        self.add("-- " + words)
+        self.line()
 
     def add(self, text):
-        if self.lines[-1] and len(self.lines[-1]) + 1 + len(text) > WIDTH:
-            self.lines.append("")
-        self.lines[-1] = (self.lines[-1] + " " + text).strip()
+        self.lines[-1].append(text)
 
     def step(self, text):
         self.add(text + " $")
@@ -53,7 +118,7 @@ class Walk:
         self.add(text + ")" * self.open)
 
     def text(self, indent):
-        return "\n".join(" " * indent + line for line in self.lines if line)
+        return "\n".join(" " * indent + line for steps in self.lines for line in filled(steps, COLUMNS - indent))
 
     # ---- the context
 
@@ -111,7 +176,8 @@ class Walk:
         return text
 
     def cell(self, k, typed, how="init"):
-        """The local's cell: `init` where it was room, `store` where it held a value. `typed`: the value is of its type."""
+        """The local's cell: `init` where it was room, `store` where it held a value. `typed`: the value is of its
+        type."""
         return f"({how} ! {self.at(f'l{k}')} refl {typed})"
 
     def assign(self, value, k, typed, how="init", rule="assigns"):

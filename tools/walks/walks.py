@@ -12,7 +12,7 @@ import os
 import re
 from dataclasses import dataclass
 
-from context import Walk, sub
+from context import COLUMNS, Walk, sub
 
 HERE = os.path.dirname(os.path.abspath(__file__))
 ROOT = os.path.dirname(os.path.dirname(HERE))
@@ -23,8 +23,8 @@ UNIT_TYPED = "(subst (λ (y : Val). Holds (hasTy tyUnit y) × WT y) (sym (ap onl
 
 
 def call(w, contract, to, given, goes, locals, value):
-    """A function is called by its contract, whose outer values are `to`: `goes` makes what it asks from the things `given`.
-    It is passed the `locals` and answers with the machine value `value`."""
+    """A function is called by its contract, whose outer values are `to`: `goes` makes what it asks from the things
+    `given`. It is passed the `locals` and answers with the machine value `value`."""
     w.bring(*given)
     if len(given) > 1:
         w.step(f"group ! {len(given)}")
@@ -64,12 +64,14 @@ def asked(tokens, parameters):
     w.line()
     gather_parameters(w, parameters)
     w.bring("tokens", "joined")
-    w.end("join ! $ frame ! $ nothing ! $ done !")
+    for step in ["join !", "frame !", "nothing !"]:
+        w.step(step)
+    w.end("done !")
     return w.text(6)
 
 
-def framed(context, tokens, parameters, end):
-    """What a contract leaves its caller: the tokens, the parameters, and the result by `end`."""
+def framed(context, tokens, parameters, *result):
+    """What a contract leaves its caller: the tokens, the parameters, and the result by the steps `result`."""
     w = Walk(*context)
     gather_tokens(w, tokens)
     w.step("frame !")
@@ -77,7 +79,9 @@ def framed(context, tokens, parameters, end):
     w.line()
     gather_parameters(w, parameters)
     w.step("frame !")
-    w.end(end)
+    for step in result:
+        w.step(step)
+    w.end("done !")
     return w.text(6)
 
 
@@ -90,7 +94,8 @@ def hear(w, after, answer, said, lasts, facts):
     w.bind("pick !", answer)
     w.split("post", "toks")
     w.bring("post")
-    w.bind(f"use1 W (some ({said})) (id⊢ 𝓤 _) $ pick !", lasts)
+    w.step(f"use1 W (some ({said})) (id⊢ 𝓤 _)")
+    w.bind("pick !", lasts)
     *others, last = facts
     w.split("post", "lasts", *others)
     w.rename("post", last)
@@ -154,7 +159,7 @@ def flatten_context():
 
 def flatten_framed():
     held = flatten_context()[:6]
-    return framed(held, held[::2], held[1::2], "feqI ! (List Val) (vunit ∷ []) (vunit ∷ []) refl $ done !")
+    return framed(held, held[::2], held[1::2], "feqI ! (List Val) (vunit ∷ []) (vunit ∷ []) refl")
 
 
 def flatten_test(w, outcome):
@@ -168,7 +173,8 @@ def flatten_test(w, outcome):
 def flatten_copy(w):
     """`let sample = samples[i]`: the place, and the record there, for which the slice is opened."""
     w.note("the place of `samples[i]`")
-    w.assign(f"bin ! ({w.load(4)}) (lit ! tt) (record {{ fits = scaled }})", 6, "(tt, record { fits = scaled })", "store")
+    times = f"bin ! ({w.load(4)}) (lit ! tt) (record {{ fits = scaled }})"
+    w.assign(times, 6, "(tt, record { fits = scaled })", "store")
     w.assign(f"bin ! ({w.field(1, 0)}) ({w.load(6)}) tt", 8, "(tt, tt)")
     w.line()
     w.rewrite("l8", "λ (p : ℕ). ‵ (fat fullShare tyPtr l₈ 0 (vptr b₀ p))", "sym (place-is 24 o₀ i)")
@@ -219,11 +225,12 @@ def flatten_take_back(w):
     """The lifetimes end, and the lists come back, with one record more."""
     for named, (j, row, contents, denotes) in enumerate(FLATTEN_LISTS, 1):
         after = f"zs{' .1' * (named - 1)} .0"
+        outer = f"κ{j} (ν{j} ∷ []) q{j} γ{j} b{j} o{j} δ{j}"
         end_lifetime(w, f"ν{j}")
         w.bring("dead", f"k{j}", f"r{j}")
         w.step(
             f"use3 W (later (‵ (O{j} ({after})) ⊛ ‵ (flft κ{j} q{j})))"
-            f" (comes-back 𝓤 H A W {row} (named {named}) κ{j} (ν{j} ∷ []) q{j} γ{j} b{j} o{j} δ{j} ({contents} i) ({after}))"
+            f" (comes-back 𝓤 H A W {row} (named {named}) {outer} ({contents} i) ({after}))"
         )
         w.step("await ! tt")
         w.now(3, f"t{j}")
@@ -247,7 +254,8 @@ def flatten_turn():
     call(w, "Put", f"(to-put {outer})", ["ν₁", "ν₂", "M₁", "M₂", "rec"], f"goes-put {outer} fits", [11, 12, 4, 5], "u")
 
     w.note("what it hands back, and what it ensures")
-    hear(w, f"After-put {outer} u", "z", f"Put-said {outer}", "zs", {"e": "(zs .0 ≡ P (suc i)) × (zs .1 .0 ≡ N (suc i))"})
+    put = "(zs .0 ≡ P (suc i)) × (zs .1 .0 ≡ N (suc i))"
+    hear(w, f"After-put {outer} u", "z", f"Put-said {outer}", "zs", {"e": put})
     w.fsplit("lasts", "r₁", "r₂")
     land_unit(w, 10, "tokens")
 
@@ -256,9 +264,8 @@ def flatten_turn():
     flatten_take_back(w)
 
     w.note("`i += 1`, and the context is that of the next turn")
-    w.assign(
-        f"bin ! ({w.load(4)}) (lit ! tt) (record {{ fits = next-fits }})", 4, "(tt, record { fits = next-fits })", "store", "assigns-last"
-    )
+    plus = f"bin ! ({w.load(4)}) (lit ! tt) (record {{ fits = next-fits }})"
+    w.assign(plus, 4, "(tt, record { fits = next-fits })", "store", "assigns-last")
     w.line()
     w.forget(*range(5, FLATTEN_LOCALS))
     w.rewrite("l4", "λ (j : ℕ). ‵ (fat fullShare (tyInt w64) l₄ 0 (vint w64 j))", "add-one i")
@@ -380,7 +387,7 @@ def left():
 
 def entry_framed():
     parameters = ["O0", M, N, "O3", *[f"fin{p}" for p in OUTPUTS]]
-    return framed(left(), tokens(SLICES), parameters, "done !")
+    return framed(left(), tokens(SLICES), parameters)
 
 
 def leave(w, locals, rooms):
@@ -447,13 +454,17 @@ def lend_zeros(w):
         l, ν, δ = a.block, "ν" + sub(a.named), "δ" + sub(a.named)
         w.line()
         w.bring(f"l{a.local}", f"o{a.row}")
-        w.step(f"use2 W (‵ (partAt {a.row} fullShare {a.zeros} {l} 0)) (in-mem 𝓤 H A W {a.element} {a.length} {a.zeros} {a.value} {l} 0)")
+        w.step(
+            f"use2 W (‵ (partAt {a.row} fullShare {a.zeros} {l} 0))"
+            f" (in-mem 𝓤 H A W {a.element} {a.length} {a.zeros} {a.value} {l} 0)"
+        )
         w.now(2, f"p{a.row}")
         new_lifetime(w, ν)
         w.bring(f"p{a.row}")
         w.line()
+        kept = f"flent ({ν} ∷ []) (Body (memOf {a.row}) {l} 0 δ)"
         w.step(
-            f"use1 W (later (some (λ (δ : GName). ‵ (Lent{a.row} {l} {ν} δ) ⊛ ‵ (flent ({ν} ∷ []) (Body (memOf {a.row}) {l} 0 δ)))))"
+            f"use1 W (later (some (λ (δ : GName). ‵ (Lent{a.row} {l} {ν} δ) ⊛ ‵ ({kept}))))"
             f" (lends-ref 𝓤 H A W {a.row} (named {a.named}) ({ν} ∷ []) {a.zeros} {l} 0)"
         )
         w.step("await ! tt")
@@ -468,7 +479,10 @@ def take_lists_back(w):
         l, ν, δ, after = a.block, "ν" + sub(a.named), "δ" + sub(a.named), f"zs{' .1' * a.named} .0"
         end_lifetime(w, ν)
         w.bring("dead", f"k{a.row}", f"r{a.row}")
-        w.step(f"use3 W (later (‵ (partAt {a.row} fullShare ({after}) {l} 0))) (ref-back 𝓤 H A W {a.row} ({ν} ∷ []) {δ} ({after}) {l} 0)")
+        w.step(
+            f"use3 W (later (‵ (partAt {a.row} fullShare ({after}) {l} 0)))"
+            f" (ref-back 𝓤 H A W {a.row} ({ν} ∷ []) {δ} ({after}) {l} 0)"
+        )
         w.step("await ! tt")
         w.now(3, f"p{a.row}")
         w.rewrite(f"p{a.row}", f"λ (l : List {a.denotes}). ‵ (partAt {a.row} fullShare l {l} 0)", f"e .{a.named - 1}")
@@ -481,8 +495,9 @@ def share_lists(w):
         w.line()
         new_lifetime(w, ν)
         w.bring(f"p{a.row}")
+        kept = f"flent ({ν} ∷ []) (partAt {a.row} fullShare {a.contents} {l} 0)"
         w.step(
-            f"use1 W (later (some (λ (δ : GName). ‵ (Shared{a.row} {l} {ν} δ) ⊛ ‵ (flent ({ν} ∷ []) (partAt {a.row} fullShare {a.contents} {l} 0)))))"
+            f"use1 W (later (some (λ (δ : GName). ‵ (Shared{a.row} {l} {ν} δ) ⊛ ‵ ({kept}))))"
             f" (lends-shr 𝓤 H A W {a.row} (named {a.named}) ({ν} ∷ []) fullShare {a.contents} {l} 0)"
         )
         w.step("await ! tt")
@@ -497,7 +512,10 @@ def make_room(w):
         end_lifetime(w, "ν" + sub(a.named + 2))
         w.bring("dead", f"k{a.row}")
         w.step("lent-back ! tt")
-        w.step(f"use1 W (‵ (froom {a.type} {a.block} 0)) (out-room 𝓤 H A W {a.element} {a.length} {a.contents} {a.block} 0)")
+        w.step(
+            f"use1 W (‵ (froom {a.type} {a.block} 0))"
+            f" (out-room 𝓤 H A W {a.element} {a.length} {a.contents} {a.block} 0)"
+        )
         w.now(2, f"l{a.local}")
 
 
@@ -532,7 +550,8 @@ def call_trace_flattened(w):
     outer = "l₉ l₁₀ ν₃ ν₄ δ₃ δ₄"
     lifetimes = ["t0", "ν₃", "ν₄", *tokens(OUTPUTS)]
     given = [*lifetimes, "O0", "SF", "SB", *owned(OUTPUTS)]
-    call(w, "Traced", f"(to-traced {outer})", given, f"goes-traced g₁ g₂ (g₃ .0) {outer}", [1, 2, 3, 14, 15, 16, *lent], "v")
+    goes = f"goes-traced g₁ g₂ (g₃ .0) {outer}"
+    call(w, "Traced", f"(to-traced {outer})", given, goes, [1, 2, 3, 14, 15, 16, *lent], "v")
     hear(w, f"After-traced {outer} v", "r", f"Traced-said {outer} r", "ws", {"said": f"Said r {last_lists('ws', 6)}"})
     outputs_after(w, 6)
     land_answer(w, 0, "tokens of the trace", "An", "r", "v", "is", "EL.lawful An.the-type An′.the-laws 𝓤 H A W tt")
@@ -574,7 +593,8 @@ def mt_trace_samples_walk():
 
     w.note("`trace_samples`")
     call(w, "Rec", "to-rec", [*tokens(SLICES), *owned(SLICES)], "goes-rec g₁ g₂", [1, 2, 3, 4, *lent], "v")
-    hear(w, "After-rec v", "r", "Rec-said r", "ws", {"said": f"Said r {last_lists('ws', 4)}", "demand": "Demand3 d₀ d₁ d₂"})
+    facts = {"said": f"Said r {last_lists('ws', 4)}", "demand": "Demand3 d₀ d₁ d₂"}
+    hear(w, "After-rec v", "r", "Rec-said r", "ws", facts)
     outputs_after(w, 4)
     land_answer(w, 9, "tokens", "Tr", "r", "v", "is", "EL.lawful Tr.the-type Tr′.the-laws 𝓤 H A W tt")
 
@@ -607,6 +627,7 @@ def write(path, parts):
     for name, part in parts.items():
         text = text.replace(f"@{name}\n", part.removesuffix("\n") + "\n")
     assert not re.search(r"@[A-Z]", text)
+    assert all(len(line) <= COLUMNS for line in text.split("\n"))
     with open(f"{ROOT}/crates/{path}/Proof.antt", "w") as file:
         file.write(text)
 
@@ -626,9 +647,10 @@ def main():
         "START": flatten_start(),
     }
     write("records/proofs/flatten", flatten_walks)
+    traced_parameters = ["O0", M, N, "SF", "SB", ("n", "gn"), *owned(OUTPUTS)]
     trace_samples_walks = {
         "FLAT-ASKS": asked(["t3", "ν₁", "ν₂"], ["O3", "MF", "MB"]),
-        "TRACED-ASKS": asked(["t0", "ν₃", "ν₄", *tokens(OUTPUTS)], ["O0", M, N, "SF", "SB", ("n", "gn"), *owned(OUTPUTS)]),
+        "TRACED-ASKS": asked(["t0", "ν₃", "ν₄", *tokens(OUTPUTS)], traced_parameters),
         "WALK": trace_samples_walk(),
     }
     write("records/proofs/trace_samples", entry("known-flat known-traced", trace_samples_walks))

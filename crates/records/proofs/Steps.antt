@@ -1,5 +1,5 @@
--- Two rules for going through MIR: where a contract has two clauses, both are shown at the exit; and a local that is
--- passed or read whole. Both take `Given` as an argument.
+-- For going through MIR: where a contract has two clauses, both are shown at the exit; a local that is passed or read
+-- whole; and tuples with a line for each part. The two rules take `Given` as an argument.
 use mathlib.Core.Path.{_≡_}
 use mathlib.Core.List.{List, []}
 use Prim.Native.Nat.{ℕ}
@@ -14,6 +14,11 @@ use contract.Monad.{fact}
 use types.Kit.{Given, Item, ‵, nth, Step, step, prop, _$_}
 use types.Run.{Opd, load, look, from, stop}
 use denote.Triple.Walked.{says}
+
+-- a tuple that is nested to the right, as a & b & c & tt
+infixr 15 _&_
+abbrev pub _&_ {ℓ κ} : {A : Type ℓ} {B : Type κ} → A → B → A × B
+a & b = (a, b)
 
 module _ {M : Type 1} {𝓤 : URA M} {H : Heap 𝓤} {A : Atoms 𝓤} {K : Type 0} {W : Given 𝓤 H A} {Γ : List (Item 𝓤)} where
   pub says-both : K → {φ ψ : Type 0} {P : SProp 𝓤} → φ → ψ →

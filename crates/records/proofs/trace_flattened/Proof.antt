@@ -1,4 +1,5 @@
--- `records::trace_flattened` meets its contract: proofs/Refused.antt has the answer for too many samples, and what is flattened is what the flat trace takes.
+-- `records::trace_flattened` meets its contract: proofs/Refused.antt has the answer for too many samples, and what is
+-- flattened is what the flat trace takes.
 use mathlib.Core.Path.{sym}
 use native.Mathlib.Omega.{arith}
 use lib.Seq.{length-take-le}
@@ -17,7 +18,9 @@ abbrev traced : tie.After-slice-known8 → tie.After-trace-flat
 traced c = c .before .before .before .before .before .before .before .before
 
 returns : tie.Need-returns
-returns c ss e _ = length-refused _ _ _ _ _ _ (c .before .steps-fit .ensures) (c .if2 .taken) (rw (marks-count ss, e) (c .before .before .if1 .taken))
+returns c ss e _ =
+    length-refused _ _ _ _ _ _ (c .before .steps-fit .ensures) (c .if2 .taken)
+    (rw (marks-count ss, e) (c .before .before .if1 .taken))
 
 returns-2 : tie.Need-returns-2
 returns-2 c ss _ _ = steps-refused _ _ _ _ _ _ (c .before .steps-fit .ensures) (c .if2 .left)

@@ -5,9 +5,12 @@ use Rattle.merlontrispa.specs.Lines.{pathsAnswer}
 use Rattle.merlontrispa.proofs.lines.mt_grid_paths.Statement.{statement}
 use Rattle.merlontrispa.proofs.lines.mt_grid_paths.Tie as tie
 
+-- where the lines are drawn, from where their answer takes C's form
+abbrev drawn : tie.After-paths-to-c → tie.After-grid-paths
+drawn c = c .before .before .before .before .before
+
 returns : tie.Need-returns
-returns c =
-    answered-in pathsAnswer (c .paths-to-c .ensures) (c .before .before .before .before .before .grid-paths .ensures)
+returns c = answered-in pathsAnswer (c .paths-to-c .ensures) (drawn c .grid-paths .ensures)
 
 pub mt-grid-paths-spec : {M : Type 1} → statement M
 mt-grid-paths-spec =

@@ -4,6 +4,10 @@ use borrow.Author.Needs.{needs}
 use Rattle.merlontrispa.proofs.meshes.mesh_to_c.Statement.{statement}
 use Rattle.merlontrispa.proofs.meshes.mesh_to_c.Tie as tie
 
+-- where the answer is known to be a refusal
+abbrev refused : tie.After-unjoined2 → tie.After-answer2
+refused c = c .before .before .before .before
+
 returns : tie.Need-returns
 returns c = simp (c .before .seam-to-c .ensures, c .seam-to-c2 .ensures, c .before .before .before .answer .given .1)
 
@@ -13,7 +17,7 @@ returns-2 c =
       c .before .before .number .ensures,
       c .before .unjoined .ensures,
       c .unjoined2 .ensures,
-      c .before .before .before .before .answer2 .given .1,
+      refused c .answer2 .given .1,
     )
 
 pub mesh-to-c-spec : {M : Type 1} → statement M

@@ -6,9 +6,13 @@ use Rattle.merlontrispa.specs.Meshes.{meshAnswer}
 use Rattle.merlontrispa.proofs.meshes.mt_triangulate_grid.Statement.{statement}
 use Rattle.merlontrispa.proofs.meshes.mt_triangulate_grid.Tie as tie
 
+-- where the grid is triangulated, from where the answer takes C's form
+abbrev triangulated : tie.After-mesh-to-c → tie.After-triangulate-grid
+triangulated c = c .before .before .before .before .before
+
 returns : tie.Need-returns
 returns c =
-    let e = c .before .before .before .before .before .triangulate-grid .ensures in
+    let e = triangulated c .triangulate-grid .ensures in
     (answered-in meshAnswer (c .mesh-to-c .ensures) (e .0), e .1)
 
 pub mt-triangulate-grid-spec : {M : Type 1} → statement M
