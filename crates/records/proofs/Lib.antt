@@ -4,3 +4,4 @@ pub mod Refused
 pub mod Arrays
 pub mod Zeros
 pub mod Steps
+pub mod Parameters

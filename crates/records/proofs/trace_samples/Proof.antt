@@ -37,12 +37,10 @@ use denote.Enum.Laws as EL
 use denote.Floats.{float-lawful}
 use denote.Lend.{lends-ref, ref-back, lends-shr}
 use denote.Memory.{partAt, mem as memOf}
-use denote.Plain.{Nothing, uint-vals, uint-tells, uint-makes}
+use denote.Plain.{Nothing, uint-makes}
 use denote.Builtin.{u8, f64, usize}
 use denote.Ref.{RefT, MutRef, ShrRef}
-use denote.Slice.{sliceVal, MutSlice, ShrSlice, Room, finally}
-use denote.Slice.{slice-vals, shr-slice-tells, mut-slice-tells, shr-slice-copy}
-use denote.Signature.{plain}
+use denote.Slice.{sliceVal, MutSlice, ShrSlice, Room, finally, shr-slice-copy}
 use denote.Steps.{only, owned, peeks, heard, nothing}
 use denote.Triple.Statement.{Contract, Triple}
 use denote.Triple.Call.{calls-at}
@@ -50,9 +48,7 @@ use denote.Triple.Clauses.{ensured, lasts}
 use denote.Triple.Entry.{Args, Vals, onEntry}
 use denote.Triple.Spec.{Meets, tripleOf}
 use denote.Triple.Table.{entered, cited}
-use denote.Triple.Walked.{Stays, stay-none, stay-none-slice, gave-slice, walkOf, Walks, ends-at, walked, walk-meets}
-use denote.Triple.Walked.{goes-none, goes-none-slice, goes-gave-slice}
-use denote.Exit.{yes}
+use denote.Triple.Walked.{walkOf, Walks, ends-at, walked, walk-meets}
 use Rattle.lent.specs.Lent.{afterwards}
 use Rattle.page.specs.Page.{lists}
 use Rattle.trace.specs.Trace.{statedTrace, traceFlat}
@@ -65,6 +61,7 @@ use Rattle.records.specs.Flattened.{pairsUpTo, marksUpTo, Flattened}
 use Rattle.records.specs.declared.Sample.{Sample}
 use Rattle.records.proofs.Sample as T
 use Rattle.records.proofs.Steps.{says-both, local, _&_}
+use Rattle.records.proofs.Parameters.{stayed, all-go, vals, tell}
 use Rattle.records.proofs.Arrays.{zero-fits, in-mem, out-room}
 use Rattle.records.proofs.Zeros.{F, B, AF, AB, z, xF, xB, vF, vB, lF, lB, fills, owned-F, owned-B}
 use Rattle.records.proofs.Flattening.{flattened}
@@ -80,18 +77,6 @@ use Rattle.records.proofs.trace_samples.Key.{name as #records·trace-sa
 use Rattle.records.proofs.trace_samples as f
 use Rattle.records.proofs.trace_samples.Statement as stated
 use Rattle.records.proofs.trace_samples.Code as code
-
-abbrev stayed : Stays (f.ended .signature .params) (f.ended .kept)
-stayed =
-    stay-none-slice (0 ∷ []) tt (plain (λ _. f64)) yes
-    & stay-none (λ _. usize) yes
-    & stay-none (λ _. usize) yes
-    & stay-none-slice (1 ∷ []) tt (plain (λ _. T.the-row)) yes
-    & gave-slice (2 ∷ []) tt (plain (λ _. f64))
-    & gave-slice (3 ∷ []) tt (plain (λ _. usize))
-    & gave-slice (4 ∷ []) tt (plain (λ _. usize))
-    & gave-slice (5 ∷ []) tt (plain (λ _. f64))
-    & tt
 
 module _ {M : Type 1} (𝓤 : URA M) (H : Heap 𝓤) (A : Atoms 𝓤) (mem : Memory → SProp 𝓤) (run : Routine → Fun 𝓤) where
   -- the contracts that the proof cites
@@ -512,17 +497,7 @@ module _ {M : Type 1} (𝓤 : URA M) (H : Heap 𝓤) (A : Atoms 𝓤) (W : Given
       → Walks 𝓤 H A f.ended stayed (WpFn 𝓤 H C Λ code.function) (f.clauses 𝓤 H A mem run)
   trace-samples-walks C Λ fm known-flat known-traced =
       walked 𝓤 H A f.ended stayed (f.clauses 𝓤 H A mem run) (WpFn 𝓤 H C Λ code.function)
-      (λ κs. slice-vals & uint-vals w64 & uint-vals w64 & slice-vals
-      & slice-vals & slice-vals & slice-vals & slice-vals & tt)
-      (λ κs. shr-slice-tells (named 0) (κs .0) f64
-      & uint-tells w64
-      & uint-tells w64
-      & shr-slice-tells (named 1) (κs .1 .0) T.the-row
-      & mut-slice-tells (named 2) (κs .1 .1 .0) f64
-      & mut-slice-tells (named 3) (κs .1 .1 .1 .0) usize
-      & mut-slice-tells (named 4) (κs .1 .1 .1 .1 .0) usize
-      & mut-slice-tells (named 5) (κs .1 .1 .1 .1 .1 .0) f64
-      & tt)
+      vals tell
       (λ κs qs bounds a g are. via 𝓤 _ (fst∗ 𝓤 _ (emp 𝓤))
       (walk 𝓤 H A W mem run
       (κs .0) (κs .1 .0) (κs .1 .1 .0) (κs .1 .1 .1 .0) (κs .1 .1 .1 .1 .0) (κs .1 .1 .1 .1 .1 .0)
@@ -546,16 +521,7 @@ trace-samples-meets : {M : Type 1} (𝓤 : URA M) (H : Heap 𝓤) (A : Atoms �
     → Triple 𝓤 (𝓣 .C #records·trace-flattened) (Traced 𝓤 H A mem run)
     → Meets 𝓤 H A f.signature (WpFn 𝓤 H (𝓣 .C) (𝓣 .Λ) code.function) (f.spec 𝓤 H A mem run)
 trace-samples-meets 𝓤 H A W mem run 𝓣 known-flat known-traced =
-    walk-meets 𝓤 H A f.ended stayed W
-    (goes-none-slice 𝓤 H A W 6 (0 ∷ []) tt (plain (λ _. f64)) yes
-    & goes-none 𝓤 H A W 6 (λ _. usize) yes (λ κs x f. refl)
-    & goes-none 𝓤 H A W 6 (λ _. usize) yes (λ κs x f. refl)
-    & goes-none-slice 𝓤 H A W 6 (1 ∷ []) tt (plain (λ _. T.the-row)) yes
-    & goes-gave-slice 𝓤 H A W 6 2 tt (plain (λ _. f64))
-    & goes-gave-slice 𝓤 H A W 6 3 tt (plain (λ _. usize))
-    & goes-gave-slice 𝓤 H A W 6 4 tt (plain (λ _. usize))
-    & goes-gave-slice 𝓤 H A W 6 5 tt (plain (λ _. f64))
-    & tt)
+    walk-meets 𝓤 H A f.ended stayed W (all-go 𝓤 H A W)
     (f.clauses 𝓤 H A mem run)
     (WpFn 𝓤 H (𝓣 .C) (𝓣 .Λ) code.function) (WpFn-mono 𝓤 H (W .laws) 𝓣 code.function)
     (trace-samples-walks 𝓤 H A W mem run (𝓣 .C) (𝓣 .Λ) (fmOf 𝓤 H (W .laws) 𝓣) known-flat known-traced)
