@@ -12,14 +12,14 @@ use Rattle.crossing.proofs.edge_point.Tie as tie
 
 -- the start, from where the match finds a U line, a V line, a diagonal; and that line, from where the cell on it, or
 -- the diagonal's fraction, is found
-abbrev start-u : tie.After-edge → tie.Start
-start-u e = e .before .before .before
+abbrev started-u : tie.After-edge → tie.Start
+started-u e = e .before .before .before
 
-abbrev start-v : tie.After-edge2 → tie.Start
-start-v e = e .before .before .before
+abbrev started-v : tie.After-edge2 → tie.Start
+started-v e = e .before .before .before
 
-abbrev start-d : tie.After-edge3 → tie.Start
-start-d e = e .before .before .before
+abbrev started-d : tie.After-edge3 → tie.Start
+started-d e = e .before .before .before
 
 abbrev line-u : tie.After-v → tie.After-edge
 line-u e = e .before .before .before .before
@@ -31,26 +31,26 @@ abbrev line-d : tie.After-clamp → tie.After-edge3
 line-d e = e .before .before .before .before
 
 -- arm by arm: the side's own indices are on the grid, and the cell that `step_index` gave is one of the steps
-side-u : (c : tie.After-edge) → c .edge .given .0 .0 ≤ start-u c .args .cells .m
-side-u c = inside-u (start-u c .args .cells) (c .edge .given .1) (start-u c .pre .1)
+side-u : (c : tie.After-edge) → c .edge .given .0 .0 ≤ started-u c .args .cells .m
+side-u c = inside-u (started-u c .args .cells) (c .edge .given .1) (started-u c .pre .1)
 
-cell-u : (c : tie.After-v) → c .v .given .0 .0 < start-u (line-u c) .args .cells .n
-cell-u c = cell-inside _ _ (start-u (line-u c) .pre .0 .1) (c .before .before .step-index .ensures) (c .v .given .1)
+cell-u : (c : tie.After-v) → c .v .given .0 .0 < started-u (line-u c) .args .cells .n
+cell-u c = cell-inside _ _ (started-u (line-u c) .pre .0 .1) (c .before .before .step-index .ensures) (c .v .given .1)
 
-side-v : (c : tie.After-edge2) → c .edge2 .given .0 .0 ≤ start-v c .args .cells .n
-side-v c = inside-v (start-v c .args .cells) (c .edge2 .given .1) (start-v c .pre .1)
+side-v : (c : tie.After-edge2) → c .edge2 .given .0 .0 ≤ started-v c .args .cells .n
+side-v c = inside-v (started-v c .args .cells) (c .edge2 .given .1) (started-v c .pre .1)
 
-cell-v : (c : tie.After-u) → c .u .given .0 .0 < start-v (line-v c) .args .cells .m
-cell-v c = cell-inside _ _ (start-v (line-v c) .pre .0 .0) (c .before .before .step-index2 .ensures) (c .u .given .1)
+cell-v : (c : tie.After-u) → c .u .given .0 .0 < started-v (line-v c) .args .cells .m
+cell-v c = cell-inside _ _ (started-v (line-v c) .pre .0 .0) (c .before .before .step-index2 .ensures) (c .u .given .1)
 
-side-diagonal : (c : tie.After-edge3) → let k = start-d c .args .cells in
+side-diagonal : (c : tie.After-edge3) → let k = started-d c .args .cells in
     (c .edge3 .given .0 .0 < k .m) × (c .edge3 .given .0 .1 .0 < k .n)
-side-diagonal c = inside-diagonal (start-d c .args .cells) (c .edge3 .given .1) (start-d c .pre .1)
+side-diagonal c = inside-diagonal (started-d c .args .cells) (c .edge3 .given .1) (started-d c .pre .1)
 
 between-requires : tie.Need-between-requires
 between-requires c κs =
     let e = line-u (c .before) in
-    let s = start-u e in
+    let s = started-u e in
     let u = side-u e in
     let v = cell-u (c .before) in
     sides-stand (now (s .args .grid)) (s .args .cells) _ _ _ _ (s .pre .0) (omega arith)
@@ -58,7 +58,7 @@ between-requires c κs =
 between-requires-2 : tie.Need-between-requires-2
 between-requires-2 c κs =
     let e = line-v (c .before) in
-    let s = start-v e in
+    let s = started-v e in
     let u = cell-v (c .before) in
     let v = side-v e in
     sides-stand (now (s .args .grid)) (s .args .cells) _ _ _ _ (s .pre .0) (omega arith)
@@ -66,7 +66,7 @@ between-requires-2 c κs =
 between-requires-3 : tie.Need-between-requires-3
 between-requires-3 c κs =
     let e = line-d c in
-    let s = start-d e in
+    let s = started-d e in
     let d = side-diagonal e in
     sides-stand (now (s .args .grid)) (s .args .cells) _ _ _ _ (s .pre .0) (omega arith)
 

@@ -16,19 +16,19 @@ use Rattle.edges.proofs.cell.diagonal_cell_at.Tie as tie
 abbrev floored : tie.After-index-of2 → tie.After-floor-i642
 floored e = e .before .before .before .before
 
-abbrev start : tie.After-index-of2 → tie.Start
-start e = floored e .before .before
+abbrev started : tie.After-index-of2 → tie.Start
+started e = floored e .before .before
 
 -- the four cells, from the indices that were found
 cells : (e : tie.After-index-of2) →
-    let a = start e .args in
+    let a = started e .args in
     let u0 = e .before .before .before .index-before .result in
     let u1 = e .before .before .index-of .result in
     let v0 = e .before .index-before2 .result in
     let v1 = e .index-of2 .result in
     FirstOf (a .point) u0 u1 v0 v1 (diagonalCellAt (a .cells) (a .point))
 cells e =
-    let a = start e .args in
+    let a = started e .args in
     let y = floored e in
     let x = y .before in
     four-cells (a .cells) (a .point)
@@ -40,12 +40,12 @@ cells e =
 -- neither cell of the earlier u fits
 before-none : (c : tie.Joined1) →
     let e = c .before .before in
-    let p = start e .args .point in
+    let p = started e .args .point in
     let u0 = e .before .before .before .index-before .result in
     (tryCell p u0 (e .before .index-before2 .result) ≡ NoCell) × (tryCell p u0 (e .index-of2 .result) ≡ NoCell)
 before-none c =
     let e = c .before .before in
-    let p = start e .args .point in
+    let p = started e .args .point in
     let u0 = e .before .before .before .index-before .result in
     ⊎-elim (λ w. (sym (w .1 .ensures) ∙ w .3 .given .1, sym (w .4 .ensures) ∙ w .6 .given .1))
     (λ w. let out = sym (c .before .is-in-cell .ensures) ∙ w .left in
@@ -77,7 +77,7 @@ returns-4 c =
     let v0 = e .before .index-before2 .result in
     let out =
     ⊎-elim (λ w. sym (w .1 .ensures) ∙ w .3 .given .1)
-    (λ w. not-in-v (start e .args .point) u1 v0 (sym (c .before .before .is-in-cell2 .ensures) ∙ w .left))
+    (λ w. not-in-v (started e .args .point) u1 v0 (sym (c .before .before .is-in-cell2 .ensures) ∙ w .left))
     (c .before .if2 .came) in
     fourth-left (cells e) (before-none j) out (c .try-cell4 .ensures)
 

@@ -10,8 +10,8 @@ use Rattle.edges.proofs.event.diagonal_candidate.Statement.{statement}
 use Rattle.edges.proofs.event.diagonal_candidate.Tie as tie
 
 -- the start, from where the lambda is found; and that place, from where its point is found
-abbrev start : tie.After-lambda-at → tie.Start
-start l = l .before .before .before .before
+abbrev started : tie.After-lambda-at → tie.Start
+started l = l .before .before .before .before
 
 abbrev lambda-found : tie.After-at → tie.After-lambda-at
 lambda-found p = p .before .before .before .before
@@ -19,27 +19,27 @@ lambda-found p = p .before .before .before .before
 returns : tie.Need-returns
 returns c =
     let l = c .before .before in
-    let a = start l .args in
+    let a = started l .args in
     crossing-off (a .cells) (a .leg) (l .lambda-at .ensures) (c .enum-told .given .1)
 
 returns-2 : tie.Need-returns-2
 returns-2 c =
     let p = c .before .before in
     let l = lambda-found p in
-    let a = start l .args in
+    let a = started l .args in
     crossing-out (a .cells) (a .leg) (l .lambda-at .ensures) (p .before .before .lambda .given .1) (p .at .ensures)
     (failed (c .before .param-in-bounds .ensures) (c .if1 .taken))
 
 -- in bounds, the cell at the point decides
 in-bounds : (i : tie.Else1) →
     let p = i .before .before in
-    let a = start (lambda-found p) .args in
+    let a = started (lambda-found p) .args in
     diagonalEvent (p .before .before .lambda .given .0 .0) (diagonalCellAt (a .cells) (p .at .result))
     ≡ diagonalCandidate (a .cells) (a .leg) (a .sum)
 in-bounds i =
     let p = i .before .before in
     let l = lambda-found p in
-    let a = start l .args in
+    let a = started l .args in
     crossing-in (a .cells) (a .leg) (l .lambda-at .ensures) (p .before .before .lambda .given .1) (p .at .ensures)
     (held (i .before .param-in-bounds .ensures) (i .if1 .left))
 

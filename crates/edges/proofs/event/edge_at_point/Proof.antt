@@ -13,8 +13,8 @@ use Rattle.edges.proofs.event.edge_at_point.Statement.{statement}
 use Rattle.edges.proofs.event.edge_at_point.Tie as tie
 
 -- the start, from where the point is in bounds; and that place, from where it is on no U line, and on no V line
-abbrev start : tie.Else1 → tie.Start
-start i = i .before .before
+abbrev started : tie.Else1 → tie.Start
+started i = i .before .before
 
 abbrev bounded : tie.After-enum-told → tie.Else1
 bounded e = e .before .before .before
@@ -23,18 +23,19 @@ abbrev off-u : tie.After-enum-told2 → tie.After-enum-told
 off-u e = e .before .before .before
 
 -- what the tests on the way say
-inside : (i : tie.Else1) → let a = start i .args in paramInBounds (a .cells) (a .point) ≡ true
+inside : (i : tie.Else1) → let a = started i .args in paramInBounds (a .cells) (a .point) ≡ true
 inside i = held (i .before .param-in-bounds .ensures) (i .if1 .left)
 
-no-u : (e : tie.After-enum-told) → let a = start (bounded e) .args in integerStep (a .point .u) (a .cells .m) ≡ Between
+no-u : (e : tie.After-enum-told) →
+    let a = started (bounded e) .args in integerStep (a .point .u) (a .cells .m) ≡ Between
 no-u e = sym (e .before .before .integer-step .ensures) ∙ e .enum-told .given .1
 
 -- off the lines, the cell at the point decides
-on-no-line : (e : tie.After-enum-told2) → let a = start (bounded (off-u e)) .args in
+on-no-line : (e : tie.After-enum-told2) → let a = started (bounded (off-u e)) .args in
     diagonalAt (diagonalCellAt (a .cells) (a .point)) ≡ edgeAtPoint (a .cells) (a .point)
 on-no-line e =
     let i = bounded (off-u e) in
-    let a = start i .args in
+    let a = started i .args in
     edge-diagonal (a .cells) (a .point) (inside i) (no-u (off-u e))
     (sym (e .before .before .integer-step2 .ensures) ∙ e .enum-told2 .given .1)
 
@@ -46,14 +47,14 @@ returns c =
 returns-2 : tie.Need-returns-2
 returns-2 c =
     let s = c .before .before .before in
-    let a = start (s .before) .args in
+    let a = started (s .before) .args in
     edge-u (a .cells) (a .point) (inside (s .before)) (sym (s .integer-step .ensures) ∙ c .before .u .given .1)
 
 returns-3 : tie.Need-returns-3
 returns-3 c =
     let s = c .before .before .before in
     let i = bounded (s .before) in
-    let a = start i .args in
+    let a = started i .args in
     edge-v (a .cells) (a .point) (inside i) (no-u (s .before))
     (sym (s .integer-step2 .ensures) ∙ c .before .v .given .1)
 

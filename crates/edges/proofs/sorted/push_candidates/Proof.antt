@@ -6,8 +6,8 @@ use Rattle.edges.proofs.sorted.push_candidates.Statement.{statement}
 use Rattle.edges.proofs.sorted.push_candidates.Tie as tie
 
 -- from each push the place after the one before it, from the first the start, and from the end the last
-abbrev start : tie.After-push-ends → tie.Start
-start e = e .before .before .before .before .before
+abbrev started : tie.After-push-ends → tie.Start
+started e = e .before .before .before .before .before
 
 abbrev ends-pushed : tie.After-push-lines-arg2 → tie.After-push-ends
 ends-pushed e = e .before .before .before .before .before .before
@@ -36,7 +36,7 @@ returns c =
     let vs = vs-pushed (diagonals .before) in
     let us = us-pushed (vs .before) in
     let ends = ends-pushed (us .before) in
-    let s = start ends in (
+    let s = started ends in (
       omega (
         arith,
         s .pre .u-steps,

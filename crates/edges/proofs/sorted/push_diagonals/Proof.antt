@@ -24,8 +24,8 @@ abbrev μ-loop : tie.MeasureT-loop
 μ-loop lambdas₀ codes₀ count cells leg total₀ first past sum₀ lambdas codes total sum = past - sum
 
 -- the start, from where the change is found; and that place, from where the last sum is found
-abbrev start : tie.After-abs Inv-loop μ-loop → tie.Start Inv-loop μ-loop
-start e = e .before .before .before .before .before
+abbrev started : tie.After-abs Inv-loop μ-loop → tie.Start Inv-loop μ-loop
+started e = e .before .before .before .before .before
 
 abbrev changed : tie.After-past-sum Inv-loop μ-loop → tie.After-abs Inv-loop μ-loop
 changed e = e .before .before .before
@@ -40,7 +40,7 @@ pushed e = e .before .before .before .before
 returns : tie.Need-returns Inv-loop μ-loop
 unfolding eps
 returns c =
-    let a = start (c .before) .args in (
+    let a = started (c .before) .args in (
       search needs,
       diagonals-none (a .cells) (a .leg) (eventsIn (a .lambdas .now) (a .codes .now) (a .count))
           (failed (ap (lt eps) (c .before .abs .ensures)) (c .if1 .taken)),
@@ -50,7 +50,7 @@ loop-holds : tie.Need-loop-holds Inv-loop μ-loop
 unfolding eps
 loop-holds c =
     let f = c .before in
-    let s = start (changed c) in
+    let s = started (changed c) in
     let a = s .args in
     let started = eventsIn (a .lambdas .now) (a .codes .now) (a .count) in (
       omega (arith, f .first-sum .ensures),
@@ -72,7 +72,7 @@ loop-holds c =
 push-candidate-requires : tie.Need-push-candidate-requires Inv-loop μ-loop
 push-candidate-requires c κs =
     let l = looped c .before in
-    let s = start (changed (l .before)) in
+    let s = started (changed (l .before)) in
     let a = s .args in (
       search needs,
       search needs,

@@ -10,8 +10,8 @@ use Rattle.edges.proofs.sorted.push_ends.Statement.{statement}
 use Rattle.edges.proofs.sorted.push_ends.Tie as tie
 
 -- the start, from where both candidates are found; and that place, from where the first is pushed, and the second
-abbrev start : tie.After-end-candidate2 → tie.Start
-start e = e .before .before .before .before .before .before
+abbrev started : tie.After-end-candidate2 → tie.Start
+started e = e .before .before .before .before .before .before
 
 abbrev found : tie.After-push-candidate → tie.After-end-candidate2
 found e = e .before .before .before
@@ -25,7 +25,7 @@ second-pushed e = e .before .before .before .before
 push-candidate-requires : tie.Need-push-candidate-requires
 push-candidate-requires c κs =
     let p = c .before .before in
-    let s = start p in (
+    let s = started p in (
       search needs,
       search needs,
       end-storable (s .args .cells) (s .pre .u-steps) (s .pre .v-steps) zero64 (s .args .leg .a) zero-on-leg
@@ -37,7 +37,7 @@ push-candidate-requires-2 : tie.Need-push-candidate-requires-2
 push-candidate-requires-2 c κs =
     let first = first-pushed c in
     let p = found first in
-    let s = start p in (
+    let s = started p in (
       search needs,
       search needs,
       end-storable (s .args .cells) (s .pre .u-steps) (s .pre .v-steps) one64 (s .args .leg .b) one-on-leg
@@ -50,7 +50,7 @@ returns c =
     let second = second-pushed c in
     let first = first-pushed (second .before) in
     let p = found first in
-    let a = start p .args in (
+    let a = started p .args in (
       omega (arith, first .push-candidate .ensures .0, second .push-candidate2 .ensures .0),
       ends-pushed (a .cells) (a .leg) (p .before .before .before .edge-at-point .ensures)
           (p .before .edge-at-point2 .ensures) (p .before .before .end-candidate .ensures) (p .end-candidate2 .ensures)

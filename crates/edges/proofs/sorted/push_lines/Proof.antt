@@ -23,8 +23,8 @@ abbrev μ-loop : tie.MeasureT-loop
 μ-loop lambdas₀ codes₀ count axis cells leg total₀ step₀ step-end lambdas codes total step = step-end - step
 
 -- the start, from where the change is found; and that place, from where the steps are counted
-abbrev start : tie.After-abs Inv-loop μ-loop → tie.Start Inv-loop μ-loop
-start e = e .before .before .before .before .before
+abbrev started : tie.After-abs Inv-loop μ-loop → tie.Start Inv-loop μ-loop
+started e = e .before .before .before .before .before
 
 abbrev changed : tie.After-steps-on Inv-loop μ-loop → tie.After-abs Inv-loop μ-loop
 changed e = e .before .before
@@ -37,14 +37,14 @@ abbrev inserted : tie.After-slice-known4 Inv-loop μ-loop → tie.After-insert-e
 inserted e = e .before .before .before .before
 
 -- what is tested is whether the axis moves
-test : (e : tie.After-abs Inv-loop μ-loop) → let a = start e .args in
+test : (e : tie.After-abs Inv-loop μ-loop) → let a = started e .args in
     lt eps (e .abs .result) ≡ moves (change (a .axis) (a .leg))
 test e = cc
 
 returns : tie.Need-returns Inv-loop μ-loop
 unfolding eps
 returns c =
-    let s = start (c .before) in
+    let s = started (c .before) in
     let a = s .args in
     let started = eventsIn (a .lambdas .now) (a .codes .now) (a .count) in (
       search needs,
@@ -55,7 +55,7 @@ returns c =
 loop-holds : tie.Need-loop-holds Inv-loop μ-loop
 unfolding eps
 loop-holds c =
-    let s = start (changed c) in
+    let s = started (changed c) in
     let a = s .args in
     let started = eventsIn (a .lambdas .now) (a .codes .now) (a .count) in
     record {
@@ -83,7 +83,7 @@ insert-event-requires c κs =
     let t = e .before .before .before in
     let l = t .before .loop in
     let n = t .before .before in
-    let s = start (changed n) in
+    let s = started (changed n) in
     let a = s .args in (
       search needs,
       search needs,
