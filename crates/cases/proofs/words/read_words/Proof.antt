@@ -13,12 +13,12 @@ Inv-loop text words₀ value₀ count₀ at₀ words value count at = length wor
 abbrev μ-loop : tie.MeasureT-loop
 μ-loop text words₀ value₀ count₀ at₀ words value count at = length text - at
 
-abbrev looped : tie.Joined2 Inv-loop μ-loop → tie.At-loop Inv-loop μ-loop
-looped c = c .before .before .before .before .before
+abbrev looping : tie.Joined2 Inv-loop μ-loop → tie.At-loop Inv-loop μ-loop
+looping c = c .before .before .before .before .before
 
 loop-again : tie.Need-loop-again Inv-loop μ-loop
 loop-again c =
-    let inv = looped c .loop .inv in
+    let inv = looping c .loop .inv in
     ⊎-elim
     (λ w. ap length (w .1) ∙ inv)
     (λ w. ap length (w .2) ∙ simp length-set inv)

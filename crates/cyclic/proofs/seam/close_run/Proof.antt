@@ -24,8 +24,8 @@ abbrev μ-loop : tie.MeasureT-loop
 abbrev started : tie.At-loop Inv-loop μ-loop → tie.Start Inv-loop μ-loop
 started l = l .before .before .before .before
 
-abbrev looped : tie.After-opposite2 Inv-loop μ-loop → tie.At-loop Inv-loop μ-loop
-looped n = n .before .before .before
+abbrev looping : tie.After-opposite2 Inv-loop μ-loop → tie.At-loop Inv-loop μ-loop
+looping n = n .before .before .before
 
 returns : tie.Need-returns Inv-loop μ-loop
 returns c = (omega arith, λ j l. absurd (omega arith))
@@ -35,27 +35,27 @@ loop-holds c = (omega arith, λ j l. absurd (omega arith))
 
 -- the two points of either comparison stand in the lists of their rows
 first : (n : tie.After-opposite2 Inv-loop μ-loop) →
-    let l = looped n in
+    let l = looping n in
     let s = started l .args in
     Stand (now (s .a)) (s .a-start + l .loop .run) (now (s .b)) (s .b-start + n .before .opposite .result)
 first n =
-    let l = looped n in
+    let l = looping n in
     let s = started l in
     inside-next (s .pre) (l .before .if1 .left) (s .args .reverse) (l .loop .run)
     (n .before .opposite .ensures) (omega arith)
 
 second : (n : tie.After-opposite2 Inv-loop μ-loop) →
-    let l = looped n in
+    let l = looping n in
     let s = started l .args in
     Stand (now (s .a)) (s .a-start + (l .loop .run + 1)) (now (s .b)) (s .b-start + n .opposite2 .result)
 second n =
-    let l = looped n in
+    let l = looping n in
     let s = started l in
     inside-next (s .pre) (l .before .if1 .left) (s .args .reverse) (l .loop .run + 1)
     (n .opposite2 .ensures) (omega arith)
 
 returns-2 : tie.Need-returns-2 Inv-loop μ-loop
-returns-2 c = looped (c .before .before .before) .loop .inv
+returns-2 c = looping (c .before .before .before) .loop .inv
 
 loop-again : tie.Need-loop-again Inv-loop μ-loop
 loop-again c =
@@ -63,7 +63,7 @@ loop-again c =
     let p = q .before in
     let n = p .before in
     let o = n .before in
-    let l = looped n in
+    let l = looping n in
     let s = started l in
     let a = rowOf (now (s .args .a)) (s .args .a-start) (s .args .stride) in
     let b = rowOf (now (s .args .b)) (s .args .b-start) (s .args .stride) in

@@ -27,8 +27,8 @@ abbrev μ-loop : tie.MeasureT-loop
 abbrev started : tie.After-rim-steps Inv-loop μ-loop → tie.Start Inv-loop μ-loop
 started e = e .before .before .before .before
 
-abbrev looped : tie.After-flip-step-arg Inv-loop μ-loop → tie.At-loop Inv-loop μ-loop
-looped e = e .before .before
+abbrev looping : tie.After-flip-step-arg Inv-loop μ-loop → tie.At-loop Inv-loop μ-loop
+looping e = e .before .before
 
 loop-holds : tie.Need-loop-holds Inv-loop μ-loop
 loop-holds c =
@@ -40,7 +40,7 @@ loop-holds c =
 
 flip-step-requires : tie.Need-flip-step-requires Inv-loop μ-loop
 flip-step-requires c κs =
-    let l = looped c in
+    let l = looping c in
     let w = l .loop in
     let t = started (l .before) in
     let a = t .args in
@@ -62,7 +62,7 @@ loop-again : tie.Need-loop-again Inv-loop μ-loop
 loop-again c =
     let e = c .before .before in
     let f = e .flip-step in
-    let l = looped (e .before) in
+    let l = looping (e .before) in
     let w = l .loop in
     let a = started (l .before) .args in
     let s = shapeOf (a .surface) in

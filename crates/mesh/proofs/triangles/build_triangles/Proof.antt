@@ -28,8 +28,8 @@ abbrev μ-loop : tie.MeasureT-loop
 abbrev started : tie.At-loop Inv-loop μ-loop → tie.Start Inv-loop μ-loop
 started l = l .before .before .before
 
-abbrev looped : tie.After-build-row Inv-loop μ-loop → tie.At-loop Inv-loop μ-loop
-looped e = e .before .before .before
+abbrev looping : tie.After-build-row Inv-loop μ-loop → tie.At-loop Inv-loop μ-loop
+looping e = e .before .before .before
 
 -- the number of the triangles before row i
 abbrev number : tie.Start Inv-loop μ-loop → ℕ → ℕ
@@ -46,14 +46,14 @@ loop-holds c =
 
 slice-write-starts-2 : tie.Need-slice-write-starts-2 Inv-loop μ-loop
 slice-write-starts-2 c =
-    let a = started (looped (c .before .before)) .args in
+    let a = started (looping (c .before .before)) .args in
     omega (arith, length-set (a .starts .now) 0 0)
 
 loop-again : tie.Need-loop-again Inv-loop μ-loop
 loop-again c =
     let e = c .before .before in
     let b = e .build-row in
-    let l = looped e in
+    let l = looping e in
     let w = l .loop in
     let t = started l in
     let a = t .args in
