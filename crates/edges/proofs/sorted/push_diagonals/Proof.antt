@@ -52,7 +52,7 @@ loop-holds c =
     let f = c .before in
     let s = started (changed c) in
     let a = s .args in
-    let started = eventsIn (a .lambdas .now) (a .codes .now) (a .count) in (
+    let already = eventsIn (a .lambdas .now) (a .codes .now) (a .count) in (
       omega (arith, f .first-sum .ensures),
       omega (arith, c .past-sum .ensures),
       record {
@@ -62,7 +62,7 @@ loop-holds c =
         lambdas-length = s .pre .0 .lambdas-length;
         codes-length = s .pre .0 .codes-length;
         left =
-            diagonals-start (a .cells) (a .leg) started
+            diagonals-start (a .cells) (a .leg) already
             (held (ap (lt eps) (changed c .abs .ensures)) (f .before .if1 .left)) (f .first-sum .ensures)
             (c .past-sum .ensures);
         sorted = s .pre .1;

@@ -46,9 +46,9 @@ unfolding eps
 returns c =
     let s = started (c .before) in
     let a = s .args in
-    let started = eventsIn (a .lambdas .now) (a .codes .now) (a .count) in (
+    let already = eventsIn (a .lambdas .now) (a .codes .now) (a .count) in (
       search needs,
-      lines-none (a .axis) (a .cells) (a .leg) started (failed (test (c .before)) (c .if1 .taken)),
+      lines-none (a .axis) (a .cells) (a .leg) already (failed (test (c .before)) (c .if1 .taken)),
       s .pre .1,
     )
 
@@ -57,7 +57,7 @@ unfolding eps
 loop-holds c =
     let s = started (changed c) in
     let a = s .args in
-    let started = eventsIn (a .lambdas .now) (a .codes .now) (a .count) in
+    let already = eventsIn (a .lambdas .now) (a .codes .now) (a .count) in
     record {
       from = search needs;
       to = search needs;
@@ -65,7 +65,7 @@ loop-holds c =
       lambdas-length = s .pre .0 .lambdas-length;
       codes-length = s .pre .0 .codes-length;
       left =
-          lines-start (a .axis) (a .cells) (a .leg) started (held (test (changed c)) (c .before .if1 .left))
+          lines-start (a .axis) (a .cells) (a .leg) already (held (test (changed c)) (c .before .if1 .left))
           (c .steps-on .ensures);
       sorted = s .pre .1;
     }
