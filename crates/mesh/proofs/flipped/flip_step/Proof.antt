@@ -20,15 +20,15 @@ use Rattle.mesh.proofs.flipped.flip_step.Statement.{statement}
 use Rattle.mesh.proofs.flipped.flip_step.Tie as tie
 
 -- the start, from where the rims' steps are known
-abbrev started : tie.After-rim-steps → tie.Start
-started e = e .before .before .before .before
+abbrev called : tie.After-rim-steps → tie.Start
+called e = e .before .before .before .before
 
 -- where the step of the low rim is known, and the start, from where it is known which of the two triangles are there
 abbrev stepped : tie.After-high-differs → tie.After-step-on
 stepped e = e .before .before .before
 
-abbrev start : tie.After-high-differs → tie.Start
-start e = started (stepped e .before)
+abbrev started : tie.After-high-differs → tie.Start
+started e = called (stepped e .before)
 
 -- where both are there, from where their numbers are read
 abbrev paired : tie.After-shared-slice-known4 → tie.Else2
@@ -53,25 +53,25 @@ pairs-after t = flipStep (t .args .axis) (shape t) (ofMapping (t .args .mapping)
 
 -- the step of the low rim
 on-is : (e : tie.After-step-on) →
-    let t = started (e .before) in
+    let t = called (e .before) in
     let a = t .args in
     e .step-on .result ≡ stepOn (ofMapping (a .mapping)) (stepsOf (a .axis) (shape t)) (a .i)
 on-is e = rw (← e .before .rim-steps .ensures) (e .step-on .ensures)
 
 on-there : (e : tie.Else1) →
-    let t = started (e .before .before) in
+    let t = called (e .before .before) in
     e .before .step-on .result < stepsOf (t .args .axis) (shape t)
 on-there e = omega arith
 
 step-on-requires : tie.Need-step-on-requires
 step-on-requires c κs =
-    let t = started c in
+    let t = called c in
     let e = c .rim-steps .ensures in
     (rw e (t .pre .0 .1), omega (arith, steps-most (t .args .axis) (t .args .surface) (t .pre .0 .0)), omega arith)
 
 returns : tie.Need-returns
 returns c =
-    let t = started (c .before .before) in
+    let t = called (c .before .before) in
     let a = t .args in
     no-step (a .axis) (shape t) (ofMapping (a .mapping)) (a .i) (pairs t) (on-is (c .before)) (omega arith)
 
@@ -82,28 +82,28 @@ on e = stepped e .step-on .result
 
 -- the slots of the two triangles, and whether both are there
 abbrev low-slot : tie.After-high-differs → ℕ
-low-slot e = lowOf (start e .args .axis) (shape (start e)) (on e)
+low-slot e = lowOf (started e .args .axis) (shape (started e)) (on e)
 
 abbrev high-slot : tie.After-high-differs → ℕ
-high-slot e = highOf (start e .args .axis) (shape (start e)) (start e .args .i)
+high-slot e = highOf (started e .args .axis) (shape (started e)) (started e .args .i)
 
 abbrev both : tie.After-high-differs → Bool
 both e = e .before .low-differs .result && e .high-differs .result
 
 -- what the two lists have for them
 abbrev low : tie.After-high-differs → ℕ
-low e = getD (start e .args .low .now) (on e) 0
+low e = getD (started e .args .low .now) (on e) 0
 
 abbrev high : tie.After-high-differs → ℕ
-high e = getD (start e .args .high .now) (start e .args .i + 1) 0
+high e = getD (started e .args .high .now) (started e .args .i + 1) 0
 
 tested : (e : tie.After-high-differs) →
-    let t = start e in
+    let t = started e in
     let number = triangleNumber (shape t) in
     pairs-after t
     ≡ cond (both e) (insert (ordered (number (low-slot e)) (number (high-slot e))) (pairs t)) (pairs t)
 tested e =
-    let t = start e in
+    let t = started e in
     let a = t .args in
     step-pair (a .axis) (shape t) (ofMapping (a .mapping)) (a .i) (pairs t)
     (on-is (stepped e))
@@ -114,20 +114,21 @@ tested e =
 returns-2 : tie.Need-returns-2
 returns-2 c = rw (not-true (both (c .before)) (c .if2 .taken)) at (sym (tested (c .before)))
 
-low-number : (e : tie.After-high-differs) → low e ≡ triangleNumber (shape (start e)) (low-slot e)
-low-number e = start e .pre .1 .0 .before (on e) (on-there (e .before .before))
+low-number : (e : tie.After-high-differs) → low e ≡ triangleNumber (shape (started e)) (low-slot e)
+low-number e = started e .pre .1 .0 .before (on e) (on-there (e .before .before))
 
-high-number : (e : tie.After-high-differs) → both e ≡ true → high e ≡ triangleNumber (shape (start e)) (high-slot e) + 1
+high-number : (e : tie.After-high-differs) → both e ≡ true →
+    high e ≡ triangleNumber (shape (started e)) (high-slot e) + 1
 high-number e there =
-    let t = start e in
+    let t = started e in
     let high-there = and-both (e .before .low-differs .result) (e .high-differs .result) there .1 in
     let proper-high = sym (e .high-differs .ensures) ∙ high-there in
     number-before (shape t) (high-slot e) (high e) (t .pre .1 .0 .after (t .args .i) (t .pre .0 .2)) proper-high
 
 put : (e : tie.After-high-differs) →
-    both e ≡ true → insert (ordered (low e) (high e - 1)) (pairs (start e)) ≡ pairs-after (start e)
+    both e ≡ true → insert (ordered (low e) (high e - 1)) (pairs (started e)) ≡ pairs-after (started e)
 put e there =
-    let h : high e - 1 ≡ triangleNumber (shape (start e)) (high-slot e) = omega (arith, high-number e there) in
+    let h : high e - 1 ≡ triangleNumber (shape (started e)) (high-slot e) = omega (arith, high-number e there) in
     rw (low-number e, h) (rw there at (sym (tested e)))
 
 both-there : (e : tie.Else2) → both (e .before) ≡ true
