@@ -70,7 +70,7 @@ enum mt_refusal {
     MT_NOT_THERE = 8,
     /* A mark is neither 0 nor 1. */
     MT_MARK = 9,
-    /* A sample's coordinate is NaN, infinite or beyond +/-1,048,576. */
+    /* A coordinate of a point among the samples is NaN, infinite or beyond +/-1,048,576. */
     MT_SAMPLE = 10,
     /* The curve meets a side where no cell can be told (the original panics there). */
     MT_NO_STEP = 11,

@@ -1,4 +1,4 @@
--- Rules 12.2, for C: the three answers of `total_cmp` as numbers.
+-- Rules 12.2 and 11.3, for C: the three answers of `total_cmp` as numbers.
 use lib.IntN.{ℤ, pos, negsuc}
 use Rattle.float.specs.declared.order.Ordering.{Ordering}
 use Rattle.float.specs.declared.order.Ordering.the-variants.{Less, Equal, Greater}

@@ -11,7 +11,7 @@ use Rattle.merlontrispa.specs.declared.lines.PathsAnswer.{PathsAnswer}
 use Rattle.merlontrispa.specs.declared.lines.SpanAnswer.{SpanAnswer}
 use Rattle.merlontrispa.specs.declared.lines.Part.{Part}
 
--- Rules 8.3: a refusal comes with its number alone, so counts and ends are 0
+-- Rules 11.3: a refusal comes with its number alone, so counts and ends are 0
 abbrev pub pathsAnswer : Answer Counts → PathsAnswer
 pathsAnswer (ok c) = record { refusal = 0; points = c .points; lines = c .lines }
 pathsAnswer (refused k) = record { refusal = k; points = 0; lines = 0 }
@@ -20,7 +20,7 @@ abbrev pub spanAnswer : Answer Ends → SpanAnswer
 spanAnswer (ok e) = record { refusal = 0; start = e .start; end = e .end }
 spanAnswer (refused k) = record { refusal = k; start = 0; end = 0 }
 
--- Rules 9.2: a line as a part of the points, by where it begins and how long it is; the empty part where there is none
+-- Rules 9.2, 11.3: a line as a part of the points, by where it begins and how long it is; the empty part where there is none
 abbrev pub partIn : Answer Ends → Part
 partIn (ok e) = record { offset = 3 * e .start; length = 3 * e .end - 3 * e .start }
 partIn (refused k) = record { offset = 0; length = 0 }

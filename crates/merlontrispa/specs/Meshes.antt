@@ -6,7 +6,7 @@ use Rattle.mesh.specs.Mesh.{Meshed}
 use Rattle.merlontrispa.specs.declared.meshes.MeshAnswer.{MeshAnswer}
 use Rattle.merlontrispa.specs.Seams.{foundSeam}
 
--- Rules 8.3: a refusal comes with its number alone, so there is no seam, after no comparison, and counts are 0
+-- Rules 11.3: a refusal comes with its number alone, so there is no seam, after no comparison, and counts are 0
 abbrev pub meshAnswer : Answer Meshed → MeshAnswer
 meshAnswer (ok c) =
     record { refusal = 0; u = foundSeam (c .u); v = foundSeam (c .v); triangles = c .triangles; pairs = c .pairs }

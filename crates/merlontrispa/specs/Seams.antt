@@ -18,11 +18,11 @@ abbrev pub mappingOf : Bool → ℕ → ℕ → CyclicMapping
 mappingOf false o n = Forward o n
 mappingOf true o n = Reverse o n
 
--- Rules 8.3: a refusal comes with its number alone, so the index is 0
+-- Rules 11.3: a refusal comes with its number alone, so the index is 0
 abbrev pub indexAnswer : Answer ℕ → IndexAnswer
 indexAnswer a = record { refusal = answerNumber a; index = valuesOr 0 a }
 
--- a seam and the comparisons made: all zero but these where none was found
+-- Rules 11.3: a seam and the comparisons made: all zero but these where none was found
 abbrev pub foundIn : Seam → ℕ → FoundSeam
 foundIn (Joined m) k =
     record { found = true; reverse = isReverse m; offset = offsetOf m; steps = stepsOf m; comparisons = k }
@@ -31,6 +31,6 @@ foundIn Unjoined k = record { found = false; reverse = false; offset = 0; steps 
 abbrev pub foundSeam : SeamSearch → FoundSeam
 foundSeam s = foundIn (s .seam) (s .comparisons)
 
--- Rules 8.3: likewise, no seam, after no comparison
+-- Rules 11.3: likewise, no seam, after no comparison
 abbrev pub rowsAnswer : Answer SeamSearch → RowsAnswer
 rowsAnswer a = record { refusal = answerNumber a; seam = foundSeam (valuesOr (searched Unjoined 0) a) }

@@ -13,12 +13,12 @@ use Rattle.merlontrispa.specs.declared.textures.RayCounts.{RayCounts}
 use Rattle.merlontrispa.specs.declared.textures.RayAngle.{RayAngle}
 use Rattle.merlontrispa.specs.declared.textures.RayPoint.{RayPoint}
 
--- the texture of a kind, a spacing, a twist and arms: kind 0 is Grid, 1 Swirl, every other Spiral
+-- Rules 11.3: the texture of a kind, a spacing, a twist and arms: kind 0 is Grid, 1 Swirl, every other Spiral
 abbrev pub textureOf : ℕ → Float → Float → ℕ → ParametricSurfaceTexture
 textureOf kind spacing twist arms =
     cond (eqb kind 0) Grid (cond (eqb kind 1) (Swirl spacing twist) (Spiral spacing arms))
 
--- Rules 8.3: a refusal comes with its number alone, so counts, angle and point are 0
+-- Rules 11.3: a refusal comes with its number alone, so counts, angle and point are 0
 abbrev pub rayCounts : Answer Plan → RayCounts
 rayCounts (ok p) = record { refusal = 0; rays = p .rays; samples = p .samples }
 rayCounts (refused k) = record { refusal = k; rays = 0; samples = 0 }

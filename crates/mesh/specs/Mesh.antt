@@ -40,7 +40,7 @@ abbrev pub statedTriangulation : Triangulation → Answer Meshed
 statedTriangulation (Triangulated u v t f) = ok (record { u = u; v = v; triangles = t; pairs = f })
 statedTriangulation (Refused k) = refused (numberOf k)
 
--- Rules 11.1: refusal 3 is not given: both lists have room for whatever the grid may need
+-- Rules 11.1: what refusal 3 asks for: both lists have room for whatever the grid may need
 abbrev pub roomFits : ℕ → ℕ → List ℕ → List ℕ → Bool
 roomFits m n t f = leb (6 * (m * n)) (length t) && leb (2 * (m + n)) (length f)
 

@@ -1,4 +1,5 @@
--- Rules 4.4 as the code takes it: the rims of a seam and their triangles, for either seam.
+-- Rules 4.4 as the code takes it: the low and high rim of a seam (`surface`, Rims.antt) and their triangles, for either
+-- seam.
 use Prim.Native.Nat.{ℕ, _+_, _*_, _≤_, _<_}
 use mathlib.Core.Path.{_≡_}
 use mathlib.Core.Bool.{Bool, true, false, cond}

@@ -1,5 +1,5 @@
 -- Rules 4.4, for either seam: that of axis u joins column 0, its low rim, and column M, its high rim; that of axis v
--- joins row 0 and row N.
+-- joins row 0 and row N. (The rim of Rules 5.3, of an unjoined seam, is `Rim` in Surface.antt.)
 use Prim.Native.Nat.{ℕ}
 use Rattle.param.specs.declared.Axis.{Axis}
 use Rattle.param.specs.declared.Axis.the-variants.{AxisU, AxisV}

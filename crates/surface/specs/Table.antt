@@ -68,6 +68,17 @@ two-around : triangles (shape 2 1 (forward 0) unjoined once falling) ≡
 unfolding computed
 two-around = refl
 
+-- and beside a second row of cells triangles 1 and 6 both run from 4 to 1, and 2 and 5 from 1 to 4, while no seam is
+-- reversed and so no pair is flipped;
+two-around-runs : triangles (shape 2 2 (forward 0) unjoined once falling) ≡
+    tri 0 3 1 ∷ tri 3 4 1 ∷ tri 1 4 2 ∷ tri 4 5 2 ∷ tri 3 0 4 ∷ tri 0 1 4 ∷ tri 4 1 5 ∷ tri 1 2 5 ∷ []
+unfolding computed
+two-around-runs = refl
+
+two-around-pairs : flipped (shape 2 2 (forward 0) unjoined once falling) ≡ []
+unfolding computed
+two-around-pairs = refl
+
 -- and along a reversed seam of 2, `process_flipped` names triangle 2 twice, and triangle 0, which lies on triangle 11,
 -- not at all.
 two-along : flipped (shape 3 2 (reverse 0) unjoined once falling) ≡ pair 2 9 ∷ pair 2 11 ∷ []

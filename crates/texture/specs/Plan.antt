@@ -28,7 +28,7 @@ twentieth = ofBits binary64 0x3FA999999999999A
 
 -- ---- Rules 10.1: `texture_center_radius`, in two; `texture_spacing`
 
--- the middle of an axis of n steps
+-- the middle of an axis of n steps (Rules 10.4)
 abbrev pub centre : ℕ → Float
 centre n = mul binary64 (natFloat n) half64
 
@@ -96,13 +96,13 @@ maxTwist = ofBits binary64 0x4050000000000000
 abbrev pub maxCount : Float
 maxCount = ofBits binary64 0x40F0000000000000
 
--- Rules 11.1: refusal 5 is not given: the twist is from −64 to 64, and there are at most 64 arms
+-- Rules 11.1: what refusal 5 asks for: the twist is from −64 to 64, and there are at most 64 arms
 abbrev pub textureFits : ParametricSurfaceTexture → Bool
 textureFits Grid = true
 textureFits (Swirl spacing twist) = atMost twist maxTwist
 textureFits (Spiral spacing arms) = leb arms 64
 
--- Rules 11.1: refusal 6 is not given: neither count is beyond 65,536
+-- Rules 11.1: what refusal 6 asks for: neither count is beyond 65,536
 abbrev pub countsFit : Float → Float → Bool
 countsFit rays samples = le rays maxCount && le samples maxCount
 

@@ -57,7 +57,7 @@ pointOf t m n count i cosine sine =
 
 -- ---- the calls
 
--- Rules 11.1: refusal 8 is not given: the plan has this ray, and the ray this sample, the last one too; Grid has no ray
+-- Rules 11.1: what refusal 8 asks for: the plan has this ray, and the ray this sample, the last one too; Grid has no ray
 abbrev pub isThere : Plan → ℕ → ℕ → Bool
 isThere p ray i = ltb ray (p .rays) && leb i (p .samples)
 
@@ -67,7 +67,7 @@ angle t m n ray i =
     passing (planCheck t m n (unless (isThere (planOf t m n) ray i) refusals.NotThere Passed))
     (ok (angleOf t m n (planOf t m n) ray i))
 
--- Rules 11.1: refusal 7 is not given: both are from −1 to 1
+-- Rules 11.1: what refusal 7 asks for: both are from −1 to 1
 abbrev pub directionFits : Float → Float → Bool
 directionFits cosine sine = atMost cosine one64 && atMost sine one64
 

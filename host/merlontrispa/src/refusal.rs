@@ -29,7 +29,7 @@ pub enum Refusal {
     NotThere = 8,
     /// 9: a mark is neither 0 nor 1.
     Mark = 9,
-    /// 10: a sample's coordinate is NaN, infinite or beyond ±1,048,576.
+    /// 10: a coordinate of a point among the samples is NaN, infinite or beyond ±1,048,576.
     Sample = 10,
     /// 11: the curve meets a side where no cell can be told (the original panics there).
     NoStep = 11,
@@ -118,7 +118,9 @@ impl fmt::Display for Refusal {
                 "no such index, ray, sample or line, or a mapping whose steps or offset are out of range"
             }
             Self::Mark => "a mark is neither 0 nor 1",
-            Self::Sample => "a sample's coordinate is NaN, infinite or beyond ±1,048,576",
+            Self::Sample => {
+                "a coordinate of a point among the samples is NaN, infinite or beyond ±1,048,576"
+            }
             Self::NoStep => {
                 "the curve meets a side where no cell can be told (the original panics there)"
             }

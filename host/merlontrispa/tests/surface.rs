@@ -196,7 +196,7 @@ fn refusals_are_errors_with_a_sentence() {
     let refused = curve(&[Some([f64::NAN, 0.0])]).expect_err("no point");
     assert_eq!(
         refused.to_string(),
-        "10: a sample's coordinate is NaN, infinite or beyond ±1,048,576"
+        "10: a coordinate of a point among the samples is NaN, infinite or beyond ±1,048,576"
     );
     assert_eq!(refused.downcast_ref(), Some(&Refusal::Sample));
     assert!(curve(&[None; 65_537]).is_ok());
