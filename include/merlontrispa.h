@@ -3,9 +3,10 @@
  *
  * The functions of target/staticlib/libmerlontrispa.a, which `rt staticlib merlontrispa` writes.
  * Each is proved to end with an answer for every input, to read and write nothing past a list, and
- * to answer what its definition in crates/merlontrispa/specs says, to the last bit; of an answer
- * that is a NaN, its sign and payload are not fixed. The Rules that are cited here, as Rules 8.2,
- * are sections of docs/RULES.md of the repository, which says in words what is right.
+ * to answer, to the last bit, what the definition says that its contract in crates/merlontrispa/src
+ * cites; of an answer that is a NaN, its sign and payload are not fixed. The Rules that are cited
+ * here, as Rules 8.2, are sections of docs/RULES.md of the repository, which says in words what is
+ * right.
  *
  * Grid (Rules 1). A surface is sampled in m steps of u and n steps of v, each 1 to 255, at
  * (m + 1) * (n + 1) points. The number of point (u, v), u up to m and v up to n, is

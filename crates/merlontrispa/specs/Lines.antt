@@ -20,7 +20,8 @@ abbrev pub spanAnswer : Answer Ends → SpanAnswer
 spanAnswer (ok e) = record { refusal = 0; start = e .start; end = e .end }
 spanAnswer (refused k) = record { refusal = k; start = 0; end = 0 }
 
--- Rules 9.2, 11.3: a line as a part of the points, by where it begins and how long it is; the empty part where there is none
+-- Rules 9.2, 11.3: a line as a part of the points, by where it begins and how long it is; where there is none, the
+-- empty part
 abbrev pub partIn : Answer Ends → Part
 partIn (ok e) = record { offset = 3 * e .start; length = 3 * e .end - 3 * e .start }
 partIn (refused k) = record { offset = 0; length = 0 }

@@ -190,8 +190,8 @@ fn joinings() -> impl Iterator<Item = Input> {
     })
 }
 
-/// Every grid of up to 3 by 3 cells whose outer points are each one of three letters (two from 4 cells
-/// a side on).
+/// Every grid of up to 4 by 4 cells whose outer points are each one of three letters, or of two where
+/// M + N is above 6.
 fn borders() -> impl Iterator<Item = Input> {
     let shapes = (1..=4).flat_map(|m| (1..=4).map(move |n| (m, n)));
     shapes.flat_map(|(m, n)| {
