@@ -1,13 +1,14 @@
 -- The lines of a grid are runs, since grid points that follow each other along u have numbers N+1 apart and along v one
 -- apart; so what the loops store is what `gridPaths` says.
 use Prim.Native.Nat.{ℕ, zero, suc, _+_, _*_, _≤_}
-use native.Mathlib.Nat.{suc-mul}
+use native.Mathlib.Nat.{suc-mul, zero-add}
 use native.Mathlib.Omega.{arith}
 use mathlib.Core.Path.{_≡_, refl, _∙_}
 use mathlib.Core.List.{List, [], _∷_, _++_, map, flatten}
 use lib.Ieee.{Float}
-use lib.ListN.{length, take, length-append}
-use lib.Seq.{sets, sets-eq, length-sets, take-append-seam}
+use lib.ListN.{length, length-append}
+use lib.Seq.{sets, length-sets}
+use Rattle.basics.proofs.Lists.{take-sets}
 use Rattle.float.specs.Consts.{zero64}
 use Rattle.lent.specs.Lent.{filled, zeroedFrom}
 use Rattle.lent.proofs.Laws.{zeroed-filled}
@@ -70,11 +71,6 @@ grid-lines g m n =
 
 -- Lists that are drawn one after the other
 
-take-sets : {A : Type 0} (vs l : List A) → length vs ≤ length l → take (length vs) (sets l 0 vs) ≡ vs
-take-sets vs l h =
-    let f : 0 + length vs ≤ length l = omega arith in
-    rw (sets-eq, take-append-seam)
-
 -- two lists stored one after the other, and zero past them
 two-filled : {A : Type 0} (z : A) (l vs ws : List A) (j k : ℕ) → length vs ≡ j →
     length vs + length ws ≡ k → k ≤ length l →
@@ -83,9 +79,9 @@ two-filled z l vs ws j k a b h ep eq er =
     let n : length (vs ++ ws) ≡ k = length-append vs ws ∙ b in
     let i : 0 + length vs ≡ j = omega arith in
     let s : sets (sets l 0 vs) j ws ≡ sets l 0 (vs ++ ws) = rw (sets-append, i) in
-    let f : length (vs ++ ws) ≤ length l = omega arith in
+    let front = rw (zero-add (length (vs ++ ws))) at (take-sets (vs ++ ws) l 0 (omega arith)) in
     rw (er, eq, ep, s, ← n)
-    (zeroed-filled z (vs ++ ws) (sets l 0 (vs ++ ws)) l (length-sets l 0 (vs ++ ws)) (take-sets (vs ++ ws) l f))
+    (zeroed-filled z (vs ++ ws) (sets l 0 (vs ++ ws)) l (length-sets l 0 (vs ++ ws)) front)
 
 -- Starts
 
