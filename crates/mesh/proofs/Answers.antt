@@ -2,7 +2,7 @@
 -- handed over.
 use Prim.Native.Nat.{ℕ, _+_, _*_, _≤_}
 use mathlib.Core.Path.{_≡_, sym, ap, _∙_}
-use mathlib.Core.List.{List, []}
+use mathlib.Core.List.{List}
 use native.Mathlib.Omega.{arith}
 use lib.Ieee.{Float}
 use lib.ListN.{length, take}
@@ -12,12 +12,12 @@ use Rattle.refusal.specs.declared.Check.the-variants.{Passed, Failed}
 use Rattle.refusal.specs.declared.Refusal.{Refusal}
 use Rattle.lent.specs.Lent.{filled, zeroedFrom, afterwards}
 use Rattle.lent.proofs.Laws.{zeroed-filled, answered-in, room-passed}
-use Rattle.param.specs.declared.Axis.the-variants.{AxisU, AxisV}
 use Rattle.grid.specs.Grid.{Accepted}
 use Rattle.grid.proofs.Laws.{grid-passed, grid-accepted, accepted-known}
 use Rattle.cyclic.specs.declared.seam.SeamSearch.{SeamSearch}
 use Rattle.surface.specs.Surface.{Shape, Triangle, kept, slots, triangles, flipped}
 use Rattle.surface.specs.Found.{uSearch, vSearch, surfaceWith}
+use Rattle.surface.proofs.Pairs.{flipped-at-most}
 use Rattle.surface.proofs.Joinings.{u-of-row, v-of-row}
 use Rattle.mesh.specs.declared.MeshCounts.{MeshCounts}
 use Rattle.mesh.specs.declared.Triangulation.{Triangulation}
@@ -26,10 +26,9 @@ use Rattle.mesh.specs.Mesh.{triangleNumbers, pairNumbers, meshCheck, mes
 use Rattle.mesh.specs.Mesh.{triangulateGrid, statedTriangulation}
 use Rattle.mesh.specs.Corners.{Bounded}
 use Rattle.mesh.specs.Held.{trianglesIn, pairsIn}
-use Rattle.mesh.specs.Rims.{flips}
 use Rattle.mesh.proofs.Holding.{triangles-held, pairs-held}
 use Rattle.mesh.proofs.Cells.{held-most}
-use Rattle.mesh.proofs.Flips.{seam-most, held-pairs, flipped-is}
+use Rattle.mesh.proofs.Flips.{held-pairs}
 
 -- Refusals
 
@@ -87,14 +86,7 @@ triangles-filled s count l lent e h q =
     (ap triangleNumbers (sym e) ∙ triangles-held count l h) q
 
 pub pairs-most : (s : Shape) (count : ℕ) (l : List ℕ) → pairsIn count l ≡ flipped s → 2 * count ≤ 2 * (s .M + s .N)
-pairs-most s count l e =
-    let us = flips AxisU s (s .su) [] in
-    omega (
-      arith,
-      held-pairs count l (e ∙ sym (flipped-is s)),
-      seam-most AxisV s (s .sv) us,
-      seam-most AxisU s (s .su) [],
-    )
+pairs-most s count l e = omega (arith, held-pairs count l e, flipped-at-most s)
 
 pub pairs-filled : (s : Shape) (count : ℕ) (l lent : List ℕ) →
     pairsIn count l ≡ flipped s → 2 * count ≤ length l → length l ≡ length lent →

@@ -12,10 +12,12 @@ use Rattle.basics.proofs.Tests.{and-both}
 use Rattle.surface.specs.Surface.{Shape, Pair, insert, ordered, triangleNumber, stepOn}
 use Rattle.surface.specs.Found.{ofMapping}
 use Rattle.surface.specs.Rims.{stepsOf, lowOf, highOf}
+use Rattle.surface.proofs.Triangles.{number-before}
+use Rattle.surface.proofs.Pairs.{ordered-up, ordered-down}
 use Rattle.mesh.specs.Corners.{shapeOf}
 use Rattle.mesh.specs.Held.{pairsIn}
 use Rattle.mesh.specs.Rims.{flipStep}
-use Rattle.mesh.proofs.Flips.{steps-most, number-before, ordered-up, ordered-down, no-step, step-pair}
+use Rattle.mesh.proofs.Flips.{steps-most, no-step, step-pair}
 use Rattle.mesh.proofs.flipped.flip_step.Statement.{statement}
 use Rattle.mesh.proofs.flipped.flip_step.Tie as tie
 
