@@ -18,7 +18,7 @@ use Rattle.cyclic.specs.Mapping as cyclic
 use Rattle.surface.specs.Surface.{Seam, Shape, Pair, ordered, insert, proper, slot, triangleNumber, stepOn, reversed}
 use Rattle.surface.specs.Surface.{process, flipped}
 use Rattle.surface.specs.Found.{ofMapping, seamOf, Maps}
-use Rattle.surface.specs.Rims.{stepsOf, lowOf, highOf}
+use Rattle.surface.specs.Rims.{rimSteps, lowOf, highOf}
 use Rattle.surface.proofs.Pairs.{process-at-most}
 use Rattle.mesh.specs.declared.corner.Surface.{Surface}
 use Rattle.mesh.specs.Corners.{shapeOf, Bounded}
@@ -28,22 +28,22 @@ use Rattle.mesh.proofs.Firsts.{length-firsts}
 use Rattle.mesh.proofs.Numbers.{low-u, low-v, high-u, high-v}
 
 -- a rim has at most 255 steps
-pub steps-most : (axis : Axis) (surface : Surface) → Bounded surface → stepsOf axis (shapeOf surface) ≤ 255
+pub steps-most : (axis : Axis) (surface : Surface) → Bounded surface → rimSteps axis (shapeOf surface) ≤ 255
 steps-most AxisU surface b = b .n-most
 steps-most AxisV surface b = b .m-most
 
 module _ (axis : Axis) (s : Shape) (m : Seam) (i : ℕ) (ps : List Pair)
-    {on : ℕ} (here : on ≡ stepOn m (stepsOf axis s) i) where
+    {on : ℕ} (here : on ≡ stepOn m (rimSteps axis s) i) where
   -- no step of the low rim lies on step i of the high rim
-  pub no-step : stepsOf axis s ≤ on → ps ≡ flipStep axis s m i ps
-  no-step h = rw (← here, le-ltb on (stepsOf axis s) h)
+  pub no-step : rimSteps axis s ≤ on → ps ≡ flipStep axis s m i ps
+  no-step h = rw (← here, le-ltb on (rimSteps axis s) h)
 
   -- one does: their triangles are a pair if both are there
-  pub step-pair : {a b : Bool} → on < stepsOf axis s →
+  pub step-pair : {a b : Bool} → on < rimSteps axis s →
       a ≡ proper (slot s (lowOf axis s on)) → b ≡ proper (slot s (highOf axis s i)) →
       let p = ordered (triangleNumber s (lowOf axis s on)) (triangleNumber s (highOf axis s i)) in
       flipStep axis s m i ps ≡ cond (a && b) (insert p ps) ps
-  step-pair h low high = rw (← here, lt-ltb on (stepsOf axis s) h, low, high)
+  step-pair h low high = rw (← here, lt-ltb on (rimSteps axis s) h, low, high)
 
 -- Steps one after another
 
@@ -59,13 +59,13 @@ flips-more axis s m i ps = rw (add-one i)
 -- at most one pair a step
 pub flips-most : (axis : Axis) (s : Shape) (m : Seam) (n : ℕ) (ps : List Pair) →
     length (flipSteps axis s m n ps) ≤ length ps + n
-flips-most axis s m n ps = process-at-most s m (stepsOf axis s) (lowOf axis s) (highOf axis s) n ps
+flips-most axis s m n ps = process-at-most s m (rimSteps axis s) (lowOf axis s) (highOf axis s) n ps
 
 pub seam-most : (axis : Axis) (s : Shape) (m : Seam) (ps : List Pair) →
-    length (flips axis s m ps) ≤ length ps + stepsOf axis s
+    length (flips axis s m ps) ≤ length ps + rimSteps axis s
 seam-most axis s m ps =
-    cond-keeps (λ (qs : List Pair). length qs ≤ length ps + stepsOf axis s) (reversed m) _ ps
-    (flips-most axis s m (stepsOf axis s) ps) (omega arith)
+    cond-keeps (λ (qs : List Pair). length qs ≤ length ps + rimSteps axis s) (reversed m) _ ps
+    (flips-most axis s m (rimSteps axis s) ps) (omega arith)
 
 -- the count is the number of pairs that the list holds
 pub held-pairs : (count : ℕ) (l : List ℕ) {ps : List Pair} → pairsIn count l ≡ ps → count ≡ length ps

@@ -21,17 +21,17 @@ use Rattle.path.proofs.Stores.{length-flatten-runs, length-run, length-
 
 -- A line is a run
 
--- points whose numbers are a step apart are a run
-module _ (g : List Float) (number : ℕ → ℕ) (step : ℕ) (next : (k : ℕ) → number (suc k) ≡ number k + step) where
-  points-run : (k c : ℕ) → map (λ (i : ℕ). pointAt g (number i)) (counting k c) ≡ run g (number k) step c
+-- points whose numbers are a stride apart are a run
+module _ (g : List Float) (number : ℕ → ℕ) (stride : ℕ) (next : (k : ℕ) → number (suc k) ≡ number k + stride) where
+  points-run : (k c : ℕ) → map (λ (i : ℕ). pointAt g (number i)) (counting k c) ≡ run g (number k) stride c
   unfolding counting run
   points-run k zero = refl
   points-run k (suc c) = rw (points-run (suc k) c, next k)
 
 -- lines that are runs, and whose first numbers are apart from each other, are runs one after the other
-module _ (g : List Float) (line : ℕ → List Vector) (number : ℕ → ℕ) (apart step count : ℕ)
-    (each : (k : ℕ) → line k ≡ run g (number k) step count) (next : (k : ℕ) → number (suc k) ≡ number k + apart) where
-  lines-runs : (k c : ℕ) → map line (counting k c) ≡ runs g (number k) apart step count c
+module _ (g : List Float) (line : ℕ → List Vector) (number : ℕ → ℕ) (apart stride count : ℕ)
+    (each : (k : ℕ) → line k ≡ run g (number k) stride count) (next : (k : ℕ) → number (suc k) ≡ number k + apart) where
+  lines-runs : (k c : ℕ) → map line (counting k c) ≡ runs g (number k) apart stride count c
   unfolding counting runs
   lines-runs k zero = refl
   lines-runs k (suc c) = rw (lines-runs (suc k) c, each k, next k)
@@ -94,12 +94,12 @@ starts-append at (x ∷ xs) ys =
     omega (arith, length-append x (flatten xs)) in
     rw (starts-append (at + length x) xs ys, e)
 
-starts-runs : (g : List Float) (at first apart step count lines : ℕ) →
-    startsFrom at (runs g first apart step count lines) ≡ spaced at count lines
+starts-runs : (g : List Float) (at first apart stride count lines : ℕ) →
+    startsFrom at (runs g first apart stride count lines) ≡ spaced at count lines
 unfolding startsFrom runs spaced
-starts-runs g at first apart step count zero = refl
-starts-runs g at first apart step count (suc l) =
-    rw (length-run g first step count, starts-runs g (at + count) (first + apart) apart step count l)
+starts-runs g at first apart stride count zero = refl
+starts-runs g at first apart stride count (suc l) =
+    rw (length-run g first stride count, starts-runs g (at + count) (first + apart) apart stride count l)
 
 pub grid-starts : (g : List Float) (m n : ℕ) →
     startsFrom 0 (gridLines g m n) ≡ spaced 0 (m + 1) (n + 1) ++ spaced ((m + 1) * (n + 1)) (n + 1) (m + 1)

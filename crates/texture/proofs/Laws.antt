@@ -20,7 +20,7 @@ use Rattle.refusal.specs.declared.Check.the-variants.{Passed}
 use Rattle.refusal.specs.Refusals.{ok}
 use Rattle.texture.specs.declared.plan.ParametricSurfaceTexture.{ParametricSurfaceTexture}
 use Rattle.texture.specs.declared.plan.ParametricSurfaceTexture.the-variants.{Grid, Swirl, Spiral}
-use Rattle.texture.specs.Plan.{two, swirlRays, radialSampleCount, spiralSampleCount, stepsAlong, raysOf}
+use Rattle.texture.specs.Plan.{two, swirlRays, radialSampleCount, spiralSampleCount, samplesAlong, raysOf}
 use Rattle.texture.specs.Plan.{samplesPerRay, textureFits, maxCount, Plan, planOf, plan}
 use Rattle.texture.proofs.Plans.{checks, plan-passed}
 
@@ -35,7 +35,7 @@ passes t m n e =
     (a .1, c .0, c .1, k .1)
 
 -- ---- the counts
-pub record Counts (p : Plan) : Type 0 where
+pub record CountsFit (p : Plan) : Type 0 where
   pub rays-least : 1 ≤ p .rays
   pub rays-most : p .rays ≤ 65536
   pub samples-least : 2 ≤ p .samples
@@ -43,7 +43,7 @@ pub record Counts (p : Plan) : Type 0 where
 
 -- of rays and samples that are floats
 counts-of : (t : ParametricSurfaceTexture) (m n : ℕ) {p : Plan} → plan t m n ≡ ok p → le one64 (raysOf m n t) ≡ true →
-    le two (samplesPerRay m n t) ≡ true → Counts p
+    le two (samplesPerRay m n t) ≡ true → CountsFit p
 counts-of t m n e r s =
     let k = passes t m n e in
     let rays =
@@ -59,8 +59,8 @@ counts-of t m n e r s =
       samples-most = samples .1;
     })
 
-pub swirl-counts : (s w : Float) (m n : ℕ) {p : Plan} → plan (Swirl s w) m n ≡ ok p → Counts p
-unfolding swirlRays radialSampleCount stepsAlong
+pub swirl-counts : (s w : Float) (m n : ℕ) {p : Plan} → plan (Swirl s w) m n ≡ ok p → CountsFit p
+unfolding swirlRays radialSampleCount samplesAlong
 swirl-counts s w m n e =
     counts-of (Swirl s w) m n e (larger-least _ one64 (unfold isNan ofBits in refl))
     (larger-least _ two (unfold isNan ofBits in refl))
@@ -77,8 +77,8 @@ spiral-rays s a m n e =
     let c = cut-between (natFloat (max a 1)) (max a 1) (max a 1) (b .1) (b .1) same same in
     rw (k .3) (le-antisymm (c .1) (c .0))
 
-pub spiral-counts : (s : Float) (a m n : ℕ) {p : Plan} → plan (Spiral s a) m n ≡ ok p → Counts p
-unfolding spiralSampleCount stepsAlong
+pub spiral-counts : (s : Float) (a m n : ℕ) {p : Plan} → plan (Spiral s a) m n ≡ ok p → CountsFit p
+unfolding spiralSampleCount samplesAlong
 spiral-counts s a m n e =
     let b = arms-fit a (leb-true a 64 (passes (Spiral s a) m n e .0)) in
     let one : le one64 (natFloat (max a 1)) ≡ true =

@@ -57,7 +57,7 @@ pointOf t m n count i cosine sine =
 
 -- ---- the calls
 
--- Rules 11.1: what refusal 8 asks for: the plan has this ray, and the ray this sample, the last one too; Grid has no ray
+-- Rules 11.1, what refusal 8 asks for: the plan has this ray, and the ray this sample, the last too; Grid has no ray
 abbrev pub isThere : Plan → ℕ → ℕ → Bool
 isThere p ray i = ltb ray (p .rays) && leb i (p .samples)
 

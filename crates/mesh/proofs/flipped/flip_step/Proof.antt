@@ -11,7 +11,7 @@ use borrow.Author.Tests.{not-true, not-false}
 use Rattle.basics.proofs.Tests.{and-both}
 use Rattle.surface.specs.Surface.{Shape, Pair, insert, ordered, triangleNumber, stepOn}
 use Rattle.surface.specs.Found.{ofMapping}
-use Rattle.surface.specs.Rims.{stepsOf, lowOf, highOf}
+use Rattle.surface.specs.Rims.{rimSteps, lowOf, highOf}
 use Rattle.surface.proofs.Triangles.{number-before}
 use Rattle.surface.proofs.Pairs.{ordered-up, ordered-down}
 use Rattle.mesh.specs.Corners.{shapeOf}
@@ -57,12 +57,12 @@ pairs-after t = flipStep (t .args .axis) (shape t) (ofMapping (t .args .mapping)
 on-is : (e : tie.After-step-on) →
     let t = called (e .before) in
     let a = t .args in
-    e .step-on .result ≡ stepOn (ofMapping (a .mapping)) (stepsOf (a .axis) (shape t)) (a .i)
+    e .step-on .result ≡ stepOn (ofMapping (a .mapping)) (rimSteps (a .axis) (shape t)) (a .i)
 on-is e = rw (← e .before .rim-steps .ensures) (e .step-on .ensures)
 
 on-there : (e : tie.Else1) →
     let t = called (e .before .before) in
-    e .before .step-on .result < stepsOf (t .args .axis) (shape t)
+    e .before .step-on .result < rimSteps (t .args .axis) (shape t)
 on-there e = omega arith
 
 step-on-requires : tie.Need-step-on-requires
