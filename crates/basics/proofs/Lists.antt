@@ -1,8 +1,11 @@
--- What holds of each element of a list: of two lists joined, at a place, and by implication.
+-- What holds of each element of a list: of two lists joined, at a place, and by implication. And the front of a list
+-- into which others were stored.
+use mathlib.Core.Path.{_≡_, ap, _∙_}
 use mathlib.Core.List.{List, [], _∷_, _++_}
-use Prim.Native.Nat.{ℕ, zero, suc, _<_}
+use Prim.Native.Nat.{ℕ, zero, suc, _+_, _≤_, _<_}
 use native.Mathlib.Omega.{arith}
-use lib.ListN.{length, getD}
+use lib.ListN.{length, take, drop, getD, length-append, length-take}
+use lib.Seq.{take-at, sets, sets-eq}
 use Rattle.basics.specs.Lists.{Each}
 
 module _ {A : Type 0} (P : A → Type 0) where
@@ -18,3 +21,13 @@ module _ {A : Type 0} (P : A → Type 0) where
   pub each-implies : (Q : A → Type 0) → ((x : A) → P x → Q x) → (xs : List A) → Each P xs → Each Q xs
   each-implies Q f [] h = tt
   each-implies Q f (x ∷ xs) h = (f x (h .0), each-implies Q f xs (h .1))
+
+-- `sets` from a place on, and no further
+pub take-sets : {A : Type 0} (vs l : List A) (i : ℕ) → i + length vs ≤ length l →
+    take (i + length vs) (sets l i vs) ≡ take i l ++ vs
+take-sets vs l i h =
+    ap (take (i + length vs)) (sets-eq vs l i h)
+    ∙ take-at (take i l ++ vs) (drop (i + length vs) l) (i + length vs) front
+  where
+    front : length (take i l ++ vs) ≡ i + length vs
+    front = simp (length-append, length-take) (omega arith)

@@ -1,7 +1,8 @@
--- What the tests of code say: a comparison under `!`, two joined by `&`, one whose other answer cannot be,
--- and what is picked by one.
+-- What the tests of code say: a comparison under `!`, two joined by `&` or `|`, one whose other answer cannot be, two
+-- that answer alike or not, and what is picked by one.
 use mathlib.Core.Path.{_≡_, refl, sym, _∙_}
-use mathlib.Core.Bool.{Bool, true, false, not, _&&_, cond, and-eq-true-iff}
+use mathlib.Core.Logic.{_⊎_, inl, inr}
+use mathlib.Core.Bool.{Bool, true, false, not, _&&_, _||_, cond, and-eq-true-iff, true≢false, false≢true}
 use borrow.Author.Tests.{not-true, not-false}
 
 -- r is the answer x of a call
@@ -13,6 +14,29 @@ failed e h = sym e ∙ not-true _ h
 
 pub and-both : (a b : Bool) → a && b ≡ true → (a ≡ true) × (b ≡ true)
 and-both a b = and-eq-true-iff a b .0
+
+-- the first of two that are not both true is
+pub and-other : (a b : Bool) → a && b ≡ false → a ≡ true → b ≡ false
+and-other true b h e = h
+and-other false b h e = absurd (true≢false (sym e))
+
+pub or-one : (a b : Bool) → a || b ≡ true → (a ≡ true) ⊎ (b ≡ true)
+or-one true b h = inl refl
+or-one false b h = inr h
+
+pub or-neither : (a b : Bool) → a || b ≡ false → (a ≡ false) × (b ≡ false)
+or-neither true b h = absurd (true≢false h)
+or-neither false b h = (refl, h)
+
+pub same-or-not : (t s : Bool) → (s ≡ t) ⊎ (s ≡ not t)
+same-or-not true true = inl refl
+same-or-not true false = inr refl
+same-or-not false true = inr refl
+same-or-not false false = inl refl
+
+pub not-self : (t : Bool) → not t ≡ t → ⊥
+not-self true e = false≢true e
+not-self false e = true≢false e
 
 pub must : (t : Bool) → (t ≡ false → ⊥) → t ≡ true
 must true f = refl

@@ -1,2 +1,2 @@
--- No call here is open: Counts serves inner contracts only.
-pub mod Counts
+-- No call here is open: Fronts serves inner contracts only.
+pub mod Fronts

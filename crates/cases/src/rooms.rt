@@ -2,7 +2,7 @@
 // that the case differs.
 ghost use mathlib.Core.Path.{_≡_};
 ghost use lib.ListN.{length};
-ghost use Rattle.cases.specs.Counts.{Counts};
+ghost use Rattle.cases.specs.Fronts.{FrontLength};
 
 // Room for a list of a case, but for the long ones. No place is zero, and no two are the same: a place that a call
 // leaves as it was is told from one that it writes.
@@ -54,19 +54,19 @@ pub fn marks() -> [u8; 65538]
 }
 
 pub fn of_floats(list: &[f64], wanted: usize) -> usize
-    ensures { λ r. ⌜ Counts r (now (list .entry)) ⌝ }
+    ensures { λ r. ⌜ FrontLength r (now (list .entry)) ⌝ }
 {
     if wanted <= list.len() { wanted } else { 0 }
 }
 
 pub fn of_numbers(list: &[usize], wanted: usize) -> usize
-    ensures { λ r. ⌜ Counts r (now (list .entry)) ⌝ }
+    ensures { λ r. ⌜ FrontLength r (now (list .entry)) ⌝ }
 {
     if wanted <= list.len() { wanted } else { 0 }
 }
 
 pub fn of_bytes(list: &[u8], wanted: usize) -> usize
-    ensures { λ r. ⌜ Counts r (now (list .entry)) ⌝ }
+    ensures { λ r. ⌜ FrontLength r (now (list .entry)) ⌝ }
 {
     if wanted <= list.len() { wanted } else { 0 }
 }

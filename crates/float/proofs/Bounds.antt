@@ -15,11 +15,12 @@ use lib.Ieee.{Float, nan, inf, fin, binary64, up, down, lt, le, sub, ofInt, ofBi
 use lib.Ieee.Fits.{down-pos, ofInt-fits}
 use lib.Ieee.Exact.{HasValue}
 use lib.Ieee.Back.{round-whole}
+use lib.Ieee.Positive.{positive, positive-of-value}
 use borrow.Author.Tests.{ltb-false}
 use Rattle.float.specs.Sign.{absolute, isFinite, atMost}
 use Rattle.float.specs.Order.{clamped}
 use Rattle.float.specs.Whole.{over, floorZ, ceilZ}
-use Rattle.float.specs.Consts.{eps, zero64}
+use Rattle.float.specs.Consts.{eps, zero64, one64}
 use Rattle.float.specs.Cast.{natFloat, count}
 use Rattle.basics.proofs.Tests.{cond-keeps}
 use Rattle.float.proofs.Rounding.{round-both}
@@ -50,6 +51,15 @@ value-finite (fin t m e) s a c v = refl
 
 pub nat-finite : (n : ℕ) → n ≤ 2 ^ 53 → isFinite (natFloat n) ≡ true
 nat-finite n h = value-finite (natFloat n) false n 1 (nat-value n h)
+
+pub nat-positive : (n : ℕ) → 1 ≤ n → n ≤ 2 ^ 53 → T (positive (natFloat n))
+nat-positive n h k = positive-of-value (natFloat n) n 1 (nat-value n k) h
+
+pub nat-zero : natFloat 0 ≡ fin false 0 (pos 0)
+nat-zero = unfold natFloat ofInt in refl
+
+pub nat-one : natFloat 1 ≡ one64
+nat-one = unfold natFloat ofInt ofBits in refl
 
 pub nat-not-nan : (n : ℕ) → n ≤ 2 ^ 53 → isNan (natFloat n) ≡ false
 nat-not-nan n h = finite-not-nan (natFloat n) (nat-finite n h)

@@ -1,12 +1,12 @@
--- `larger` by the tests of `max`, and its laws: it is below e where both are, a NaN left out, and
--- a NaN only where both are.
+-- `larger` by the tests of `max`, and its laws: it is one of the two and at least the second, it is below e where both
+-- are, a NaN left out, and a NaN only where both are.
 use mathlib.Core.Path.{_≡_, refl, sym, _∙_}
 use mathlib.Core.Bool.{Bool, true, false, _&&_, _||_, and-true, or-false, cond, true≢false}
-use lib.Ieee.{Float, nan, inf, fin, lt, ne, isNan}
+use lib.Ieee.{Float, nan, inf, fin, lt, le, ne, isNan}
 use Rattle.float.specs.Sign.{absolute}
 use Rattle.float.specs.Order.{larger}
-use Rattle.basics.proofs.Tests.{cond-keeps}
-use Rattle.float.proofs.Less.{lt-transitive, not-lt-trans, ne-self}
+use Rattle.basics.proofs.Tests.{cond-keeps, cond-case}
+use Rattle.float.proofs.Less.{lt-transitive, not-lt-trans, le-of-not-lt, le-reflexive, ne-self}
 
 pub abs-nan : (x : Float) → isNan (absolute x) ≡ isNan x
 unfolding isNan absolute
@@ -24,6 +24,18 @@ larger-is (fin s m e) y = refl
 pub larger-tests : (x y : Float) → larger x y ≡ cond (lt x y) y (cond (ne x x) y x)
 larger-tests x y = rw (ne-self x) (larger-is x y)
 
+-- what holds of both holds of the larger
+pub larger-keeps : (P : Float → Type 0) (x y : Float) → P x → P y → P (larger x y)
+larger-keeps P x y p q = rw (larger-is x y) (cond-keeps P (lt x y) y _ q (cond-keeps P (isNan x) y x q p))
+
+-- it is at least the second
+pub larger-least : (x y : Float) → isNan y ≡ false → le y (larger x y) ≡ true
+larger-least x y n =
+    let same = le-reflexive y n in
+    rw (larger-is x y)
+    (cond-case (λ z. le y z ≡ true) (lt x y) y _ (λ a. same)
+    (λ a. cond-case (λ z. le y z ≡ true) (isNan x) y x (λ b. same) (λ b. le-of-not-lt y x n b a)))
+
 -- of two that are no NaN
 pub larger-below : (x y e : Float) → isNan x ≡ false → isNan y ≡ false → lt (larger x y) e ≡ lt x e && lt y e
 larger-below x y e m n = rw (larger-is x y, m) (go (lt x y) (lt x e) (lt y e) refl refl refl)
@@ -37,7 +49,7 @@ larger-below x y e m n = rw (larger-is x y, m) (go (lt x y) (lt x e) (lt y e) re
     go false true false a b c = absurd (true≢false (sym b ∙ not-lt-trans x y e n a c))
 
 larger-no-nan : (x y : Float) → isNan x ≡ false → isNan y ≡ false → isNan (larger x y) ≡ false
-larger-no-nan x y m n = rw (larger-is x y, m) (cond-keeps (λ z. isNan z ≡ false) (lt x y) y x n m)
+larger-no-nan x y m n = larger-keeps (λ z. isNan z ≡ false) x y m n
 
 both-under : (x y e : Float) → isNan x ≡ false → isNan y ≡ false →
     lt (larger x y) e || isNan (larger x y) ≡ (lt x e || isNan x) && (lt y e || isNan y)

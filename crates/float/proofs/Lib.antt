@@ -1,5 +1,5 @@
 -- Laws that belong to no one function. Callers of other crates use Less, Orders, Larger, Differences,
--- Bounds, Range and Between.
+-- Bounds, Range, Between and Zeros.
 pub mod Value
 pub mod Less
 pub mod Rounding
@@ -13,3 +13,4 @@ pub mod Round
 pub mod Bounds
 pub mod Range
 pub mod Between
+pub mod Zeros

@@ -1,18 +1,21 @@
 -- A value between 0 and a count n can be cut to a whole number, which is at most n: it lies above -1 and below 2^64.
+-- And one that is at least a count is so when it is cut.
 use mathlib.Core.Path.{_≡_, refl, sym, _∙_}
-use Prim.Native.Nat.{ℕ, _-_, _*_, _/_, _^_, _≤_, _<_}
-use native.Mathlib.Nat.{le-trans, le-of-eq, mul-comm, div-le-of-le-mul, min-le-left}
+use Prim.Native.Nat.{ℕ, zero, suc, _-_, _*_, _/_, _^_, _≤_, _<_, min}
+use native.Mathlib.Nat.{le-trans, le-refl, le-of-eq, mul-comm, div-le-of-le-mul, min-le-left}
 use native.Mathlib.Omega.{arith}
 use mathlib.Core.Bool.{true, false, true≢false}
-use lib.IntN.{pos}
-use lib.Ieee.{Float, nan, inf, fin, up, down, lt, le, ofBits, toUnsigned}
+use lib.IntN.{pos, negℤ}
+use lib.Dec.{lit≤}
+use lib.Ieee.{Float, nan, inf, fin, up, down, lt, le, ofBits, isNan, toUnsigned}
 use borrow.Author.Tests.{lt-ltb}
 use Rattle.float.specs.Consts.{zero64}
-use Rattle.float.specs.Cast.{natFloat}
+use Rattle.float.specs.Whole.{over, floorZ}
+use Rattle.float.specs.Cast.{natFloat, count}
 use Rattle.float.proofs.Value.{whole-lt}
-use Rattle.float.proofs.Less.{not-lt-of-le, lt-le-trans, le-lt-trans}
+use Rattle.float.proofs.Less.{le-of-not-lt, not-lt-of-le, le-transitive, lt-le-trans, le-lt-trans}
 use Rattle.float.proofs.Casts.{Asked, asked}
-use Rattle.float.proofs.Bounds.{nat-value, nat-finite, inside, most}
+use Rattle.float.proofs.Bounds.{nat-value, nat-finite, nat-not-nan, nat-nonneg, inside, most, floor-at-least}
 
 -- what `std::num::truncating_f64_to_u64` asks of y, and a bound on what it gives
 abbrev pub Counted : Float → ℕ → Type 0
@@ -41,3 +44,29 @@ counted y n h lo hi =
   where
     small : (k : ℕ) → k ≤ 9007199254740992 → k * 1 < 18446744073709551616
     small k l = omega arith
+
+-- a value cut toward zero is no less than its floor
+floor-cut : (y : Float) → count (floorZ y) ≤ toUnsigned 64 y
+unfolding floorZ toUnsigned
+floor-cut nan = le-refl 0
+floor-cut (inf true) = le-refl 0
+floor-cut (inf false) = lit≤ tt
+floor-cut (fin true m e) = none (min (over (m * up e) (down e)) (2 ^ 63))
+  where
+    none : (k : ℕ) → count (negℤ (pos k)) ≤ 0
+    none zero = le-refl 0
+    none (suc k) = le-refl 0
+floor-cut (fin false m e) = wider (m * up e / down e)
+  where
+    wider : (q : ℕ) → min q 9223372036854775807 ≤ min q 18446744073709551615
+    wider q = omega arith
+
+-- a value from k to n, cut toward zero, is from k to n
+pub cut-between : (x : Float) (k n : ℕ) → k ≤ 2 ^ 53 → n ≤ 2 ^ 53 → le (natFloat k) x ≡ true →
+    le x (natFloat n) ≡ true → (k ≤ toUnsigned 64 x) × (toUnsigned 64 x ≤ n)
+cut-between x k n hk hn lo hi =
+    let from-zero =
+    le-of-not-lt zero64 (natFloat k) (unfold isNan ofBits in refl) (nat-not-nan k hk) (nat-nonneg k) in (
+      le-trans (floor-at-least x k lo hk) (floor-cut x),
+      counted x n hn (le-transitive zero64 (natFloat k) x from-zero lo) hi .1,
+    )

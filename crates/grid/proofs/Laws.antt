@@ -4,8 +4,8 @@ use Prim.Native.Nat.{ℕ, zero, suc, _+_, _*_, _/_, _%_, _≤_, _<_}
 use native.Mathlib.Nat.{mul-le-mul}
 use native.Mathlib.Omega.{arith}
 use native.Mathlib.Numerals.{add-one}
-use mathlib.Core.Path.{_≡_, refl}
-use mathlib.Core.Bool.{true, false, _&&_}
+use mathlib.Core.Path.{_≡_, refl, ap, _∙_}
+use mathlib.Core.Bool.{Bool, true, false, not, _&&_}
 use mathlib.Core.List.{List, [], _∷_}
 use lib.Arith.{digits-lt, digits-div, digits-mod}
 use lib.Dec.{leb}
@@ -14,7 +14,7 @@ use lib.ListN.{length, getD, drop}
 use lib.Seq.{drop-cons}
 use borrow.Author.Tests.{leb-true, eqb-true}
 use Rattle.float.specs.Sign.{isFinite, atMost}
-use Rattle.basics.proofs.Tests.{and-both}
+use Rattle.basics.proofs.Tests.{held, failed, and-both}
 use Rattle.float.proofs.Bounds.{at-most-finite}
 use Rattle.refusal.specs.declared.Check.{Check}
 use Rattle.refusal.specs.declared.Check.the-variants.{Passed, Failed}
@@ -85,11 +85,22 @@ grid-accepted g m n between h = rw (grid-passed g m n between h .own) at h
 pub accepted-known : (g : List Float) (m n : ℕ) → Accepted g m n → Shaped g m n
 accepted-known g m n h = grid-passed g m n Passed h .shaped
 
+-- a call that tests 1 by itself, and the grid with a test of its own between: `fit` is whether M and N fit
+
+-- past 1 they are known
+pub steps-answered : (m n : ℕ) {fit : Bool} → fit ≡ stepsFit m n → not fit ≡ false → Stepped m n
+steps-answered m n e h = steps-known m n (held e h)
+
 -- 1 comes first, whatever the call itself tests
-pub steps-refused : (g : List Float) (m n : ℕ) (between : Check) → stepsFit m n ≡ false →
-    gridCheck g m n between ≡ Failed Steps
+pub steps-refused : (g : List Float) (m n : ℕ) (between : Check) {fit : Bool} → fit ≡ stepsFit m n →
+    not fit ≡ true → Failed Steps ≡ gridCheck g m n between
 unfolding gridCheck
-steps-refused g m n between h = rw h
+steps-refused g m n between e h = rw (failed e h)
+
+-- its own test is that of its definition
+pub grid-tested : (g : List Float) (m n : ℕ) {r said between : Check} → r ≡ gridCheck g m n said → said ≡ between →
+    r ≡ gridCheck g m n between
+grid-tested g m n e h = e ∙ ap (gridCheck g m n) h
 
 -- Coordinates
 

@@ -1,13 +1,20 @@
 -- `zeroedFrom` as a loop makes it, place by place, and what it says of a list whose front is known. Over any element.
--- And an answer in another form, beside the lists of its call.
+-- An answer in another form, beside the lists of its call. And the room that lists have where they are not refused.
 use mathlib.Core.Path.{_≡_, sym, _∙_}
+use mathlib.Core.Bool.{_&&_}
 use mathlib.Core.List.{List, append-nil, append-assoc}
 use Prim.Native.Nat.{ℕ, suc, _+_, _-_, _≤_, _<_}
 use native.Mathlib.Omega.{arith}
 use native.Mathlib.Numerals.{add-one}
+use lib.Dec.{leb}
 use lib.ListN.{length, take, set, length-set}
 use lib.Seq.{take-all, take-suc-set}
-use Rattle.lent.specs.Lent.{filled, zeroedFrom, Afterwards, afterwards, answering}
+use borrow.Author.Tests.{leb-true}
+use Rattle.basics.proofs.Tests.{and-both}
+use Rattle.refusal.specs.declared.Check.the-variants.{Passed}
+use Rattle.refusal.specs.declared.Refusal.the-variants.{Room}
+use Rattle.refusal.proofs.Laws.{unless-passed}
+use Rattle.lent.specs.Lent.{roomCheck, filled, zeroedFrom, Afterwards, afterwards, answering}
 
 -- what a loop that makes zeroes keeps: l zeroed from place i on is the lent list zeroed from place `from` on
 pub record Zeroing {A : Type 0} (z : A) (from : ℕ) (lent : List A) (i : ℕ) (l : List A) : Type 0 where
@@ -42,3 +49,11 @@ module _ {A : Type 0} (z : A) where
 pub answered-in : {A B L : Type 0} (f : A → B) {a : A} {r : B} {l : L} {t : Afterwards A L} → r ≡ f a →
     afterwards a l ≡ t → afterwards r l ≡ answering f t
 answered-in f e h = rw (e, ← h)
+
+-- where 3 does not apply, each list is as long as the call needs it
+pub room-passed : (need have need′ have′ : ℕ) → roomCheck need have need′ have′ ≡ Passed →
+    (need ≤ have) × (need′ ≤ have′)
+room-passed need have need′ have′ h =
+    let fits = unless-passed (leb need have && leb need′ have′) Room Passed h .0 in
+    let both = and-both (leb need have) (leb need′ have′) fits in
+    (leb-true need have (both .0), leb-true need′ have′ (both .1))

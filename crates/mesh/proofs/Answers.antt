@@ -2,40 +2,33 @@
 -- handed over.
 use Prim.Native.Nat.{ℕ, _+_, _*_, _≤_}
 use mathlib.Core.Path.{_≡_, sym, ap, _∙_}
-use mathlib.Core.List.{List, []}
+use mathlib.Core.List.{List}
 use native.Mathlib.Omega.{arith}
-use lib.Dec.{leb}
 use lib.Ieee.{Float}
 use lib.ListN.{length, take}
 use lib.Seq.{length-take-le}
-use borrow.Author.Tests.{leb-true}
-use Rattle.basics.proofs.Tests.{and-both}
 use Rattle.refusal.specs.declared.Check.{Check}
 use Rattle.refusal.specs.declared.Check.the-variants.{Passed, Failed}
 use Rattle.refusal.specs.declared.Refusal.{Refusal}
-use Rattle.refusal.specs.declared.Refusal.the-variants.{Room}
-use Rattle.refusal.specs.Refusals.{unless}
-use Rattle.refusal.proofs.Laws.{unless-passed}
 use Rattle.lent.specs.Lent.{filled, zeroedFrom, afterwards}
-use Rattle.lent.proofs.Laws.{zeroed-filled, answered-in}
-use Rattle.param.specs.declared.Axis.the-variants.{AxisU, AxisV}
+use Rattle.lent.proofs.Laws.{zeroed-filled, answered-in, room-passed}
 use Rattle.grid.specs.Grid.{Accepted}
 use Rattle.grid.proofs.Laws.{grid-passed, grid-accepted, accepted-known}
 use Rattle.cyclic.specs.declared.seam.SeamSearch.{SeamSearch}
 use Rattle.surface.specs.Surface.{Shape, Triangle, kept, slots, triangles, flipped}
 use Rattle.surface.specs.Found.{uSearch, vSearch, surfaceWith}
+use Rattle.surface.proofs.Pairs.{flipped-at-most}
 use Rattle.surface.proofs.Joinings.{u-of-row, v-of-row}
 use Rattle.mesh.specs.declared.MeshCounts.{MeshCounts}
 use Rattle.mesh.specs.declared.Triangulation.{Triangulation}
 use Rattle.mesh.specs.declared.Triangulation.the-variants.{Triangulated, Refused}
-use Rattle.mesh.specs.Mesh.{triangleNumbers, pairNumbers, roomFits, meshCheck, meshLists, meshed, written}
+use Rattle.mesh.specs.Mesh.{triangleNumbers, pairNumbers, meshCheck, meshLists, meshed, written}
 use Rattle.mesh.specs.Mesh.{triangulateGrid, statedTriangulation}
 use Rattle.mesh.specs.Corners.{Bounded}
 use Rattle.mesh.specs.Held.{trianglesIn, pairsIn}
-use Rattle.mesh.specs.Rims.{flips}
 use Rattle.mesh.proofs.Holding.{triangles-held, pairs-held}
 use Rattle.mesh.proofs.Cells.{held-most}
-use Rattle.mesh.proofs.Flips.{seam-most, held-pairs, flipped-is}
+use Rattle.mesh.proofs.Flips.{held-pairs}
 
 -- Refusals
 
@@ -48,14 +41,8 @@ pub record Admitted (g : List Float) (m n : ℕ) (t f : List ℕ) : Type 0 where
 pub admitted : (g : List Float) (m n : ℕ) (t f : List ℕ) → meshCheck g m n t f ≡ Passed → Admitted g m n t f
 unfolding meshCheck
 admitted g m n t f h =
-    let room = unless (roomFits m n t f) Room Passed in
-    let own = unless-passed (roomFits m n t f) Room Passed (grid-passed g m n room h .own) .0 in
-    let r = and-both (leb (6 * (m * n)) (length t)) (leb (2 * (m + n)) (length f)) own in
-    record {
-      accepted = grid-accepted g m n room h;
-      triangle-room = leb-true (6 * (m * n)) (length t) (r .0);
-      pair-room = leb-true (2 * (m + n)) (length f) (r .1);
-    }
+    let room = room-passed (6 * (m * n)) (length t) (2 * (m + n)) (length f) (grid-passed g m n _ h .own) in
+    record { accepted = grid-accepted g m n _ h; triangle-room = room .0; pair-room = room .1 }
 
 -- The seams that are found fit the grid
 
@@ -99,14 +86,7 @@ triangles-filled s count l lent e h q =
     (ap triangleNumbers (sym e) ∙ triangles-held count l h) q
 
 pub pairs-most : (s : Shape) (count : ℕ) (l : List ℕ) → pairsIn count l ≡ flipped s → 2 * count ≤ 2 * (s .M + s .N)
-pairs-most s count l e =
-    let us = flips AxisU s (s .su) [] in
-    omega (
-      arith,
-      held-pairs count l (e ∙ sym (flipped-is s)),
-      seam-most AxisV s (s .sv) us,
-      seam-most AxisU s (s .su) [],
-    )
+pairs-most s count l e = omega (arith, held-pairs count l e, flipped-at-most s)
 
 pub pairs-filled : (s : Shape) (count : ℕ) (l lent : List ℕ) →
     pairsIn count l ≡ flipped s → 2 * count ≤ length l → length l ≡ length lent →

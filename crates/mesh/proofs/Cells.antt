@@ -12,7 +12,7 @@ use Rattle.surface.specs.Surface.{Shape, Triangle, tri, proper, falling, halfOf
 use Rattle.surface.proofs.Triangles.{kept-at-most}
 use Rattle.mesh.specs.declared.corner.Cell.{Cell}
 use Rattle.mesh.specs.declared.corner.Surface.{Surface}
-use Rattle.mesh.specs.Corners.{shapeOf, cellOf}
+use Rattle.mesh.specs.Corners.{shapeOf, cellCorners}
 use Rattle.mesh.specs.Held.{firsts, triangleAt, trianglesIn}
 use Rattle.mesh.proofs.Firsts.{length-firsts}
 
@@ -78,24 +78,24 @@ module _ (surface : Surface) (u v : ℕ) (h : v < surface .n) where
   slot-of i x e d = rw (e, d, digits-div u h, digits-mod u h)
 
   -- the cell's triangles are those of its two slots
-  pub slot-first : {cell : Cell} → cell ≡ cellOf (shapeOf surface) u v →
+  pub slot-first : {cell : Cell} → cell ≡ cellCorners (shapeOf surface) u v →
       firstOf cell ≡ slot (shapeOf surface) (2 * (u * surface .n + v))
   unfolding halfOf
   slot-first c = ap firstOf c ∙ sym (slot-of (2 * (u * surface .n + v)) 0 (omega arith) (omega arith))
 
-  pub slot-second : {cell : Cell} → cell ≡ cellOf (shapeOf surface) u v →
+  pub slot-second : {cell : Cell} → cell ≡ cellCorners (shapeOf surface) u v →
       secondOf cell ≡ slot (shapeOf surface) (2 * (u * surface .n + v) + 1)
   unfolding halfOf
   slot-second c = ap secondOf c ∙ sym (slot-of (2 * (u * surface .n + v) + 1) 1 (omega arith) (omega arith))
 
   -- what the cell's triangles are added to, and give
   pub cell-first : {cell : Cell} {before after : List Triangle} →
-      cell ≡ cellOf (shapeOf surface) u v → before ≡ kept (shapeOf surface) (2 * (u * surface .n + v)) →
+      cell ≡ cellCorners (shapeOf surface) u v → before ≡ kept (shapeOf surface) (2 * (u * surface .n + v)) →
       after ≡ before ++ addedBy (firstOf cell) → after ≡ kept (shapeOf surface) (2 * (u * surface .n + v) + 1)
   cell-first c b a = kept-more (shapeOf surface) (2 * (u * surface .n + v)) (slot-first c) b a
 
   pub cell-second : {cell : Cell} {before after : List Triangle} →
-      cell ≡ cellOf (shapeOf surface) u v → before ≡ kept (shapeOf surface) (2 * (u * surface .n + v) + 1) →
+      cell ≡ cellCorners (shapeOf surface) u v → before ≡ kept (shapeOf surface) (2 * (u * surface .n + v) + 1) →
       after ≡ before ++ addedBy (secondOf cell) → after ≡ kept (shapeOf surface) (2 * (u * surface .n + (v + 1)))
   cell-second c b a =
       let e : 2 * (u * surface .n + v) + 1 + 1 ≡ 2 * (u * surface .n + (v + 1)) = omega arith in

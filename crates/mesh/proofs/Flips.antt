@@ -1,11 +1,10 @@
 -- What a step of a reversed seam puts down, from what the code finds there, and how many pairs there can be.
-use Prim.Native.Nat.{ℕ, zero, suc, _+_, _-_, _*_, _≤_, _<_, min, max}
+use Prim.Native.Nat.{ℕ, _+_, _-_, _*_, _≤_, _<_}
 use mathlib.Core.Path.{_≡_, refl, sym, ap, _∙_}
-use mathlib.Core.Bool.{Bool, true, _&&_, cond}
-use mathlib.Core.List.{List, [], _∷_}
+use mathlib.Core.Bool.{Bool, _&&_, cond}
+use mathlib.Core.List.{List, []}
 use native.Mathlib.Omega.{arith}
 use native.Mathlib.Numerals.{add-one}
-use lib.Dec.{ltb}
 use lib.ListN.{length, getD}
 use borrow.Author.Tests.{lt-ltb, le-ltb}
 use Rattle.basics.proofs.Tests.{cond-keeps}
@@ -17,50 +16,34 @@ use Rattle.cyclic.specs.declared.seam.Seam.{Seam as Found}
 use Rattle.cyclic.specs.declared.seam.Seam.the-variants.{Joined}
 use Rattle.cyclic.specs.Mapping as cyclic
 use Rattle.surface.specs.Surface.{Seam, Shape, Pair, ordered, insert, proper, slot, triangleNumber, stepOn, reversed}
-use Rattle.surface.specs.Surface.{process, flipped, pair}
+use Rattle.surface.specs.Surface.{process, flipped}
 use Rattle.surface.specs.Found.{ofMapping, seamOf, Maps}
-use Rattle.surface.specs.Rims.{stepsOf, lowOf, highOf}
+use Rattle.surface.specs.Rims.{rimSteps, lowOf, highOf}
+use Rattle.surface.proofs.Pairs.{process-at-most}
 use Rattle.mesh.specs.declared.corner.Surface.{Surface}
 use Rattle.mesh.specs.Corners.{shapeOf, Bounded}
 use Rattle.mesh.specs.Held.{pairAt, pairsIn}
 use Rattle.mesh.specs.Rims.{Starts, Rims, flipStep, flipSteps, flips}
 use Rattle.mesh.proofs.Firsts.{length-firsts}
-use Rattle.mesh.proofs.Numbers.{number-step, low-u, low-v, high-u, high-v}
+use Rattle.mesh.proofs.Numbers.{low-u, low-v, high-u, high-v}
 
 -- a rim has at most 255 steps
-pub steps-most : (axis : Axis) (surface : Surface) → Bounded surface → stepsOf axis (shapeOf surface) ≤ 255
+pub steps-most : (axis : Axis) (surface : Surface) → Bounded surface → rimSteps axis (shapeOf surface) ≤ 255
 steps-most AxisU surface b = b .n-most
 steps-most AxisV surface b = b .m-most
 
--- the number of a triangle from the count after it
-pub number-before : (s : Shape) (k x : ℕ) → x ≡ triangleNumber s (k + 1) → proper (slot s k) ≡ true →
-    x ≡ triangleNumber s k + 1
-number-before s k x e p = rw (e, number-step, p)
-
-pub ordered-up : (a b : ℕ) → a < b → pair a b ≡ ordered a b
-ordered-up a b h =
-    let l : min a b ≡ a = omega arith in
-    let r : max a b ≡ b = omega arith in
-    rw (l, r)
-
-pub ordered-down : (a b : ℕ) → b ≤ a → pair b a ≡ ordered a b
-ordered-down a b h =
-    let l : min a b ≡ b = omega arith in
-    let r : max a b ≡ a = omega arith in
-    rw (l, r)
-
 module _ (axis : Axis) (s : Shape) (m : Seam) (i : ℕ) (ps : List Pair)
-    {on : ℕ} (here : on ≡ stepOn m (stepsOf axis s) i) where
+    {on : ℕ} (here : on ≡ stepOn m (rimSteps axis s) i) where
   -- no step of the low rim lies on step i of the high rim
-  pub no-step : stepsOf axis s ≤ on → ps ≡ flipStep axis s m i ps
-  no-step h = rw (← here, le-ltb on (stepsOf axis s) h)
+  pub no-step : rimSteps axis s ≤ on → ps ≡ flipStep axis s m i ps
+  no-step h = rw (← here, le-ltb on (rimSteps axis s) h)
 
   -- one does: their triangles are a pair if both are there
-  pub step-pair : {a b : Bool} → on < stepsOf axis s →
+  pub step-pair : {a b : Bool} → on < rimSteps axis s →
       a ≡ proper (slot s (lowOf axis s on)) → b ≡ proper (slot s (highOf axis s i)) →
       let p = ordered (triangleNumber s (lowOf axis s on)) (triangleNumber s (highOf axis s i)) in
       flipStep axis s m i ps ≡ cond (a && b) (insert p ps) ps
-  step-pair h low high = rw (← here, lt-ltb on (stepsOf axis s) h, low, high)
+  step-pair h low high = rw (← here, lt-ltb on (rimSteps axis s) h, low, high)
 
 -- Steps one after another
 
@@ -73,40 +56,16 @@ pub flips-more : (axis : Axis) (s : Shape) (m : Seam) (i : ℕ) (ps : List Pair)
 unfolding process
 flips-more axis s m i ps = rw (add-one i)
 
-cond-most : (b : Bool) (x y : List Pair) (n : ℕ) → length x ≤ n → length y ≤ n → length (cond b x y) ≤ n
-cond-most b x y n = cond-keeps (λ (ps : List Pair). length ps ≤ n) b x y
-
-insert-most : (p : Pair) (ps : List Pair) → length (insert p ps) ≤ suc (length ps)
-insert-most p [] = omega arith
-insert-most p (q ∷ qs) =
-    let on = insert-most p qs in
-    cond-most (ltb (p .low) (q .low)) _ _ _ (omega arith)
-    (cond-most (ltb (q .low) (p .low)) _ _ _ (omega arith)
-    (cond-most (ltb (p .high) (q .high)) _ _ _ (omega arith)
-    (cond-most (ltb (q .high) (p .high)) _ _ _ (omega arith) (omega arith))))
-
-step-most : (axis : Axis) (s : Shape) (m : Seam) (i : ℕ) (ps : List Pair) →
-    length (flipStep axis s m i ps) ≤ suc (length ps)
-step-most axis s m i ps =
-    let on = stepOn m (stepsOf axis s) i in
-    let a = lowOf axis s on in
-    let b = highOf axis s i in
-    cond-most (ltb on (stepsOf axis s)) _ _ _
-    (cond-most (proper (slot s a) && proper (slot s b)) _ _ _
-    (insert-most (ordered (triangleNumber s a) (triangleNumber s b)) ps)
-    (omega arith))
-    (omega arith)
-
 -- at most one pair a step
 pub flips-most : (axis : Axis) (s : Shape) (m : Seam) (n : ℕ) (ps : List Pair) →
     length (flipSteps axis s m n ps) ≤ length ps + n
-unfolding process
-flips-most axis s m zero ps = omega arith
-flips-most axis s m (suc n) ps = omega (arith, step-most axis s m n (flipSteps axis s m n ps), flips-most axis s m n ps)
+flips-most axis s m n ps = process-at-most s m (rimSteps axis s) (lowOf axis s) (highOf axis s) n ps
 
 pub seam-most : (axis : Axis) (s : Shape) (m : Seam) (ps : List Pair) →
-    length (flips axis s m ps) ≤ length ps + stepsOf axis s
-seam-most axis s m ps = cond-most (reversed m) _ _ _ (flips-most axis s m (stepsOf axis s) ps) (omega arith)
+    length (flips axis s m ps) ≤ length ps + rimSteps axis s
+seam-most axis s m ps =
+    cond-keeps (λ (qs : List Pair). length qs ≤ length ps + rimSteps axis s) (reversed m) _ ps
+    (flips-most axis s m (rimSteps axis s) ps) (omega arith)
 
 -- the count is the number of pairs that the list holds
 pub held-pairs : (count : ℕ) (l : List ℕ) {ps : List Pair} → pairsIn count l ≡ ps → count ≡ length ps

@@ -1,8 +1,8 @@
 -- What a list of numbers holds, as numbers; a triangle added, a pair put in, and where a pair belongs.
 use Prim.Native.Nat.{ℕ, zero, suc, _+_, _*_, _≤_, _<_}
 use mathlib.Core.Path.{_≡_, refl, sym, _∙_}
-use mathlib.Core.Logic.{_⊎_, inl, inr, ⊎-elim}
-use mathlib.Core.Bool.{Bool, true, false, _&&_, _||_, true≢false}
+use mathlib.Core.Logic.{_⊎_, ⊎-elim}
+use mathlib.Core.Bool.{Bool, true, false, _&&_, _||_}
 use mathlib.Core.List.{List, [], _∷_, _++_, append-assoc}
 use native.Mathlib.Omega.{arith}
 use native.Mathlib.Numerals.{add-one}
@@ -12,7 +12,7 @@ use lib.ListN.{length, getD, take, drop, set, length-set, take-append-drop, drop
 use lib.Seq.{take-suc, drop-cons, append-snoc, getD-set-same, getD-set-other}
 use borrow.Author.Tests.{ltb-false, eqb-true, eqb-false, lt-ltb, le-ltb, eq-eqb}
 use Rattle.basics.specs.Lists.{putAt}
-use Rattle.basics.proofs.Tests.{and-both}
+use Rattle.basics.proofs.Tests.{and-both, and-other, or-one, or-neither}
 use Rattle.basics.proofs.Numbers.{lt-or-le}
 use Rattle.surface.specs.Surface.{Triangle, tri, Pair, insert, pair}
 use Rattle.mesh.specs.Mesh.{triangleNumbers, pairNumbers}
@@ -118,18 +118,6 @@ comes p q = ltb (p .low) (q .low) || (eqb (p .low) (q .low) && ltb (p .high) (q 
 
 abbrev pub alike : Pair → Pair → Bool
 alike p q = eqb (p .low) (q .low) && eqb (p .high) (q .high)
-
-or-one : (a b : Bool) → a || b ≡ true → (a ≡ true) ⊎ (b ≡ true)
-or-one true b h = inl refl
-or-one false b h = inr h
-
-or-neither : (a b : Bool) → a || b ≡ false → (a ≡ false) × (b ≡ false)
-or-neither true b h = absurd (true≢false h)
-or-neither false b h = (refl, h)
-
-and-other : (a b : Bool) → a && b ≡ false → a ≡ true → b ≡ false
-and-other true b h e = h
-and-other false b h e = absurd (true≢false (sym e))
 
 insert-front : (p q : Pair) (qs : List Pair) → comes p q ≡ true → insert p (q ∷ qs) ≡ p ∷ q ∷ qs
 insert-front p q qs h =

@@ -12,7 +12,7 @@ use Rattle.surface.specs.Found.{seamOf}
 use Rattle.surface.proofs.Demand.{proper-of}
 use Rattle.mesh.specs.declared.corner.Cell.{Cell}
 use Rattle.mesh.specs.declared.corner.Surface.{Surface}
-use Rattle.mesh.specs.Corners.{shapeOf, cellOf}
+use Rattle.mesh.specs.Corners.{shapeOf, cellCorners}
 use Rattle.mesh.proofs.Cells.{firstOf, secondOf, added-one, cell-first, cell-second}
 
 -- a cell of a grid of n v steps, whose corner (u, v) has the number i
@@ -31,7 +31,7 @@ module _ (surface : Surface) where
       )
 
   module _ (u v : ℕ) (p : u + 1 < surface .m) (q : v + 1 < surface .n) where
-    plain-cell : cellOf (shapeOf surface) u v ≡ plainCell (surface .n) (pointNumber (surface .n) u v)
+    plain-cell : cellCorners (shapeOf surface) u v ≡ plainCell (surface .n) (pointNumber (surface .n) u v)
     plain-cell =
         let n = surface .n in
         let i10 : pointNumber n (u + 1) v ≡ pointNumber n u v + n + 1 = omega arith in

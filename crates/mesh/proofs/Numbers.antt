@@ -1,17 +1,14 @@
 -- Numbers of triangles: how a slot adds to the count, which slots the rims have, and the step of one rim on another.
 use Prim.Native.Nat.{ℕ, _+_, _-_, _*_, _≤_}
-use mathlib.Core.Path.{_≡_, refl}
+use mathlib.Core.Path.{_≡_, refl, _∙_}
 use mathlib.Core.Bool.{Bool, true, false, cond}
-use mathlib.Core.List.{[], _∷_}
 use native.Mathlib.Nat.{mul-le-mul}
-use native.Mathlib.Numerals.{add-one}
 use native.Mathlib.Omega.{arith}
-use lib.ListN.{length, length-append}
 use Rattle.cyclic.specs.declared.mapping.CyclicMapping.{CyclicMapping}
 use Rattle.cyclic.specs.Mapping as cyclic
-use Rattle.surface.specs.Surface.{Shape, proper, slot, kept, triangleNumber, wrapEnds, stepOn, lowU, highU, lowV, highV}
+use Rattle.surface.specs.Surface.{Shape, proper, slot, triangleNumber, wrapEnds, stepOn, lowU, highU, lowV, highV}
 use Rattle.surface.specs.Found.{ofMapping}
-use Rattle.surface.proofs.Triangles.{kept-at-most}
+use Rattle.surface.proofs.Triangles.{number-more}
 use Rattle.mesh.specs.declared.corner.Surface.{Surface}
 use Rattle.mesh.specs.Corners.{shapeOf}
 use Rattle.mesh.specs.Rims.{oneMore}
@@ -19,16 +16,11 @@ use Rattle.mesh.proofs.Joins.{inverse-is}
 
 -- a slot is counted if its triangle is proper
 pub number-step : (s : Shape) (k : ℕ) → triangleNumber s (k + 1) ≡ oneMore (triangleNumber s k) (proper (slot s k))
-unfolding triangleNumber kept
-number-step s k = rw (add-one, length-append) (go (proper (slot s k)))
+number-step s k = number-more s k ∙ go (proper (slot s k))
   where
-    go : (b : Bool) → length (kept s k) + length (cond b (slot s k ∷ []) []) ≡ oneMore (length (kept s k)) b
+    go : (b : Bool) → triangleNumber s k + cond b 1 0 ≡ oneMore (triangleNumber s k) b
     go true = refl
     go false = omega arith
-
-pub number-most : (s : Shape) (k : ℕ) → triangleNumber s k ≤ k
-unfolding triangleNumber
-number-most s k = kept-at-most s k
 
 pub one-more-most : (k : ℕ) (b : Bool) → oneMore k b ≤ k + 1
 one-more-most k true = omega arith

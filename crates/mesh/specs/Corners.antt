@@ -39,8 +39,8 @@ joinOf Unjoined last line step = placed line step
 joinOf (Joined m) last line step = cond (eqb line last) (placed 0 (inverse m step)) (placed line step)
 
 -- Rules 4.3: the numbers of what the four corners of cell (u, v) stand for
-abbrev pub cellOf : Shape → ℕ → ℕ → Cell
-cellOf s u v =
+abbrev pub cellCorners : Shape → ℕ → ℕ → Cell
+cellCorners s u v =
     record {
       i00 = corner s v u v;
       i10 = corner s v (u + 1) v;

@@ -1,15 +1,11 @@
 -- Rules 4, 8 and 11 of `triangulate_grid`: what it answers and leaves in the two lent lists, or which refusal it gives.
 use Prim.Native.Nat.{ℕ, _+_, _*_}
-use mathlib.Core.Bool.{Bool, _&&_}
 use mathlib.Core.List.{List, [], _∷_}
-use lib.Dec.{leb}
 use lib.ListN.{length}
 use lib.Ieee.{Float}
 use Rattle.refusal.specs.declared.Check.{Check}
-use Rattle.refusal.specs.declared.Check.the-variants.{Passed}
-use Rattle.refusal.specs.declared.Refusal.the-variants.{Room}
-use Rattle.refusal.specs.Refusals.{Answer, ok, refused, numberOf, unless}
-use Rattle.lent.specs.Lent.{filled, Afterwards, afterwards, answering, ifPassed}
+use Rattle.refusal.specs.Refusals.{Answer, ok, refused, numberOf}
+use Rattle.lent.specs.Lent.{roomCheck, filled, Afterwards, afterwards, answering, ifPassed}
 use Rattle.grid.specs.Grid.{gridCheck}
 use Rattle.cyclic.specs.declared.seam.SeamSearch.{SeamSearch}
 use Rattle.surface.specs.Surface.{Triangle, Pair, Shape, triangles, flipped}
@@ -40,13 +36,10 @@ abbrev pub statedTriangulation : Triangulation → Answer Meshed
 statedTriangulation (Triangulated u v t f) = ok (record { u = u; v = v; triangles = t; pairs = f })
 statedTriangulation (Refused k) = refused (numberOf k)
 
--- Rules 11.1: what refusal 3 asks for: both lists have room for whatever the grid may need
-abbrev pub roomFits : ℕ → ℕ → List ℕ → List ℕ → Bool
-roomFits m n t f = leb (6 * (m * n)) (length t) && leb (2 * (m + n)) (length f)
-
--- Rules 11.2: refusals 1, 2, 3 and 4, in this order
+-- Rules 11.2: refusals 1, 2, 3 and 4, in this order. What 3 asks for (11.1): both lists have room for whatever the grid
+-- may need
 unfoldable pub meshCheck : List Float → ℕ → ℕ → List ℕ → List ℕ → Check
-meshCheck g m n t f = gridCheck g m n (unless (roomFits m n t f) Room Passed)
+meshCheck g m n t f = gridCheck g m n (roomCheck (6 * (m * n)) (length t) (2 * (m + n)) (length f))
 
 -- the two lists that are lent for them
 pub record MeshLists : Type 0 where

@@ -3,7 +3,7 @@ use cyclic::seam::Seam;
 ghost use Prim.Native.Nat.{_+_, _≤_, _<_};
 ghost use mathlib.Core.Path.{_≡_};
 ghost use Rattle.surface.specs.Surface.{corner};
-ghost use Rattle.mesh.specs.Corners.{shapeOf, Bounded, Joins, joinOf, cellOf};
+ghost use Rattle.mesh.specs.Corners.{shapeOf, Bounded, Joins, joinOf, cellCorners};
 
 // A grid's steps and its two seams.
 pub struct Surface {
@@ -65,7 +65,7 @@ pub fn corner(surface: Surface, row: usize, u: usize, v: usize) -> usize
 // The corners of cell (u, v).
 pub fn cell_corners(surface: Surface, u: usize, v: usize) -> Cell
     requires { ⌜ Bounded surface × (u < surface .m) × (v < surface .n) ⌝ }
-    ensures { λ r. ⌜ r ≡ cellOf (shapeOf surface) u v ⌝ }
+    ensures { λ r. ⌜ r ≡ cellCorners (shapeOf surface) u v ⌝ }
 {
     Cell {
         i00: corner(surface, v, u, v),

@@ -14,7 +14,7 @@ ghost use lib.ListN.{length, getD};
 ghost use Rattle.cyclic.specs.declared.seam.Seam.the-variants.{Joined};
 ghost use Rattle.surface.specs.Surface.{proper, slot, triangleNumber, wrapEnds, stepOn, flipped as allFlipped};
 ghost use Rattle.surface.specs.Found.{ofMapping, seamOf, Maps};
-ghost use Rattle.surface.specs.Rims.{stepsOf, lowOf, highOf};
+ghost use Rattle.surface.specs.Rims.{rimSteps, lowOf, highOf};
 ghost use Rattle.mesh.specs.Corners.{shapeOf, Bounded};
 ghost use Rattle.mesh.specs.Held.{pairsIn};
 ghost use Rattle.mesh.specs.Rims.{Rims, Starts, oneMore, flipStep, flipSteps, flips};
@@ -75,7 +75,7 @@ fn count_row(surface: Surface, u: usize, start: usize, counts: &mut [usize])
 
 // Whether the triangle at step i of the low rim is there.
 fn low_differs(surface: Surface, axis: Axis, i: usize) -> bool
-    requires { ⌜ Bounded surface × (i < stepsOf axis (shapeOf surface)) ⌝ }
+    requires { ⌜ Bounded surface × (i < rimSteps axis (shapeOf surface)) ⌝ }
     ensures { λ r. ⌜ r ≡ proper (slot (shapeOf surface) (lowOf axis (shapeOf surface) i)) ⌝ }
 {
     match axis {
@@ -86,7 +86,7 @@ fn low_differs(surface: Surface, axis: Axis, i: usize) -> bool
 
 // Whether the triangle at step i of the high rim is there.
 fn high_differs(surface: Surface, axis: Axis, i: usize) -> bool
-    requires { ⌜ Bounded surface × (i < stepsOf axis (shapeOf surface)) ⌝ }
+    requires { ⌜ Bounded surface × (i < rimSteps axis (shapeOf surface)) ⌝ }
     ensures { λ r. ⌜ r ≡ proper (slot (shapeOf surface) (highOf axis (shapeOf surface) i)) ⌝ }
 {
     match axis {
@@ -125,7 +125,7 @@ fn step_on(mapping: CyclicMapping, steps: usize, i: usize) -> usize
 
 // The steps along a seam's rims.
 fn rim_steps(surface: Surface, axis: Axis) -> usize
-    ensures { λ r. ⌜ r ≡ stepsOf axis (shapeOf surface) ⌝ }
+    ensures { λ r. ⌜ r ≡ rimSteps axis (shapeOf surface) ⌝ }
 {
     match axis {
         Axis::AxisU => surface.n,
@@ -145,8 +145,8 @@ fn flip_step(
     flipped: &mut [usize],
     count: usize,
 ) -> usize
-    requires { ⌜ Bounded surface × Maps (Joined mapping) (stepsOf axis (shapeOf surface))
-        × (i < stepsOf axis (shapeOf surface)) ⌝ }
+    requires { ⌜ Bounded surface × Maps (Joined mapping) (rimSteps axis (shapeOf surface))
+        × (i < rimSteps axis (shapeOf surface)) ⌝ }
     requires { ⌜ Rims axis (shapeOf surface) (now low) (now high) × (2 * count + 2 ≤ length (now flipped)) ⌝ }
     ensures { λ r. ⌜ pairsIn r (now (flipped .exit))
         ≡ flipStep axis (shapeOf surface) (ofMapping mapping) i (pairsIn count (now (flipped .entry))) ⌝ }
@@ -177,11 +177,11 @@ fn process_flipped(
     flipped: &mut [usize],
     start: usize,
 ) -> usize
-    requires { ⌜ Bounded surface × Maps (Joined mapping) (stepsOf axis (shapeOf surface)) ⌝ }
+    requires { ⌜ Bounded surface × Maps (Joined mapping) (rimSteps axis (shapeOf surface)) ⌝ }
     requires { ⌜ Rims axis (shapeOf surface) (now low) (now high)
-        × (2 * (start + stepsOf axis (shapeOf surface)) ≤ length (now flipped)) ⌝ }
+        × (2 * (start + rimSteps axis (shapeOf surface)) ≤ length (now flipped)) ⌝ }
     ensures { λ r. ⌜ pairsIn r (now (flipped .exit))
-        ≡ flipSteps axis (shapeOf surface) (ofMapping mapping) (stepsOf axis (shapeOf surface))
+        ≡ flipSteps axis (shapeOf surface) (ofMapping mapping) (rimSteps axis (shapeOf surface))
         (pairsIn start (now (flipped .entry))) ⌝ }
 {
     let steps = rim_steps(surface, axis);
@@ -204,9 +204,9 @@ fn flip_seam(
     flipped: &mut [usize],
     count: usize,
 ) -> usize
-    requires { ⌜ Bounded surface × Maps seam (stepsOf axis (shapeOf surface)) ⌝ }
+    requires { ⌜ Bounded surface × Maps seam (rimSteps axis (shapeOf surface)) ⌝ }
     requires { ⌜ Rims axis (shapeOf surface) (now low) (now high)
-        × (2 * (count + stepsOf axis (shapeOf surface)) ≤ length (now flipped)) ⌝ }
+        × (2 * (count + rimSteps axis (shapeOf surface)) ≤ length (now flipped)) ⌝ }
     ensures { λ r. ⌜ pairsIn r (now (flipped .exit))
         ≡ flips axis (shapeOf surface) (seamOf seam) (pairsIn count (now (flipped .entry))) ⌝ }
 {

@@ -1,13 +1,14 @@
 -- The lines of a grid are runs, since grid points that follow each other along u have numbers N+1 apart and along v one
 -- apart; so what the loops store is what `gridPaths` says.
 use Prim.Native.Nat.{ℕ, zero, suc, _+_, _*_, _≤_}
-use native.Mathlib.Nat.{suc-mul}
+use native.Mathlib.Nat.{suc-mul, zero-add}
 use native.Mathlib.Omega.{arith}
 use mathlib.Core.Path.{_≡_, refl, _∙_}
 use mathlib.Core.List.{List, [], _∷_, _++_, map, flatten}
 use lib.Ieee.{Float}
-use lib.ListN.{length, take, length-append}
-use lib.Seq.{sets, sets-eq, length-sets, take-append-seam}
+use lib.ListN.{length, length-append}
+use lib.Seq.{sets, length-sets}
+use Rattle.basics.proofs.Lists.{take-sets}
 use Rattle.float.specs.Consts.{zero64}
 use Rattle.lent.specs.Lent.{filled, zeroedFrom}
 use Rattle.lent.proofs.Laws.{zeroed-filled}
@@ -20,17 +21,17 @@ use Rattle.path.proofs.Stores.{length-flatten-runs, length-run, length-
 
 -- A line is a run
 
--- points whose numbers are a step apart are a run
-module _ (g : List Float) (number : ℕ → ℕ) (step : ℕ) (next : (k : ℕ) → number (suc k) ≡ number k + step) where
-  points-run : (k c : ℕ) → map (λ (i : ℕ). pointAt g (number i)) (counting k c) ≡ run g (number k) step c
+-- points whose numbers are a stride apart are a run
+module _ (g : List Float) (number : ℕ → ℕ) (stride : ℕ) (next : (k : ℕ) → number (suc k) ≡ number k + stride) where
+  points-run : (k c : ℕ) → map (λ (i : ℕ). pointAt g (number i)) (counting k c) ≡ run g (number k) stride c
   unfolding counting run
   points-run k zero = refl
   points-run k (suc c) = rw (points-run (suc k) c, next k)
 
 -- lines that are runs, and whose first numbers are apart from each other, are runs one after the other
-module _ (g : List Float) (line : ℕ → List Vector) (number : ℕ → ℕ) (apart step count : ℕ)
-    (each : (k : ℕ) → line k ≡ run g (number k) step count) (next : (k : ℕ) → number (suc k) ≡ number k + apart) where
-  lines-runs : (k c : ℕ) → map line (counting k c) ≡ runs g (number k) apart step count c
+module _ (g : List Float) (line : ℕ → List Vector) (number : ℕ → ℕ) (apart stride count : ℕ)
+    (each : (k : ℕ) → line k ≡ run g (number k) stride count) (next : (k : ℕ) → number (suc k) ≡ number k + apart) where
+  lines-runs : (k c : ℕ) → map line (counting k c) ≡ runs g (number k) apart stride count c
   unfolding counting runs
   lines-runs k zero = refl
   lines-runs k (suc c) = rw (lines-runs (suc k) c, each k, next k)
@@ -70,11 +71,6 @@ grid-lines g m n =
 
 -- Lists that are drawn one after the other
 
-take-sets : {A : Type 0} (vs l : List A) → length vs ≤ length l → take (length vs) (sets l 0 vs) ≡ vs
-take-sets vs l h =
-    let f : 0 + length vs ≤ length l = omega arith in
-    rw (sets-eq, take-append-seam)
-
 -- two lists stored one after the other, and zero past them
 two-filled : {A : Type 0} (z : A) (l vs ws : List A) (j k : ℕ) → length vs ≡ j →
     length vs + length ws ≡ k → k ≤ length l →
@@ -83,9 +79,9 @@ two-filled z l vs ws j k a b h ep eq er =
     let n : length (vs ++ ws) ≡ k = length-append vs ws ∙ b in
     let i : 0 + length vs ≡ j = omega arith in
     let s : sets (sets l 0 vs) j ws ≡ sets l 0 (vs ++ ws) = rw (sets-append, i) in
-    let f : length (vs ++ ws) ≤ length l = omega arith in
+    let front = rw (zero-add (length (vs ++ ws))) at (take-sets (vs ++ ws) l 0 (omega arith)) in
     rw (er, eq, ep, s, ← n)
-    (zeroed-filled z (vs ++ ws) (sets l 0 (vs ++ ws)) l (length-sets l 0 (vs ++ ws)) (take-sets (vs ++ ws) l f))
+    (zeroed-filled z (vs ++ ws) (sets l 0 (vs ++ ws)) l (length-sets l 0 (vs ++ ws)) front)
 
 -- Starts
 
@@ -98,12 +94,12 @@ starts-append at (x ∷ xs) ys =
     omega (arith, length-append x (flatten xs)) in
     rw (starts-append (at + length x) xs ys, e)
 
-starts-runs : (g : List Float) (at first apart step count lines : ℕ) →
-    startsFrom at (runs g first apart step count lines) ≡ spaced at count lines
+starts-runs : (g : List Float) (at first apart stride count lines : ℕ) →
+    startsFrom at (runs g first apart stride count lines) ≡ spaced at count lines
 unfolding startsFrom runs spaced
-starts-runs g at first apart step count zero = refl
-starts-runs g at first apart step count (suc l) =
-    rw (length-run g first step count, starts-runs g (at + count) (first + apart) apart step count l)
+starts-runs g at first apart stride count zero = refl
+starts-runs g at first apart stride count (suc l) =
+    rw (length-run g first stride count, starts-runs g (at + count) (first + apart) apart stride count l)
 
 pub grid-starts : (g : List Float) (m n : ℕ) →
     startsFrom 0 (gridLines g m n) ≡ spaced 0 (m + 1) (n + 1) ++ spaced ((m + 1) * (n + 1)) (n + 1) (m + 1)

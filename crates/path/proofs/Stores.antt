@@ -39,110 +39,111 @@ unfolding coordinates
 coordinates-append [] qs = refl
 coordinates-append (p ∷ ps) qs = rw (coordinates-append ps qs)
 
-pub length-run : (g : List Float) (first step count : ℕ) → length (run g first step count) ≡ count
+pub length-run : (g : List Float) (first stride count : ℕ) → length (run g first stride count) ≡ count
 unfolding run
-length-run g first step zero = refl
-length-run g first step (suc c) = ap suc (length-run g (first + step) step c)
+length-run g first stride zero = refl
+length-run g first stride (suc c) = ap suc (length-run g (first + stride) stride c)
 
 pub flatten-append : {A : Type 0} (xs ys : List (List A)) → flatten (xs ++ ys) ≡ flatten xs ++ flatten ys
 unfolding flatten
 flatten-append [] ys = refl
 flatten-append (x ∷ xs) ys = rw (flatten-append xs ys) (sym (append-assoc x (flatten xs) (flatten ys)))
 
-pub length-flatten-runs : (g : List Float) (first apart step count lines : ℕ) →
-    length (flatten (runs g first apart step count lines)) ≡ lines * count
+pub length-flatten-runs : (g : List Float) (first apart stride count lines : ℕ) →
+    length (flatten (runs g first apart stride count lines)) ≡ lines * count
 unfolding flatten runs
-length-flatten-runs g first apart step count zero = omega arith
-length-flatten-runs g first apart step count (suc l) =
-    length-append (run g first step count) (flatten (runs g (first + apart) apart step count l))
+length-flatten-runs g first apart stride count zero = omega arith
+length-flatten-runs g first apart stride count (suc l) =
+    length-append (run g first stride count) (flatten (runs g (first + apart) apart stride count l))
     ∙ omega (
       arith,
-      length-run g first step count,
-      length-flatten-runs g (first + apart) apart step count l,
+      length-run g first stride count,
+      length-flatten-runs g (first + apart) apart stride count l,
       suc-mul l count,
     )
 
-pub length-spaced : (first step count : ℕ) → length (spaced first step count) ≡ count
+pub length-spaced : (first stride count : ℕ) → length (spaced first stride count) ≡ count
 unfolding spaced
-length-spaced first step zero = refl
-length-spaced first step (suc c) = ap suc (length-spaced (first + step) step c)
+length-spaced first stride zero = refl
+length-spaced first stride (suc c) = ap suc (length-spaced (first + stride) stride c)
 
 -- a turn of `draw_run`
-module _ (l : List Float) (at : ℕ) (g : List Float) (number step : ℕ) where
+module _ (l : List Float) (at : ℕ) (g : List Float) (number stride : ℕ) where
   -- the first point, and then those that are left
   run-first : (c : ℕ) →
-      sets l at (coordinates (run g number step (suc c)))
-      ≡ sets (sets l at (coordinates (pointAt g number ∷ []))) (at + 3) (coordinates (run g (number + step) step c))
+      sets l at (coordinates (run g number stride (suc c)))
+      ≡ sets (sets l at (coordinates (pointAt g number ∷ []))) (at + 3) (coordinates (run g (number + stride) stride c))
   unfolding run coordinates
   run-first c = let e : at + 3 ≡ suc (suc (suc at)) = omega arith in rw e
 
   pub run-turn : (left : ℕ) {p : Vector} {q : List Float} → 0 < left → p ≡ pointAt g number →
       q ≡ sets l at (coordinates (p ∷ [])) →
-      sets l at (coordinates (run g number step left))
-      ≡ sets q (at + 3) (coordinates (run g (number + step) step (left - 1)))
+      sets l at (coordinates (run g number stride left))
+      ≡ sets q (at + 3) (coordinates (run g (number + stride) stride (left - 1)))
   run-turn zero h e f = absurd (omega arith)
   run-turn (suc c) h e f = rw (sub-one, f, e) (run-first c)
 
-  pub run-done : (left : ℕ) → left ≤ 0 → sets l at (coordinates (run g number step left)) ≡ l
+  pub run-done : (left : ℕ) → left ≤ 0 → sets l at (coordinates (run g number stride left)) ≡ l
   unfolding run coordinates
   run-done left h = let e : left ≡ 0 = omega arith in rw e
 
 -- k runs, and the l after them
-runs-add : (g : List Float) (apart step count k l first : ℕ) →
-    runs g first apart step count (k + l) ≡ runs g first apart step count k
-    ++ runs g (first + k * apart) apart step count l
+runs-add : (g : List Float) (apart stride count k l first : ℕ) →
+    runs g first apart stride count (k + l) ≡ runs g first apart stride count k
+    ++ runs g (first + k * apart) apart stride count l
 unfolding runs
-runs-add g apart step count zero l first =
+runs-add g apart stride count zero l first =
     let a : 0 + l ≡ l = omega arith in
     let b : first + 0 * apart ≡ first = omega arith in
     rw (a, b)
-runs-add g apart step count (suc k) l first =
+runs-add g apart stride count (suc k) l first =
     let a : suc k + l ≡ suc (k + l) = omega arith in
     let b : first + suc k * apart ≡ first + apart + k * apart = omega (arith, suc-mul k apart) in
-    rw (a, b, runs-add g apart step count k l (first + apart))
+    rw (a, b, runs-add g apart stride count k l (first + apart))
 
 -- a turn of `draw_runs`
-module _ (l : List Float) (at : ℕ) (g : List Float) (first apart step count : ℕ) where
+module _ (l : List Float) (at : ℕ) (g : List Float) (first apart stride count : ℕ) where
   -- the first run, and then those that are left
   runs-first : (c : ℕ) →
-      sets l at (coordinates (flatten (runs g first apart step count (suc c))))
-      ≡ sets (sets l at (coordinates (run g first step count))) (at + 3 * count)
-      (coordinates (flatten (runs g (first + apart) apart step count c)))
+      sets l at (coordinates (flatten (runs g first apart stride count (suc c))))
+      ≡ sets (sets l at (coordinates (run g first stride count))) (at + 3 * count)
+      (coordinates (flatten (runs g (first + apart) apart stride count c)))
   unfolding runs flatten
   runs-first c = rw (coordinates-append, sets-append, length-coordinates, length-run)
 
   pub runs-turn : (left : ℕ) → 0 < left →
-      sets l at (coordinates (flatten (runs g first apart step count left)))
-      ≡ sets (sets l at (coordinates (run g first step count))) (at + 3 * count)
-      (coordinates (flatten (runs g (first + apart) apart step count (left - 1))))
+      sets l at (coordinates (flatten (runs g first apart stride count left)))
+      ≡ sets (sets l at (coordinates (run g first stride count))) (at + 3 * count)
+      (coordinates (flatten (runs g (first + apart) apart stride count (left - 1))))
   runs-turn zero h = absurd (omega arith)
   runs-turn (suc c) h = rw sub-one (runs-first c)
 
   -- four runs and then those that are left
   pub runs-four : (left : ℕ) → 4 ≤ left →
-      sets l at (coordinates (flatten (runs g first apart step count left)))
-      ≡ sets (sets l at (coordinates (flatten (runs g first apart step count 4)))) (at + 4 * (3 * count))
-      (coordinates (flatten (runs g (first + 4 * apart) apart step count (left - 4))))
+      sets l at (coordinates (flatten (runs g first apart stride count left)))
+      ≡ sets (sets l at (coordinates (flatten (runs g first apart stride count 4)))) (at + 4 * (3 * count))
+      (coordinates (flatten (runs g (first + 4 * apart) apart stride count (left - 4))))
   runs-four left h =
-      let four : List Vector = flatten (runs g first apart step count 4) in
+      let four : List Vector = flatten (runs g first apart stride count 4) in
       let width : length (coordinates four) ≡ 4 * (3 * count) =
-      omega (arith, length-coordinates four, length-flatten-runs g first apart step count 4) in
+      omega (arith, length-coordinates four, length-flatten-runs g first apart stride count 4) in
       let all : 4 + (left - 4) ≡ left = omega arith in
       rw (← width, ← sets-append, ← coordinates-append, ← flatten-append, ← runs-add, all)
 
-  pub runs-done : (left : ℕ) → left ≤ 0 → sets l at (coordinates (flatten (runs g first apart step count left))) ≡ l
+  pub runs-done : (left : ℕ) → left ≤ 0 → sets l at (coordinates (flatten (runs g first apart stride count left))) ≡ l
   unfolding runs flatten coordinates
   runs-done left h = let e : left ≡ 0 = omega arith in rw e
 
 -- a turn of `put_spaced`
-module _ (l : List ℕ) (at number step : ℕ) where
+module _ (l : List ℕ) (at number stride : ℕ) where
   pub spaced-turn : (left : ℕ) → 0 < left →
-      sets l at (spaced number step left) ≡ sets (set l at number) (at + 1) (spaced (number + step) step (left - 1))
+      sets l at (spaced number stride left)
+      ≡ sets (set l at number) (at + 1) (spaced (number + stride) stride (left - 1))
   unfolding spaced
   spaced-turn zero h = absurd (omega arith)
   spaced-turn (suc c) h = rw (add-one, sub-one)
 
-  pub spaced-done : (left : ℕ) → left ≤ 0 → sets l at (spaced number step left) ≡ l
+  pub spaced-done : (left : ℕ) → left ≤ 0 → sets l at (spaced number stride left) ≡ l
   unfolding spaced
   spaced-done left h = let e : left ≡ 0 = omega arith in rw e
 
@@ -160,12 +161,12 @@ sets-sets : {A : Type 0} (l : List A) (i j : ℕ) (vs ws : List A) → i + lengt
 sets-sets l i j vs [] h = refl
 sets-sets l i j vs (b ∷ ws) h = rw (sets-set l i j vs b h) (sets-sets (set l j b) i (suc j) vs ws (omega arith))
 
-module _ (g : List Float) (apart step width : ℕ) where
+module _ (g : List Float) (apart stride width : ℕ) where
   -- k runs of count points, each a width after the one before it
   unfoldable pub lanes : ℕ → ℕ → List Float → ℕ → ℕ → List Float
   lanes count zero l at number = l
   lanes count (suc k) l at number =
-      lanes count k (sets l at (coordinates (run g number step count))) (at + width) (number + apart)
+      lanes count k (sets l at (coordinates (run g number stride count))) (at + width) (number + apart)
 
   -- the first point of each of k runs
   heads : ℕ → List Float → ℕ → ℕ → List Float
@@ -182,22 +183,22 @@ module _ (g : List Float) (apart step width : ℕ) where
 
   -- one turn of them all: their first points, and then the runs that are left
   lanes-first : (c k : ℕ) (l : List Float) (at number : ℕ) → 3 * suc c ≤ width →
-      lanes (suc c) k l at number ≡ lanes c k (heads k l at number) (at + 3) (number + step)
+      lanes (suc c) k l at number ≡ lanes c k (heads k l at number) (at + 3) (number + stride)
   unfolding lanes heads
   lanes-first c zero l at number h = refl
   lanes-first c (suc k) l at number h =
       let p : List Float = sets l at (coordinates (pointAt g number ∷ [])) in
-      let rest : List Float = coordinates (run g (number + step) step c) in
+      let rest : List Float = coordinates (run g (number + stride) stride c) in
       let w : at + 3 + length rest ≤ at + width =
-      omega (arith, length-coordinates (run g (number + step) step c), length-run g (number + step) step c) in
+      omega (arith, length-coordinates (run g (number + stride) stride c), length-run g (number + stride) stride c) in
       let a : at + width + 3 ≡ at + 3 + width = omega arith in
-      let b : number + apart + step ≡ number + step + apart = omega arith in
-      ap (λ (q : List Float). lanes (suc c) k q (at + width) (number + apart)) (run-first l at g number step c)
+      let b : number + apart + stride ≡ number + stride + apart = omega arith in
+      ap (λ (q : List Float). lanes (suc c) k q (at + width) (number + apart)) (run-first l at g number stride c)
       ∙ lanes-first c k (sets p (at + 3) rest) (at + width) (number + apart) h
       ∙ rw (heads-sets k p (at + width) (number + apart) (at + 3) rest w, a, b)
 
   lanes-turn : (left k : ℕ) (l : List Float) (at number : ℕ) → 0 < left → 3 * left ≤ width →
-      lanes left k l at number ≡ lanes (left - 1) k (heads k l at number) (at + 3) (number + step)
+      lanes left k l at number ≡ lanes (left - 1) k (heads k l at number) (at + 3) (number + stride)
   lanes-turn zero k l at number h w = absurd (omega arith)
   lanes-turn (suc c) k l at number h w = rw sub-one (lanes-first c k l at number w)
 
@@ -209,12 +210,12 @@ module _ (g : List Float) (apart step width : ℕ) where
 
   -- where the width is that of the runs, they follow each other
   pub lanes-runs : (count k : ℕ) (l : List Float) (at number : ℕ) → 3 * count ≡ width →
-      lanes count k l at number ≡ sets l at (coordinates (flatten (runs g number apart step count k)))
+      lanes count k l at number ≡ sets l at (coordinates (flatten (runs g number apart stride count k)))
   unfolding lanes
-  lanes-runs count zero l at number e = sym (runs-done l at g number apart step count 0 (omega arith))
+  lanes-runs count zero l at number e = sym (runs-done l at g number apart stride count 0 (omega arith))
   lanes-runs count (suc k) l at number e =
-      lanes-runs count k (sets l at (coordinates (run g number step count))) (at + width) (number + apart) e
-      ∙ sym (rw e at (runs-first l at g number apart step count k))
+      lanes-runs count k (sets l at (coordinates (run g number stride count))) (at + width) (number + apart) e
+      ∙ sym (rw e at (runs-first l at g number apart stride count k))
 
   -- a turn of `draw_four`
   pub four-turn : (left : ℕ) (l : List Float) (at number : ℕ) → 0 < left → 3 * left ≤ width →
@@ -223,7 +224,7 @@ module _ (g : List Float) (apart step width : ℕ) where
       b ≡ pointAt g (number + apart) → q ≡ sets p (at + width) (coordinates (b ∷ [])) →
       c ≡ pointAt g (number + apart + apart) → r ≡ sets q (at + width + width) (coordinates (c ∷ [])) →
       d ≡ pointAt g (number + apart + apart + apart) → s ≡ sets r (at + width + width + width) (coordinates (d ∷ [])) →
-      lanes left 4 l at number ≡ lanes (left - 1) 4 s (at + 3) (number + step)
+      lanes left 4 l at number ≡ lanes (left - 1) 4 s (at + 3) (number + stride)
   unfolding heads
   four-turn left l at number h w ea ep eb eq ec er ed es =
       lanes-turn left 4 l at number h w ∙ rw (es, er, eq, ep, ea, eb, ec, ed)

@@ -1,16 +1,12 @@
 -- Rules 9.1: the grid lines, the lists and counts that `grid_paths` leaves, and its refusals.
 use Prim.Native.Nat.{ℕ, zero, suc, _+_, _*_}
-use mathlib.Core.Bool.{Bool, _&&_}
 use mathlib.Core.List.{List, [], _∷_, _++_, map, flatten}
-use lib.Dec.{leb}
 use lib.ListN.{length}
 use lib.Ieee.{Float}
 use Rattle.float.specs.Consts.{zero64}
 use Rattle.refusal.specs.declared.Check.{Check}
-use Rattle.refusal.specs.declared.Check.the-variants.{Passed}
-use Rattle.refusal.specs.declared.Refusal.the-variants.{Room}
-use Rattle.refusal.specs.Refusals.{Answer, ok, refused, numberOf, unless}
-use Rattle.lent.specs.Lent.{filled, Afterwards, afterwards, ifPassed, Counts, counts}
+use Rattle.refusal.specs.Refusals.{Answer, ok, refused, numberOf}
+use Rattle.lent.specs.Lent.{roomCheck, filled, Afterwards, afterwards, ifPassed, Counts, counts}
 use Rattle.vector.specs.declared.Vector.{Vector}
 use Rattle.grid.specs.Grid.{pointNumber, pointAt, gridCheck}
 use Rattle.path.specs.declared.GridPathsAnswer.{GridPathsAnswer}
@@ -53,13 +49,11 @@ pointCount m n = 2 * ((m + 1) * (n + 1))
 abbrev pub lineCount : ℕ → ℕ → ℕ
 lineCount m n = m + n + 2
 
--- what refusal 3 asks for: room for three numbers of each point, and for each line's start
-abbrev pub roomFits : ℕ → ℕ → List Float → List ℕ → Bool
-roomFits m n points starts = leb (6 * ((m + 1) * (n + 1))) (length points) && leb (m + n + 2) (length starts)
-
--- refusals 1, 2, 3 and 4, in this order
+-- refusals 1, 2, 3 and 4, in this order. What 3 asks for: room for three numbers of each point, and for each line's
+-- start
 unfoldable pub pathsCheck : List Float → ℕ → ℕ → List Float → List ℕ → Check
-pathsCheck g m n points starts = gridCheck g m n (unless (roomFits m n points starts) Room Passed)
+pathsCheck g m n points starts =
+    gridCheck g m n (roomCheck (6 * ((m + 1) * (n + 1))) (length points) (m + n + 2) (length starts))
 
 -- the two lists that are lent for the lines
 pub record PathLists : Type 0 where

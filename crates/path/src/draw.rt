@@ -1,4 +1,4 @@
-// Rules 9.1: what `grid_paths` writes. A grid line is a run: points whose numbers are `step` apart. The lines of one
+// Rules 9.1: what `grid_paths` writes. A grid line is a run: points whose numbers are `stride` apart. The lines of one
 // kind are runs of `count` points each whose first numbers are `apart` apart, so that u and v share the loops.
 use vector::Vector;
 ghost use mathlib.Core.Path.{_≡_};
@@ -22,18 +22,18 @@ fn put(points: &mut [f64], at: usize, p: Vector)
 }
 
 // One run, into `points` from place `at` on.
-fn draw_run(grid: &[f64], first: usize, step: usize, count: usize, points: &mut [f64], at: usize)
-    requires { ⌜ (3 * (first + count * step) + 3 ≤ length (now grid) + 3 * step) × (step ≤ 256)
+fn draw_run(grid: &[f64], first: usize, stride: usize, count: usize, points: &mut [f64], at: usize)
+    requires { ⌜ (3 * (first + count * stride) + 3 ≤ length (now grid) + 3 * stride) × (stride ≤ 256)
         × (at + 3 * count ≤ length (now points)) ⌝ }
     ensures { λ _. ⌜ now (points .exit) ≡ sets (now (points .entry)) at
-        (coordinates (run (now (grid .entry)) first step count)) ⌝ }
+        (coordinates (run (now (grid .entry)) first stride count)) ⌝ }
 {
     let mut number = first;
     let mut place = at;
     let mut left = count;
     while 0 < left {
         put(points, place, grid::point_at(grid, number));
-        number += step;
+        number += stride;
         place += 3;
         left -= 1;
     }
@@ -44,15 +44,15 @@ fn draw_four(
     grid: &[f64],
     first: usize,
     apart: usize,
-    step: usize,
+    stride: usize,
     count: usize,
     points: &mut [f64],
     at: usize,
 )
-    requires { ⌜ (3 * (first + 3 * apart + count * step) + 3 ≤ length (now grid) + 3 * step)
-        × (step ≤ 256) × (apart ≤ 256) × (at + 4 * (3 * count) ≤ length (now points)) ⌝ }
+    requires { ⌜ (3 * (first + 3 * apart + count * stride) + 3 ≤ length (now grid) + 3 * stride)
+        × (stride ≤ 256) × (apart ≤ 256) × (at + 4 * (3 * count) ≤ length (now points)) ⌝ }
     ensures { λ _. ⌜ now (points .exit) ≡ sets (now (points .entry)) at
-        (coordinates (flatten (runs (now (grid .entry)) first apart step count 4))) ⌝ }
+        (coordinates (flatten (runs (now (grid .entry)) first apart stride count 4))) ⌝ }
 {
     let width = 3 * count;
     let mut number = first;
@@ -69,7 +69,7 @@ fn draw_four(
         put(points, place1, grid::point_at(grid, number1));
         put(points, place2, grid::point_at(grid, number2));
         put(points, place3, grid::point_at(grid, number3));
-        number += step;
+        number += stride;
         place += 3;
         left -= 1;
     }
@@ -80,45 +80,45 @@ fn draw_runs(
     grid: &[f64],
     lines: usize,
     apart: usize,
-    step: usize,
+    stride: usize,
     count: usize,
     points: &mut [f64],
     at: usize,
 )
-    requires { ⌜ (3 * (lines * apart + count * step) + 3 ≤ length (now grid) + 3 * step + 3 * apart)
-        × (step ≤ 256) × (apart ≤ 256) × (count ≤ 256) × (at + lines * (3 * count) ≤ length (now points)) ⌝ }
+    requires { ⌜ (3 * (lines * apart + count * stride) + 3 ≤ length (now grid) + 3 * stride + 3 * apart)
+        × (stride ≤ 256) × (apart ≤ 256) × (count ≤ 256) × (at + lines * (3 * count) ≤ length (now points)) ⌝ }
     ensures { λ _. ⌜ now (points .exit) ≡ sets (now (points .entry)) at
-        (coordinates (flatten (runs (now (grid .entry)) 0 apart step count lines))) ⌝ }
+        (coordinates (flatten (runs (now (grid .entry)) 0 apart stride count lines))) ⌝ }
 {
     let width = 3 * count;
     let mut first: usize = 0;
     let mut place = at;
     let mut left = lines;
     while 4 <= left {
-        draw_four(grid, first, apart, step, count, points, place);
+        draw_four(grid, first, apart, stride, count, points, place);
         first += 4 * apart;
         place += 4 * width;
         left -= 4;
     }
     while 0 < left {
-        draw_run(grid, first, step, count, points, place);
+        draw_run(grid, first, stride, count, points, place);
         first += apart;
         place += width;
         left -= 1;
     }
 }
 
-// Numbers `step` apart, `lines` of them from `first` on, into `starts` from place `at` on.
-fn put_spaced(starts: &mut [usize], at: usize, first: usize, step: usize, lines: usize)
-    requires { ⌜ (first + lines * step ≤ 1048576) × (at + lines ≤ length (now starts)) ⌝ }
-    ensures { λ _. ⌜ now (starts .exit) ≡ sets (now (starts .entry)) at (spaced first step lines) ⌝ }
+// Numbers `stride` apart, `lines` of them from `first` on, into `starts` from place `at` on.
+fn put_spaced(starts: &mut [usize], at: usize, first: usize, stride: usize, lines: usize)
+    requires { ⌜ (first + lines * stride ≤ 1048576) × (at + lines ≤ length (now starts)) ⌝ }
+    ensures { λ _. ⌜ now (starts .exit) ≡ sets (now (starts .entry)) at (spaced first stride lines) ⌝ }
 {
     let mut number = first;
     let mut place = at;
     let mut left = lines;
     while 0 < left {
         starts[place] = number;
-        number += step;
+        number += stride;
         place += 1;
         left -= 1;
     }

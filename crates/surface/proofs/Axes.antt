@@ -11,7 +11,7 @@ use Rattle.param.specs.declared.Axis.{Axis}
 use Rattle.param.specs.declared.Axis.the-variants.{AxisU, AxisV}
 use Rattle.surface.specs.Surface.{Seam, unjoined, forward, reverse, joined, reversed, inverse, Rule, once, twice}
 use Rattle.surface.specs.Surface.{Split, falling, rising, Shape, number, at, StepsAround, NoneOfTwo}
-use Rattle.surface.specs.Rims.{stepsOf as rows}
+use Rattle.surface.specs.Rims.{rimSteps as rows}
 use Rattle.surface.proofs.Covered.{AtZero, Beside, Covered, neither, only-u, only-v, both-u, both-v}
 use Rattle.surface.proofs.Steps.{Fits, Offset, inv-forward, inv-reverse}
 use Rattle.surface.proofs.Strip.{Strip, Kind, straight, across, diagonal}

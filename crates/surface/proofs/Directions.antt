@@ -8,15 +8,15 @@ use mathlib.Core.Bool.{Bool, true, false, not, false≢true, cond, Bool·not-not
 use native.Mathlib.Omega.{arith}
 use lib.Dec.{eqb}
 use borrow.Author.Tests.{eqb-true, eq-eqb}
+use Rattle.basics.proofs.Tests.{and-both, not-self}
 use Rattle.surface.specs.Surface.{reversed, Same}
-use Rattle.basics.proofs.Tests.{and-both}
 use Rattle.surface.proofs.Steps.{laidOn, on-below}
 use Rattle.surface.proofs.Strip.{Strip, ThreeAround, reversed-joined, Kind, straight, across, diagonal, nameFrom}
 use Rattle.surface.proofs.Strip.{nameTo, fromY, toX, toY, Valid, x-le, toX-le, fromY-le, toY-le, turned, colOf}
 use Rattle.surface.proofs.Strip.{stepAt, col-ne, next-ne}
 use Rattle.surface.proofs.CellSides.{Cell, sideFrom, sideTo, nameX, nameY, turnedAt, valid, named, far-col}
 use Rattle.surface.proofs.CellSides.{far-step}
-use Rattle.surface.proofs.Owners.{not-self, SideAt, side-flip, Holds, firstEnd, lastEnd, name-ends, compare}
+use Rattle.surface.proofs.Owners.{SideAt, side-flip, Holds, firstEnd, lastEnd, name-ends, compare}
 use Rattle.surface.proofs.Owners.{SameTri, Opposite}
 
 -- a to b is c to d, or d to c where w is false

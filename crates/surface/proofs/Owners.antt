@@ -3,8 +3,9 @@
 use Prim.Native.Nat.{ℕ}
 use mathlib.Core.Path.{_≡_, refl, sym, _∙_}
 use mathlib.Core.Logic.{_⊎_, inl, inr, ⊎-elim}
-use mathlib.Core.Bool.{Bool, true, false, not, true≢false, false≢true}
+use mathlib.Core.Bool.{Bool, not}
 use native.Mathlib.Omega.{arith}
+use Rattle.basics.proofs.Tests.{same-or-not, not-self}
 use Rattle.surface.specs.Surface.{Same}
 use Rattle.surface.proofs.Strip.{Strip, ThreeAround, Kind, straight, across, diagonal, one-name, Agree}
 use Rattle.surface.proofs.CellSides.{Cell, sideFrom, sideTo, nameX, nameY, firstOf, lastOf, RimAt, valid, named}
@@ -23,16 +24,6 @@ same-trans (inl p) (inl q) = inl (p .0 ∙ q .0, p .1 ∙ q .1)
 same-trans (inl p) (inr q) = inr (p .0 ∙ q .0, p .1 ∙ q .1)
 same-trans (inr p) (inl q) = inr (p .0 ∙ q .1, p .1 ∙ q .0)
 same-trans (inr p) (inr q) = inl (p .0 ∙ q .1, p .1 ∙ q .0)
-
-same-or-not : (t s : Bool) → (s ≡ t) ⊎ (s ≡ not t)
-same-or-not true true = inl refl
-same-or-not true false = inr refl
-same-or-not false true = inr refl
-same-or-not false false = inl refl
-
-pub not-self : (t : Bool) → not t ≡ t → ⊥
-not-self true e = false≢true e
-not-self false e = true≢false e
 
 kind-cases : (k : Kind) → (k ≡ diagonal) ⊎ (k ≡ diagonal → ⊥)
 kind-cases straight = inr (λ e. let z : _≡_ {A = ℕ} 0 1 = cc in omega arith)

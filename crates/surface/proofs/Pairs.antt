@@ -58,6 +58,13 @@ step-on o c n y h f k = let r = reverse-step o c n y f k in lower c n _ _ _ h (r
 pub pair-eq : (p q : Pair) → p .low ≡ q .low → p .high ≡ q .high → p ≡ q
 pair-eq p q e f = ap (λ (z : ℕ). pair z (p .high)) e ∙ ap (pair (q .low)) f
 
+-- two numbers in order
+pub ordered-up : (a b : ℕ) → a < b → pair a b ≡ ordered a b
+ordered-up a b h = pair-eq (pair a b) (ordered a b) (omega arith) (omega arith)
+
+pub ordered-down : (a b : ℕ) → b ≤ a → pair b a ≡ ordered a b
+ordered-down a b h = pair-eq (pair b a) (ordered a b) (omega arith) (omega arith)
+
 picks : (a b c d : Bool) (x y z : List Pair) →
     (cond a x (cond b y (cond c x (cond d y z))) ≡ x)
     ⊎ ((cond a x (cond b y (cond c x (cond d y z))) ≡ y)
@@ -233,7 +240,7 @@ insert-length p (r ∷ rs) =
     (λ w. omega (arith, ap length (w .0)))
 
 -- a run puts down one pair for each step at most
-process-at-most : (s : Shape) (m : Seam) (steps : ℕ) (low high : ℕ → ℕ) (n : ℕ) (ps : List Pair) →
+pub process-at-most : (s : Shape) (m : Seam) (steps : ℕ) (low high : ℕ → ℕ) (n : ℕ) (ps : List Pair) →
     length (process s m steps low high n ps) ≤ length ps + n
 process-at-most s m steps low high n ps =
     process-keeps s m steps low high (λ (k : ℕ) (qs : List Pair). length qs ≤ length ps + k) n ps (omega arith)

@@ -15,7 +15,7 @@ use Rattle.param.specs.declared.Axis.{Axis}
 use Rattle.param.specs.declared.Axis.the-variants.{AxisU, AxisV}
 use Rattle.surface.specs.Surface.{Seam, joined, inverse, Point, at, Rule, once, twice, Shape, uRule, vRule}
 use Rattle.surface.specs.Surface.{number, joinedBy, J, cornerBy, corner}
-use Rattle.surface.specs.Rims.{stepsOf as rows}
+use Rattle.surface.specs.Rims.{rimSteps as rows}
 use Rattle.surface.proofs.Steps.{wrap, wrap-open, wrap-closed, wrap-below, wrap-wrap, carried, carried-wrap}
 use Rattle.surface.proofs.Steps.{inv-forward-0}
 use Rattle.surface.proofs.Strip.{Strip, colOf, rowOf, pointOf, row-below, col-below}

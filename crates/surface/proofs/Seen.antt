@@ -10,7 +10,7 @@ use Rattle.param.specs.declared.Axis.{Axis}
 use Rattle.param.specs.declared.Axis.the-variants.{AxisU, AxisV}
 use Rattle.surface.specs.Surface.{Seam, unjoined, joined, reversed, Split, falling, rising, Shape, J, halfOf}
 use Rattle.surface.specs.Surface.{Follows, Rim, GridEdge, along-u, along-v, falls, rises, process, flipped}
-use Rattle.surface.specs.Rims.{stepsOf as rows, lowOf, highOf}
+use Rattle.surface.specs.Rims.{rimSteps as rows, lowOf, highOf}
 use Rattle.surface.proofs.Strip.{Strip, Kind, straight, across, diagonal, pointOf}
 use Rattle.surface.proofs.CellSides.{Cell, corners, endsOf, sideFrom, sideTo}
 use Rattle.surface.proofs.Owners.{OnRim}

@@ -5,6 +5,7 @@ use mathlib.Core.Path.{_≡_, refl, sym, _∙_}
 use mathlib.Core.Logic.{⊎-elim}
 use mathlib.Core.Bool.{Bool, true, false, cond}
 use mathlib.Core.List.{[], _∷_, _++_}
+use native.Mathlib.Numerals.{add-one}
 use native.Mathlib.Omega.{arith}
 use native.Mathlib.Nat.{mod-lt, div-add-mod', div-lt-iff-lt-mul, eq-or-lt-of-le}
 use lib.Dec.{eqb}
@@ -34,6 +35,20 @@ pub kept-at-most : (s : Shape) (n : ℕ) → length (kept s n) ≤ n
 unfolding kept
 kept-at-most s zero = omega arith
 kept-at-most s (suc n) = omega (arith, kept-more s n, one-at-most (proper (slot s n)), kept-at-most s n)
+
+-- numbers of triangles, as counts of the slots before
+pub number-most : (s : Shape) (k : ℕ) → triangleNumber s k ≤ k
+unfolding triangleNumber
+number-most s k = kept-at-most s k
+
+pub number-more : (s : Shape) (k : ℕ) → triangleNumber s (k + 1) ≡ triangleNumber s k + cond (proper (slot s k)) 1 0
+unfolding triangleNumber
+number-more s k = rw add-one (kept-more s k)
+
+-- the number of a triangle from the count after it
+pub number-before : (s : Shape) (k x : ℕ) → x ≡ triangleNumber s (k + 1) → proper (slot s k) ≡ true →
+    x ≡ triangleNumber s k + 1
+number-before s k x e p = e ∙ number-more s k ∙ rw p
 
 pub triangles-at-most : (s : Shape) → length (triangles s) ≤ 2 * (s .M * s .N)
 unfolding triangles slots

@@ -6,9 +6,9 @@ use Rattle.param.specs.declared.Axis.the-variants.{AxisU, AxisV}
 use Rattle.surface.specs.Surface.{Shape, lowU, highU, lowV, highV}
 
 -- the steps along the rims
-abbrev pub stepsOf : Axis → Shape → ℕ
-stepsOf AxisU s = s .N
-stepsOf AxisV s = s .M
+abbrev pub rimSteps : Axis → Shape → ℕ
+rimSteps AxisU s = s .N
+rimSteps AxisV s = s .M
 
 -- the slot at each step of the low rim, and of the high rim
 abbrev pub lowOf : Axis → Shape → ℕ → ℕ

@@ -1,6 +1,6 @@
 -- Laws of samples: the first sample of a swirl and the last of a spiral are +0 away from the centre, and so at the
 -- centre bit for bit. The radius is finite and above 0, since it lies between that of 1 step and that of 255; a finite
--- value times 0 is a zero, and a value that is k / 2 stays when a zero is added (Zeros.antt).
+-- value times 0 is a zero, and a value that is k / 2 stays when a zero is added (`float`, Zeros.antt).
 use mathlib.Core.Path.{_≡_, refl, sym, _∙_}
 use mathlib.Core.Bool.{Bool, true, false}
 use Prim.Native.Nat.{ℕ, _*_, _^_, _≤_, _<_}
@@ -8,18 +8,20 @@ use native.Mathlib.Nat.{le-refl, le-trans, mul-one, mul-assoc, mul-lt-mul-of-pos
 use native.Mathlib.Omega.{arith}
 use lib.IntN.{pos}
 use lib.Dec.{T, lit≤, lit<}
-use lib.Ieee.{Float, nan, inf, fin, binary64, lt, le, round, add, mul, ofInt, ofBits}
+use lib.Ieee.{Float, fin, binary64, le, round, add, mul, ofInt, ofBits}
 use lib.Pow.{pow-pos}
 use lib.Ieee.Exact.{HasValue, round-exact}
-use lib.Ieee.Positive.{num, den, positive, positive-of-value, cross→le, between, mul-at, mul-mono}
+use lib.Ieee.Positive.{num, den, positive, cross→le, between, mul-at, mul-mono}
 use borrow.Author.Tests.{le-leb}
 use Rattle.float.specs.Consts.{zero64, one64, sqrt2, half64}
 use Rattle.float.specs.Sign.{isFinite, negative, atMost}
 use Rattle.float.specs.Order.{larger}
 use Rattle.float.specs.Cast.{natFloat}
-use Rattle.basics.proofs.Tests.{cond-keeps, and-both}
-use Rattle.float.proofs.Bounds.{nat-value, nat-le, at-most-finite}
+use Rattle.basics.proofs.Tests.{and-both}
+use Rattle.float.proofs.Larger.{larger-keeps}
+use Rattle.float.proofs.Bounds.{nat-value, nat-positive, nat-zero, nat-le, at-most-finite}
 use Rattle.float.proofs.Differences.{sub-self}
+use Rattle.float.proofs.Zeros.{zero-is, times-zero, positive-times-zero, zero-over, over-self, plus-zero}
 use Rattle.refusal.specs.declared.Check.the-variants.{Passed}
 use Rattle.refusal.specs.declared.Refusal.the-variants.{Direction, NotThere}
 use Rattle.refusal.specs.Refusals.{ok, unless}
@@ -33,12 +35,8 @@ use Rattle.texture.specs.Plan.{centre, textureRadius, planCheck, Plan, p
 use Rattle.texture.specs.Sample.{distanceOf, directionFits, pointOf, isThere, samplePoint}
 use Rattle.texture.proofs.Plans.{checks, plan-passed, plan-ok}
 use Rattle.texture.proofs.Laws.{swirl-counts, spiral-counts}
-use Rattle.texture.proofs.Zeros.{times-zero, positive-times-zero, zero-over, over-self, plus-zero}
 
 -- ---- counts, the centre, and the radius, of 1 to 255 steps
-nat-positive : (n : ℕ) → 1 ≤ n → n ≤ 2 ^ 53 → T (positive (natFloat n))
-nat-positive n h k = positive-of-value (natFloat n) n 1 (nat-value n k) h
-
 small : (n : ℕ) → n ≤ 255 → n ≤ 2 ^ 53
 small n h = le-trans h (lit≤ tt)
 
@@ -67,13 +65,6 @@ nat-inside k lo hi = (
   rw (nat-le 1 k (lit≤ tt) (small k hi), le-leb 1 k lo) tt,
   rw (nat-le k 255 (small k hi) (lit≤ tt), le-leb k 255 hi) tt,
 )
-
--- what holds of both holds of the larger
-larger-keeps : (P : Float → Type 0) (x y : Float) → P x → P y → P (larger x y)
-unfolding larger
-larger-keeps P nan y p q = q
-larger-keeps P (inf s) y p q = cond-keeps P (lt (inf s) y) y (inf s) q p
-larger-keeps P (fin s m e) y p q = cond-keeps P (lt (fin s m e) y) y (fin s m e) q p
 
 -- a product grows with a factor
 grows : (lo x hi c : Float) → T (positive lo) → T (positive hi) → T (positive c) → Inside lo x hi →
@@ -105,12 +96,6 @@ radius-positive m n s =
     (unfold natFloat ofInt mul sqrt2 ofBits in tt) (unfold natFloat ofInt mul sqrt2 ofBits in tt) (radii .0) (radii .1)
 
 -- ---- distances
-zero-is : fin false 0 (pos 0) ≡ zero64
-zero-is = unfold ofBits in refl
-
-nat-zero : natFloat 0 ≡ fin false 0 (pos 0)
-nat-zero = unfold natFloat ofInt in refl
-
 module _ (s : Float) (m n c : ℕ) (k : Stepped m n) (lo : 1 ≤ c) (hi : c ≤ 2 ^ 53) where
   -- of the first of c samples of a swirl's ray
   pub swirl-first : (w : Float) → distanceOf (Swirl s w) m n c 0 ≡ zero64

@@ -2,66 +2,27 @@
 -- arms, Grid none. A count is the cut of a larger of two, so it is at least the second, and the tests bound it from
 -- above.
 use mathlib.Core.Path.{_≡_, refl, sym}
-use mathlib.Core.Bool.{Bool, true, false, cond}
-use Prim.Native.Nat.{ℕ, zero, suc, _*_, _/_, _^_, _≤_, min, max}
-use native.Mathlib.Nat.{le-trans, le-refl, le-antisymm}
+use mathlib.Core.Bool.{true}
+use Prim.Native.Nat.{ℕ, _≤_, max}
+use native.Mathlib.Nat.{le-antisymm}
 use native.Mathlib.Omega.{arith}
-use lib.IntN.{pos, negℤ}
 use lib.Dec.{lit≤}
-use lib.Ieee.{Float, nan, inf, fin, up, down, lt, le, ofInt, ofBits, isNan, toUnsigned}
+use lib.Ieee.{Float, le, ofInt, ofBits, isNan, toUnsigned}
 use borrow.Author.Tests.{leb-true, le-leb}
 use Rattle.basics.proofs.Tests.{and-both}
-use Rattle.float.specs.Consts.{zero64, one64}
-use Rattle.float.specs.Order.{larger}
-use Rattle.float.specs.Whole.{over, floorZ}
-use Rattle.float.specs.Cast.{natFloat, count}
-use Rattle.float.proofs.Less.{le-of-not-lt, le-reflexive, le-transitive}
-use Rattle.float.proofs.Bounds.{nat-not-nan, nat-nonneg, nat-le, floor-at-least}
-use Rattle.float.proofs.Range.{counted}
+use Rattle.float.specs.Consts.{one64}
+use Rattle.float.specs.Cast.{natFloat}
+use Rattle.float.proofs.Less.{le-reflexive}
+use Rattle.float.proofs.Larger.{larger-least}
+use Rattle.float.proofs.Bounds.{nat-not-nan, nat-one, nat-le}
+use Rattle.float.proofs.Range.{cut-between}
 use Rattle.refusal.specs.declared.Check.the-variants.{Passed}
 use Rattle.refusal.specs.Refusals.{ok}
 use Rattle.texture.specs.declared.plan.ParametricSurfaceTexture.{ParametricSurfaceTexture}
 use Rattle.texture.specs.declared.plan.ParametricSurfaceTexture.the-variants.{Grid, Swirl, Spiral}
-use Rattle.texture.specs.Plan.{two, swirlRays, radialSampleCount, spiralSampleCount, stepsAlong, raysOf}
+use Rattle.texture.specs.Plan.{two, swirlRays, radialSampleCount, spiralSampleCount, samplesAlong, raysOf}
 use Rattle.texture.specs.Plan.{samplesPerRay, textureFits, maxCount, Plan, planOf, plan}
 use Rattle.texture.proofs.Plans.{checks, plan-passed}
-
--- ---- the larger of two is at least the second
-at-least : (x y : Float) → isNan x ≡ false → isNan y ≡ false → (t : Bool) → lt x y ≡ t → le y (cond t y x) ≡ true
-at-least x y m n true h = le-reflexive y n
-at-least x y m n false h = le-of-not-lt y x n m h
-
-larger-least : (x y : Float) → isNan y ≡ false → le y (larger x y) ≡ true
-unfolding larger
-larger-least nan y n = le-reflexive y n
-larger-least (inf s) y n = at-least (inf s) y (unfold isNan in refl) n (lt (inf s) y) refl
-larger-least (fin s m e) y n = at-least (fin s m e) y (unfold isNan in refl) n (lt (fin s m e) y) refl
-
--- ---- a value cut toward zero is no less than its floor
-floor-cut : (y : Float) → count (floorZ y) ≤ toUnsigned 64 y
-unfolding floorZ toUnsigned
-floor-cut nan = le-refl 0
-floor-cut (inf true) = le-refl 0
-floor-cut (inf false) = lit≤ tt
-floor-cut (fin true m e) = none (min (over (m * up e) (down e)) (2 ^ 63))
-  where
-    none : (k : ℕ) → count (negℤ (pos k)) ≤ 0
-    none zero = le-refl 0
-    none (suc k) = le-refl 0
-floor-cut (fin false m e) = wider (m * up e / down e)
-  where
-    wider : (q : ℕ) → min q 9223372036854775807 ≤ min q 18446744073709551615
-    wider q = omega arith
-
--- a value from k to n, cut toward zero, is from k to n
-cut-between : (x : Float) (k n : ℕ) → k ≤ 2 ^ 53 → n ≤ 2 ^ 53 → le (natFloat k) x ≡ true → le x (natFloat n) ≡ true →
-    (k ≤ toUnsigned 64 x) × (toUnsigned 64 x ≤ n)
-cut-between x k n hk hn lo hi =
-    let from-zero =
-    le-of-not-lt zero64 (natFloat k) (unfold isNan ofBits in refl) (nat-not-nan k hk) (nat-nonneg k) in (
-      le-trans (floor-at-least x k lo hk) (floor-cut x),
-      counted x n hn (le-transitive zero64 (natFloat k) x from-zero lo) hi .1,
-    )
 
 -- ---- what a plan passed
 passes : (t : ParametricSurfaceTexture) (m n : ℕ) {p : Plan} → plan t m n ≡ ok p
@@ -74,7 +35,7 @@ passes t m n e =
     (a .1, c .0, c .1, k .1)
 
 -- ---- the counts
-pub record Counts (p : Plan) : Type 0 where
+pub record CountsFit (p : Plan) : Type 0 where
   pub rays-least : 1 ≤ p .rays
   pub rays-most : p .rays ≤ 65536
   pub samples-least : 2 ≤ p .samples
@@ -82,7 +43,7 @@ pub record Counts (p : Plan) : Type 0 where
 
 -- of rays and samples that are floats
 counts-of : (t : ParametricSurfaceTexture) (m n : ℕ) {p : Plan} → plan t m n ≡ ok p → le one64 (raysOf m n t) ≡ true →
-    le two (samplesPerRay m n t) ≡ true → Counts p
+    le two (samplesPerRay m n t) ≡ true → CountsFit p
 counts-of t m n e r s =
     let k = passes t m n e in
     let rays =
@@ -98,8 +59,8 @@ counts-of t m n e r s =
       samples-most = samples .1;
     })
 
-pub swirl-counts : (s w : Float) (m n : ℕ) {p : Plan} → plan (Swirl s w) m n ≡ ok p → Counts p
-unfolding swirlRays radialSampleCount stepsAlong
+pub swirl-counts : (s w : Float) (m n : ℕ) {p : Plan} → plan (Swirl s w) m n ≡ ok p → CountsFit p
+unfolding swirlRays radialSampleCount samplesAlong
 swirl-counts s w m n e =
     counts-of (Swirl s w) m n e (larger-least _ one64 (unfold isNan ofBits in refl))
     (larger-least _ two (unfold isNan ofBits in refl))
@@ -116,15 +77,12 @@ spiral-rays s a m n e =
     let c = cut-between (natFloat (max a 1)) (max a 1) (max a 1) (b .1) (b .1) same same in
     rw (k .3) (le-antisymm (c .1) (c .0))
 
-one-is : natFloat 1 ≡ one64
-one-is = unfold natFloat ofInt ofBits in refl
-
-pub spiral-counts : (s : Float) (a m n : ℕ) {p : Plan} → plan (Spiral s a) m n ≡ ok p → Counts p
-unfolding spiralSampleCount stepsAlong
+pub spiral-counts : (s : Float) (a m n : ℕ) {p : Plan} → plan (Spiral s a) m n ≡ ok p → CountsFit p
+unfolding spiralSampleCount samplesAlong
 spiral-counts s a m n e =
     let b = arms-fit a (leb-true a 64 (passes (Spiral s a) m n e .0)) in
     let one : le one64 (natFloat (max a 1)) ≡ true =
-    rw (← one-is, nat-le 1 (max a 1) (lit≤ tt) (b .1)) (le-leb 1 (max a 1) (b .0)) in
+    rw (← nat-one, nat-le 1 (max a 1) (lit≤ tt) (b .1)) (le-leb 1 (max a 1) (b .0)) in
     counts-of (Spiral s a) m n e one (larger-least _ two (unfold isNan ofBits in refl))
 
 pub grid-counts : (m n : ℕ) {p : Plan} → plan Grid m n ≡ ok p → (p .rays ≡ 0) × (p .samples ≡ 0)

@@ -2,5 +2,4 @@
 pub mod Plans
 pub mod Samples
 pub mod Laws
-pub mod Zeros
 pub mod Distances

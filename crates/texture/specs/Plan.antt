@@ -46,9 +46,9 @@ textureSpacing x = cond (isFinite x && lt eps x) x one64
 abbrev pub upFrom : Float → Float → Float
 upFrom least x = larger (ceiled x) least
 
--- steps of at most `spacing`, brought between 0.05 and 0.5, along a length; at least 2
-unfoldable pub stepsAlong : Float → Float → Float
-stepsAlong length spacing = upFrom two (div binary64 length (clamped spacing twentieth half64))
+-- samples at most `spacing`, brought between 0.05 and 0.5, apart from each other along a length; at least 2
+unfoldable pub samplesAlong : Float → Float → Float
+samplesAlong length spacing = upFrom two (div binary64 length (clamped spacing twentieth half64))
 
 -- ---- `paths_swirl`
 
@@ -59,7 +59,7 @@ swirlRays m n spacing = upFrom one64 (div binary64 (mul binary64 tau (textureRad
 -- along the radius and, times it, the angle that the twist turns a ray by
 unfoldable pub radialSampleCount : ℕ → ℕ → Float → Float → Float
 radialSampleCount m n spacing twist =
-    stepsAlong (mul binary64 (textureRadius m n) (add binary64 one64 (absolute (mul binary64 tau twist)))) spacing
+    samplesAlong (mul binary64 (textureRadius m n) (add binary64 one64 (absolute (mul binary64 tau twist)))) spacing
 
 -- ---- `paths_spiral`
 
@@ -70,7 +70,7 @@ spiralTurns m n spacing = upFrom one64 (div binary64 (textureRadius m n) spacing
 -- along the radius and all turns, at half of it on average
 unfoldable pub spiralSampleCount : ℕ → ℕ → Float → Float
 spiralSampleCount m n spacing =
-    stepsAlong
+    samplesAlong
     (add binary64 (textureRadius m n)
     (mul binary64 (mul binary64 (mul binary64 (textureRadius m n) tau) (spiralTurns m n spacing)) half64))
     spacing

@@ -14,7 +14,7 @@ use grid::steps_fit;
 use refusal::Refusal;
 ghost use Prim.Native.Nat.{max};
 ghost use mathlib.Core.Path.{_≡_};
-ghost use Rattle.texture.specs.Plan.{textureRadius, textureSpacing, upFrom, stepsAlong, swirlRays};
+ghost use Rattle.texture.specs.Plan.{textureRadius, textureSpacing, upFrom, samplesAlong, swirlRays};
 ghost use Rattle.texture.specs.Plan.{radialSampleCount, spiralTurns, spiralSampleCount, raysOf, samplesPerRay};
 ghost use Rattle.texture.specs.Plan.{textureFits, plan, statedPlan};
 
@@ -64,9 +64,9 @@ fn up_from(least: f64, x: f64) -> f64
     max(ceil(x), least)
 }
 
-// How many samples keep steps along a length within the spacing.
-fn steps_along(length: f64, spacing: f64) -> f64
-    ensures { λ r. ⌜ r ≡ stepsAlong length spacing ⌝ }
+// As many samples along a length as keep the spacing between neighbours, from 0.05 to 0.5; at least 2.
+fn samples_along(length: f64, spacing: f64) -> f64
+    ensures { λ r. ⌜ r ≡ samplesAlong length spacing ⌝ }
 {
     up_from(2.0, length / clamp(spacing, 0.05, 0.5))
 }
@@ -83,7 +83,7 @@ fn radial_sample_count(m: usize, n: usize, spacing: f64, twist: f64) -> f64
     ensures { λ r. ⌜ r ≡ radialSampleCount m n spacing twist ⌝ }
 {
     let turned = abs(TAU * twist);
-    steps_along(texture_radius(m, n) * (1.0 + turned), spacing)
+    samples_along(texture_radius(m, n) * (1.0 + turned), spacing)
 }
 
 // As many turns as keep the spacing between them; at least 1.
@@ -99,7 +99,7 @@ fn spiral_sample_count(m: usize, n: usize, spacing: f64) -> f64
 {
     let radius = texture_radius(m, n);
     let turns = spiral_turns(m, n, spacing);
-    steps_along(radius + radius * TAU * turns * 0.5, spacing)
+    samples_along(radius + radius * TAU * turns * 0.5, spacing)
 }
 
 // No arms become one.

@@ -9,10 +9,6 @@ use Rattle.float.proofs.whole.floor_i64.Tie as tie
 abbrev started : tie.After-nearest-i64-to-f64 → tie.Start
 started e = e .before .before .before .before
 
-truncating-f64-to-i64-requires : tie.Need-truncating-f64-to-i64-requires
-unfolding ofBits neg
-truncating-f64-to-i64-requires c κs = (rw (c .before .if1 .taken) tt, rw (c .if2 .taken) tt)
-
 cut : (c : tie.After-nearest-i64-to-f64) →
     Cut (started c .args .x) (kept (c .before .truncating-f64-to-i64 .result)) (c .nearest-i64-to-f64 .result)
 unfolding ofBits neg
@@ -22,28 +18,16 @@ cut c =
     cut-of (s .args .x) (s .good .0 .1) (t .before .if1 .taken) (t .if2 .taken)
     (c .before .truncating-f64-to-i64 .ensures) (c .nearest-i64-to-f64 .ensures)
 
-sub-result : tie.Need-sub-result
-sub-result c = cut (c .before) .below (c .if3 .taken) .0
-
-returns : tie.Need-returns
-returns c = kept-is (cut (c .before) .below (c .if3 .taken))
-
-returns-2 : tie.Need-returns-2
-returns-2 c = cut (c .before) .floor-is (c .if3 .left)
-
-returns-3 : tie.Need-returns-3
-unfolding ofBits neg
-returns-3 c = high-end (c .before .before .args .x) (c .before .if1 .taken) (c .if2 .left) .0
-
-returns-4 : tie.Need-returns-4
-returns-4 c = nan-end (c .before .before .args .x) (c .if4 .taken) .0
-
-returns-5 : tie.Need-returns-5
-unfolding ofBits neg
-returns-5 c = low-end (c .before .before .args .x) (c .before .if1 .left) (c .if4 .left) .0
-
 pub floor-i64-spec : {M : Type 1} → statement M
+unfolding ofBits neg
 floor-i64-spec =
     tie.close
-    (tie.spec truncating-f64-to-i64-requires (λ c κs. search needs)
-    sub-result returns returns-2 returns-3 returns-4 returns-5)
+    (tie.spec
+    (λ c κs. (rw (c .before .if1 .taken) tt, rw (c .if2 .taken) tt))
+    (λ c κs. search needs)
+    (λ c. cut (c .before) .below (c .if3 .taken) .0)
+    (λ c. kept-is (cut (c .before) .below (c .if3 .taken)))
+    (λ c. cut (c .before) .floor-is (c .if3 .left))
+    (λ c. high-end _ (c .before .if1 .taken) (c .if2 .left) .0)
+    (λ c. nan-end _ (c .if4 .taken) .0)
+    (λ c. low-end _ (c .before .if1 .left) (c .if4 .left) .0))

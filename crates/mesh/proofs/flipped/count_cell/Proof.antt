@@ -1,9 +1,10 @@
 -- `mesh::flipped::count_cell` meets its contract: one more for each of the two triangles that is kept.
 use Prim.Native.Nat.{_+_, _*_, _≤_}
 use native.Mathlib.Omega.{arith}
+use Rattle.surface.proofs.Triangles.{number-most}
 use Rattle.mesh.specs.Corners.{shapeOf}
 use Rattle.mesh.proofs.Cells.{cell-below}
-use Rattle.mesh.proofs.Numbers.{number-most, one-more-most, cells-most, cell-counted}
+use Rattle.mesh.proofs.Numbers.{one-more-most, cells-most, cell-counted}
 use borrow.Author.Needs.{needs}
 use Rattle.mesh.proofs.flipped.count_cell.Statement.{statement}
 use Rattle.mesh.proofs.flipped.count_cell.Tie as tie

@@ -11,11 +11,13 @@ use borrow.Author.Tests.{not-true, not-false}
 use Rattle.basics.proofs.Tests.{and-both}
 use Rattle.surface.specs.Surface.{Shape, Pair, insert, ordered, triangleNumber, stepOn}
 use Rattle.surface.specs.Found.{ofMapping}
-use Rattle.surface.specs.Rims.{stepsOf, lowOf, highOf}
+use Rattle.surface.specs.Rims.{rimSteps, lowOf, highOf}
+use Rattle.surface.proofs.Triangles.{number-before}
+use Rattle.surface.proofs.Pairs.{ordered-up, ordered-down}
 use Rattle.mesh.specs.Corners.{shapeOf}
 use Rattle.mesh.specs.Held.{pairsIn}
 use Rattle.mesh.specs.Rims.{flipStep}
-use Rattle.mesh.proofs.Flips.{steps-most, number-before, ordered-up, ordered-down, no-step, step-pair}
+use Rattle.mesh.proofs.Flips.{steps-most, no-step, step-pair}
 use Rattle.mesh.proofs.flipped.flip_step.Statement.{statement}
 use Rattle.mesh.proofs.flipped.flip_step.Tie as tie
 
@@ -55,12 +57,12 @@ pairs-after t = flipStep (t .args .axis) (shape t) (ofMapping (t .args .mapping)
 on-is : (e : tie.After-step-on) →
     let t = called (e .before) in
     let a = t .args in
-    e .step-on .result ≡ stepOn (ofMapping (a .mapping)) (stepsOf (a .axis) (shape t)) (a .i)
+    e .step-on .result ≡ stepOn (ofMapping (a .mapping)) (rimSteps (a .axis) (shape t)) (a .i)
 on-is e = rw (← e .before .rim-steps .ensures) (e .step-on .ensures)
 
 on-there : (e : tie.Else1) →
     let t = called (e .before .before) in
-    e .before .step-on .result < stepsOf (t .args .axis) (shape t)
+    e .before .step-on .result < rimSteps (t .args .axis) (shape t)
 on-there e = omega arith
 
 step-on-requires : tie.Need-step-on-requires

@@ -5,7 +5,7 @@ use native.Mathlib.Omega.{arith}
 use lib.ListN.{length}
 use borrow.Author.Needs.{needs}
 use Rattle.surface.specs.Found.{ofMapping}
-use Rattle.surface.specs.Rims.{stepsOf}
+use Rattle.surface.specs.Rims.{rimSteps}
 use Rattle.mesh.specs.Corners.{shapeOf}
 use Rattle.mesh.specs.Held.{pairsIn, pairAt}
 use Rattle.mesh.specs.Rims.{flipSteps}
@@ -76,7 +76,7 @@ returns : tie.Need-returns Inv-loop μ-loop
 returns c =
     let w = c .before .loop in
     let a = started (c .before .before) .args in
-    let e : w .i ≡ stepsOf (a .axis) (shapeOf (a .surface)) = omega arith in
+    let e : w .i ≡ rimSteps (a .axis) (shapeOf (a .surface)) = omega arith in
     rw e at (w .inv .1)
 
 pub process-flipped-spec : {M : Type 1} → statement M

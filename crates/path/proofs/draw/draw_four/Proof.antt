@@ -9,14 +9,14 @@ use Rattle.path.proofs.draw.draw_four.Statement.{statement}
 use Rattle.path.proofs.draw.draw_four.Tie as tie
 
 abbrev Inv-loop : tie.InvT-loop
-Inv-loop grid first apart step count points₀ at width number₀ place₀ left₀ points number place left =
-    (length points ≡ length points₀) × (number + left * step ≡ first + count * step)
+Inv-loop grid first apart stride count points₀ at width number₀ place₀ left₀ points number place left =
+    (length points ≡ length points₀) × (number + left * stride ≡ first + count * stride)
     × (place + 3 * left ≡ at + 3 * count) × (left ≤ count)
-    × (lanes grid apart step (3 * count) count 4 points₀ at first
-    ≡ lanes grid apart step (3 * count) left 4 points place number)
+    × (lanes grid apart stride (3 * count) count 4 points₀ at first
+    ≡ lanes grid apart stride (3 * count) left 4 points place number)
 
 abbrev μ-loop : tie.MeasureT-loop
-μ-loop grid first apart step count points₀ at width number₀ place₀ left₀ points number place left = left
+μ-loop grid first apart stride count points₀ at width number₀ place₀ left₀ points number place left = left
 
 -- places: the start; the turn of the loop, from where its first point is put; and where a point is put, from where the
 -- next one is
@@ -52,7 +52,7 @@ loop-holds : tie.Need-loop-holds Inv-loop μ-loop
 loop-holds c = (refl, refl, refl, omega arith, refl)
 
 -- in a turn of the loop
-less : (t : tie.In-loop Inv-loop μ-loop) → Fewer 1 (t .before .loop .left) (started (t .before) .args .step)
+less : (t : tie.In-loop Inv-loop μ-loop) → Fewer 1 (t .before .loop .left) (started (t .before) .args .stride)
 less t = fewer 1 _ _ (t .loop-test .taken)
 
 loop-again : tie.Need-loop-again Inv-loop μ-loop
@@ -64,12 +64,12 @@ loop-again c =
     let t = looped u1 in
     let l = t .before .loop in
     let a = started (t .before) .args in
-    let step = less t in (
+    let fewer = less t in (
       omega (arith, u1, u2, u3),
       omega (arith, t),
       omega (arith, t),
       omega (arith, t),
-      l .inv .4 ∙ four-turn (a .grid .now) (a .apart) (a .step) (3 * a .count) (l .left) (l .points) (l .place)
+      l .inv .4 ∙ four-turn (a .grid .now) (a .apart) (a .stride) (3 * a .count) (l .left) (l .points) (l .place)
           (l .number) (t .loop-test .taken) (omega (arith, t))
           (u1 .before .point-at .ensures) (u1 .put .ensures) (u2 .before .point-at2 .ensures) (u2 .put2 .ensures)
           (u3 .before .point-at3 .ensures) (u3 .put3 .ensures) (u4 .before .point-at4 .ensures) (u4 .put4 .ensures),
@@ -80,9 +80,9 @@ returns c =
     let l = c .before .loop in
     let a = started (c .before) .args in
     sym (sym
-    (lanes-runs (a .grid .now) (a .apart) (a .step) (3 * a .count) (a .count) 4 (a .points .now) (a .at)
+    (lanes-runs (a .grid .now) (a .apart) (a .stride) (3 * a .count) (a .count) 4 (a .points .now) (a .at)
     (a .first) refl)
-    ∙ l .inv .4 ∙ lanes-done (a .grid .now) (a .apart) (a .step) (3 * a .count) (l .left) 4 (l .points) (l .place)
+    ∙ l .inv .4 ∙ lanes-done (a .grid .now) (a .apart) (a .stride) (3 * a .count) (l .left) 4 (l .points) (l .place)
     (l .number) (c .loop-test .left))
 
 pub draw-four-spec : {M : Type 1} → statement M

@@ -11,14 +11,14 @@ use Rattle.path.proofs.draw.draw_run.Statement.{statement}
 use Rattle.path.proofs.draw.draw_run.Tie as tie
 
 abbrev Inv-loop : tie.InvT-loop
-Inv-loop grid first step count points₀ at number₀ place₀ left₀ points number place left =
-    (length points ≡ length points₀) × (number + left * step ≡ first + count * step)
+Inv-loop grid first stride count points₀ at number₀ place₀ left₀ points number place left =
+    (length points ≡ length points₀) × (number + left * stride ≡ first + count * stride)
     × (place + 3 * left ≡ at + 3 * count)
-    × (sets points₀ at (coordinates (run grid first step count))
-    ≡ sets points place (coordinates (run grid number step left)))
+    × (sets points₀ at (coordinates (run grid first stride count))
+    ≡ sets points place (coordinates (run grid number stride left)))
 
 abbrev μ-loop : tie.MeasureT-loop
-μ-loop grid first step count points₀ at number₀ place₀ left₀ points number place left = left
+μ-loop grid first stride count points₀ at number₀ place₀ left₀ points number place left = left
 
 -- places: the start, and the turn of the loop, from where its point is put
 abbrev started : tie.At-loop Inv-loop μ-loop → tie.Start Inv-loop μ-loop
@@ -31,7 +31,7 @@ loop-holds : tie.Need-loop-holds Inv-loop μ-loop
 loop-holds c = (refl, refl, refl, refl)
 
 -- in a turn of the loop
-less : (t : tie.In-loop Inv-loop μ-loop) → Fewer 1 (t .before .loop .left) (started (t .before) .args .step)
+less : (t : tie.In-loop Inv-loop μ-loop) → Fewer 1 (t .before .loop .left) (started (t .before) .args .stride)
 less t = fewer 1 _ _ (t .loop-test .taken)
 
 loop-again : tie.Need-loop-again Inv-loop μ-loop

@@ -12,24 +12,24 @@ use Rattle.path.proofs.draw.draw_runs.Statement.{statement}
 use Rattle.path.proofs.draw.draw_runs.Tie as tie
 
 abbrev Inv-loop : tie.InvT-loop
-Inv-loop grid lines apart step count points₀ at width first₀ place₀ left₀ points first place left =
+Inv-loop grid lines apart stride count points₀ at width first₀ place₀ left₀ points first place left =
     (length points ≡ length points₀) × (first + left * apart ≡ lines * apart)
     × (place + left * (3 * count) ≡ at + lines * (3 * count))
-    × (sets points₀ at (coordinates (flatten (runs grid 0 apart step count lines)))
-    ≡ sets points place (coordinates (flatten (runs grid first apart step count left))))
+    × (sets points₀ at (coordinates (flatten (runs grid 0 apart stride count lines)))
+    ≡ sets points place (coordinates (flatten (runs grid first apart stride count left))))
 
 abbrev μ-loop : tie.MeasureT-loop
-μ-loop grid lines apart step count points₀ at width first₀ place₀ left₀ points first place left = left
+μ-loop grid lines apart stride count points₀ at width first₀ place₀ left₀ points first place left = left
 
 abbrev Inv-loop2 : tie.InvT-loop2
-Inv-loop2 grid lines apart step count points₀ at width first₀ place₀ left₀ points first place left =
+Inv-loop2 grid lines apart stride count points₀ at width first₀ place₀ left₀ points first place left =
     (length points ≡ length points₀) × (first + left * apart ≡ lines * apart)
     × (place + left * (3 * count) ≡ at + lines * (3 * count))
-    × (sets points₀ place₀ (coordinates (flatten (runs grid first₀ apart step count left₀)))
-    ≡ sets points place (coordinates (flatten (runs grid first apart step count left))))
+    × (sets points₀ place₀ (coordinates (flatten (runs grid first₀ apart stride count left₀)))
+    ≡ sets points place (coordinates (flatten (runs grid first apart stride count left))))
 
 abbrev μ-loop2 : tie.MeasureT-loop2
-μ-loop2 grid lines apart step count points₀ at width first₀ place₀ left₀ points first place left = left
+μ-loop2 grid lines apart stride count points₀ at width first₀ place₀ left₀ points first place left = left
 
 -- places: the start, and the turn of either loop, from where its runs are drawn
 abbrev started : tie.At-loop Inv-loop μ-loop Inv-loop2 μ-loop2 → tie.Start Inv-loop μ-loop Inv-loop2 μ-loop2

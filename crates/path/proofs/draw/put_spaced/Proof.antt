@@ -10,18 +10,18 @@ use Rattle.path.proofs.draw.put_spaced.Statement.{statement}
 use Rattle.path.proofs.draw.put_spaced.Tie as tie
 
 abbrev Inv-loop : tie.InvT-loop
-Inv-loop starts₀ at first step lines number₀ place₀ left₀ starts number place left =
-    (length starts ≡ length starts₀) × (number + left * step ≡ first + lines * step) × (place + left ≡ at + lines)
-    × (sets starts₀ at (spaced first step lines) ≡ sets starts place (spaced number step left))
+Inv-loop starts₀ at first stride lines number₀ place₀ left₀ starts number place left =
+    (length starts ≡ length starts₀) × (number + left * stride ≡ first + lines * stride) × (place + left ≡ at + lines)
+    × (sets starts₀ at (spaced first stride lines) ≡ sets starts place (spaced number stride left))
 
 abbrev μ-loop : tie.MeasureT-loop
-μ-loop starts₀ at first step lines number₀ place₀ left₀ starts number place left = left
+μ-loop starts₀ at first stride lines number₀ place₀ left₀ starts number place left = left
 
 loop-holds : tie.Need-loop-holds Inv-loop μ-loop
 loop-holds c = (refl, refl, refl, refl)
 
 -- in a turn of the loop
-less : (t : tie.In-loop Inv-loop μ-loop) → Fewer 1 (t .before .loop .left) (t .before .before .args .step)
+less : (t : tie.In-loop Inv-loop μ-loop) → Fewer 1 (t .before .loop .left) (t .before .before .args .stride)
 less t = fewer 1 _ _ (t .loop-test .taken)
 
 loop-again : tie.Need-loop-again Inv-loop μ-loop

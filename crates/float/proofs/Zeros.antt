@@ -13,8 +13,11 @@ use lib.Ieee.Exact.{HasValue}
 use lib.Ieee.Scale.{round-same}
 use lib.Ieee.Positive.{positive}
 use borrow.Author.Tests.{le-ltb, ne-eqb}
-use Rattle.float.specs.Consts.{one64}
+use Rattle.float.specs.Consts.{zero64, one64}
 use Rattle.float.specs.Sign.{isFinite, negative}
+
+pub zero-is : fin false 0 (pos 0) ≡ zero64
+zero-is = unfold ofBits in refl
 
 round-zero : (s : Bool) {a : ℕ} (c : ℕ) → a ≡ 0 → 0 < c → round binary64 s a c ≡ fin s 0 (pos 0)
 round-zero s {a} c z C = round-same binary64 s a c 0 1 C (lit< tt) (mul-one a ∙ z ∙ sym (zero-mul c)) ∙ go s
