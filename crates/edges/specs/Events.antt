@@ -115,8 +115,8 @@ diagonalCandidate k leg sum = diagonalCrossing k leg (lambdaAt sum (sumOf (leg .
 -- ---- Rules 6.2: the candidates in their order
 
 -- a change that exceeds EPS in magnitude: without it nothing is tried
-abbrev pub moves : Float → Bool
-moves d = lt eps (absolute d)
+abbrev pub changes : Float → Bool
+changes d = lt eps (absolute d)
 
 abbrev pub listed : Candidate → List EdgeEvent → List EdgeEvent
 listed (Event e) es = e ∷ es
@@ -149,12 +149,14 @@ ends k leg =
 
 -- 2 and 3: the lines of an axis, from its first to its last
 unfoldable pub lines : Axis → Cells → Leg → List EdgeEvent
-lines x k leg = cond (moves (change x leg)) (listFrom (lineCandidate x k leg) (stepsOn x k + 1) 0) []
+lines x k leg = cond (changes (change x leg)) (listFrom (lineCandidate x k leg) (stepsOn x k + 1) 0) []
 
 -- 4: the diagonals
 unfoldable pub diagonals : Cells → Leg → List EdgeEvent
 diagonals k leg =
-    cond (moves (changeOfSum leg)) (listFrom (diagonalCandidate k leg) (pastSum k leg - firstSum leg) (firstSum leg)) []
+    cond (changes (changeOfSum leg))
+    (listFrom (diagonalCandidate k leg) (pastSum k leg - firstSum leg) (firstSum leg))
+    []
 
 -- all of them, in the order of their numbers in the rule
 unfoldable pub candidates : Cells → Leg → List EdgeEvent
