@@ -9,6 +9,7 @@ use lib.ListN.{length}
 use lib.Ieee.{Float, binary64, ofBits, lt, le, eq, neg, add, isNan}
 use Rattle.float.specs.Consts.{eps, zero64, one64}
 use Rattle.float.specs.Order.{totalOrder}
+use Rattle.float.specs.Cast.{natFloat}
 use Rattle.basics.specs.Lists.{Each}
 use Rattle.basics.proofs.Lists.{each-implies}
 use Rattle.basics.proofs.Tests.{and-both, cond-keeps, cond-case}
@@ -42,8 +43,8 @@ use Rattle.edges.proofs.Each.{length-candidates}
 pub events-inside : (k : Cells) (leg : Leg) → k .m ≤ 2 ^ 53 → k .n ≤ 2 ^ 53 → Each (OnGrid k) (sortedEdgeEvents k leg)
 events-inside k leg hm hn =
     each-event (OnGrid k) k leg (end-on-grid k zero64 (leg .a) hm hn) (end-on-grid k one64 (leg .b) hm hn)
-    (λ x j h. line-on-grid k leg x j (lambdaAt j (along x (leg .a)) (change x leg)) (omega arith))
-    (λ j. diagonal-on-grid k leg (lambdaAt j (sumOf (leg .a)) (changeOfSum leg)))
+    (λ x j h. line-on-grid k leg x j (lambdaAt (natFloat j) (along x (leg .a)) (change x leg)) (omega arith))
+    (λ j. diagonal-on-grid k leg (lambdaAt (natFloat j) (sumOf (leg .a)) (changeOfSum leg)))
 
 -- ---- lambdas are from 0 to 1
 abbrev pub ZeroToOne : Float → Type 0
@@ -101,8 +102,8 @@ module _ (k : Cells) (leg : Leg) where
   candidates-on-leg =
       each-candidate OnLeg k leg (end-on-leg zero64 (edgeAtPoint k (leg .a)) zero-on-leg)
       (end-on-leg one64 (edgeAtPoint k (leg .b)) one-on-leg)
-      (λ x j h. line-on-leg x j (lambdaAt j (along x (leg .a)) (change x leg)) (normalized _))
-      (λ j. diagonal-on-leg (lambdaAt j (sumOf (leg .a)) (changeOfSum leg)) (normalized _))
+      (λ x j h. line-on-leg x j (lambdaAt (natFloat j) (along x (leg .a)) (change x leg)) (normalized _))
+      (λ j. diagonal-on-leg (lambdaAt (natFloat j) (sumOf (leg .a)) (changeOfSum leg)) (normalized _))
 
   sorted-on-leg : Each OnLeg (sortInto (candidates k leg) [])
   sorted-on-leg = each-sort OnLeg (candidates k leg) [] candidates-on-leg tt

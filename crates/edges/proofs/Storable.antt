@@ -7,6 +7,7 @@ use native.Mathlib.Nat.{le-trans, lt-of-lt-of-le}
 use lib.Dec.{lit≤}
 use lib.Ieee.{Float}
 use Rattle.float.specs.Consts.{zero64}
+use Rattle.float.specs.Cast.{natFloat}
 use Rattle.float.proofs.Less.{le-not-nan}
 use Rattle.param.specs.declared.ParamPoint.{ParamPoint}
 use Rattle.param.specs.declared.Leg.{Leg}
@@ -48,10 +49,10 @@ module _ (k : Cells) (hm : k .m ≤ 255) (hn : k .n ≤ 255) {c : Candidate} whe
   pub line-storable : (leg : Leg) (x : Axis) (step : ℕ) {n : ℕ} → n ≡ stepsOn x k → step < n + 1 →
       c ≡ lineCandidate x k leg step → IfEvent Storable c
   line-storable leg x step e h q =
-      let l = lambdaAt step (along x (leg .a)) (change x leg) in
+      let l = lambdaAt (natFloat step) (along x (leg .a)) (change x leg) in
       is-storable q (line-on-grid k leg x step l (omega arith)) (line-on-leg k leg x step l (normalized _))
 
   pub diagonal-storable : (leg : Leg) (sum : ℕ) → c ≡ diagonalCandidate k leg sum → IfEvent Storable c
   diagonal-storable leg sum q =
-      let l = lambdaAt sum (sumOf (leg .a)) (changeOfSum leg) in
+      let l = lambdaAt (natFloat sum) (sumOf (leg .a)) (changeOfSum leg) in
       is-storable q (diagonal-on-grid k leg l) (diagonal-on-leg k leg l (normalized _))

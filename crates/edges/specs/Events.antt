@@ -65,9 +65,9 @@ abbrev pub endCandidate : Float → EdgeAtPoint → Candidate
 endCandidate l (Edge e) = Event (event l e)
 endCandidate l NoEdge = NoEvent
 
--- the lambda at which what goes from x by dx comes to `step`, if it counts
-abbrev pub lambdaAt : ℕ → Float → Float → NormalizedLambda
-lambdaAt step x dx = normalizeLambda (div binary64 (sub binary64 (natFloat step) x) dx)
+-- the lambda at which what goes from x by dx comes to y, if it counts
+abbrev pub lambdaAt : Float → Float → Float → NormalizedLambda
+lambdaAt y x dx = normalizeLambda (div binary64 (sub binary64 y x) dx)
 
 -- an event on a line of so many steps, if x, where the leg meets it, is within EPS of the line
 abbrev pub onLine : Float → ℕ → EdgeEvent → Candidate
@@ -99,7 +99,7 @@ change x leg = sub binary64 (along x (leg .b)) (along x (leg .a))
 
 -- 2 and 3: U(step) or V(step)
 abbrev pub lineCandidate : Axis → Cells → Leg → ℕ → Candidate
-lineCandidate x k leg step = lineCrossing x k leg step (lambdaAt step (along x (leg .a)) (change x leg))
+lineCandidate x k leg step = lineCrossing x k leg step (lambdaAt (natFloat step) (along x (leg .a)) (change x leg))
 
 -- u + v of a point, and by how much it changes along the leg: the sum of both changes
 abbrev pub sumOf : ParamPoint → Float
@@ -110,7 +110,7 @@ changeOfSum leg = add binary64 (sub binary64 (leg .b .u) (leg .a .u)) (sub binar
 
 -- 4: the diagonal at which u + v is `sum`
 abbrev pub diagonalCandidate : Cells → Leg → ℕ → Candidate
-diagonalCandidate k leg sum = diagonalCrossing k leg (lambdaAt sum (sumOf (leg .a)) (changeOfSum leg))
+diagonalCandidate k leg sum = diagonalCrossing k leg (lambdaAt (natFloat sum) (sumOf (leg .a)) (changeOfSum leg))
 
 -- ---- Rules 6.2: the candidates in their order
 
