@@ -19,7 +19,7 @@ use Rattle.float.proofs.Orders.{order-self}
 use Rattle.param.specs.declared.Leg.{Leg}
 use Rattle.param.specs.declared.Cells.{Cells}
 use Rattle.param.specs.declared.Axis.{Axis}
-use Rattle.param.specs.Param.{along, across, onLeg, stepsOff, within, paramInBounds}
+use Rattle.param.specs.Param.{along, across, legAt, stepsOff, within, paramInBounds}
 use Rattle.edges.specs.declared.cell.DiagonalCell.{DiagonalCell}
 use Rattle.edges.specs.declared.cell.DiagonalCell.the-variants.{Cell, NoCell}
 use Rattle.edges.specs.declared.event.EdgeEvent.{EdgeEvent}
@@ -86,13 +86,13 @@ module _ (k : Cells) (leg : Leg) where
       IfEvent OnLeg (lineCrossing x k leg step r)
   unfolding lineCrossing
   line-on-leg x step Outside h = tt
-  line-on-leg x step (Lambda l) h = on-line OnLeg (across x (onLeg leg l)) (stepsOff x k) (event l (lineAt x step)) h
+  line-on-leg x step (Lambda l) h = on-line OnLeg (across x (legAt leg l)) (stepsOff x k) (event l (lineAt x step)) h
 
   pub diagonal-on-leg : (r : NormalizedLambda) → LambdaOnLeg r → IfEvent OnLeg (diagonalCrossing k leg r)
   unfolding diagonalCrossing
   diagonal-on-leg Outside h = tt
   diagonal-on-leg (Lambda l) h =
-      cond-keeps (IfEvent OnLeg) (paramInBounds k (onLeg leg l)) _ NoEvent (at (diagonalCellAt k (onLeg leg l))) tt
+      cond-keeps (IfEvent OnLeg) (paramInBounds k (legAt leg l)) _ NoEvent (at (diagonalCellAt k (legAt leg l))) tt
     where
       at : (c : DiagonalCell) → IfEvent OnLeg (diagonalEvent l c)
       at (Cell u v) = h

@@ -16,7 +16,7 @@ use Rattle.param.specs.declared.Leg.{Leg}
 use Rattle.param.specs.declared.Cells.{Cells}
 use Rattle.param.specs.declared.Axis.{Axis}
 use Rattle.param.specs.declared.Axis.the-variants.{AxisU, AxisV}
-use Rattle.param.specs.Param.{along, across, onLeg, stepsOn, stepsOff, within, paramInBounds}
+use Rattle.param.specs.Param.{along, across, legAt, stepsOn, stepsOff, within, paramInBounds}
 use Rattle.edges.specs.declared.point.WholeStep.{WholeStep}
 use Rattle.edges.specs.declared.point.WholeStep.the-variants.{Step, Between}
 use Rattle.edges.specs.declared.cell.DiagonalCell.{DiagonalCell}
@@ -81,7 +81,7 @@ lineAt AxisV v = «V» v
 -- of a line, at a lambda that counts: the leg's point there is within EPS of the grid on the other axis
 unfoldable pub lineCrossing : Axis → Cells → Leg → ℕ → NormalizedLambda → Candidate
 lineCrossing x k leg step Outside = NoEvent
-lineCrossing x k leg step (Lambda l) = onLine (across x (onLeg leg l)) (stepsOff x k) (event l (lineAt x step))
+lineCrossing x k leg step (Lambda l) = onLine (across x (legAt leg l)) (stepsOff x k) (event l (lineAt x step))
 
 abbrev pub diagonalEvent : Float → DiagonalCell → Candidate
 diagonalEvent l (Cell u v) = Event (event l (Diagonal u v))
@@ -91,7 +91,7 @@ diagonalEvent l NoCell = NoEvent
 unfoldable pub diagonalCrossing : Cells → Leg → NormalizedLambda → Candidate
 diagonalCrossing k leg Outside = NoEvent
 diagonalCrossing k leg (Lambda l) =
-    cond (paramInBounds k (onLeg leg l)) (diagonalEvent l (diagonalCellAt k (onLeg leg l))) NoEvent
+    cond (paramInBounds k (legAt leg l)) (diagonalEvent l (diagonalCellAt k (legAt leg l))) NoEvent
 
 -- by how much an axis changes along the leg
 abbrev pub change : Axis → Leg → Float

@@ -9,8 +9,8 @@ use param::Axis;
 use param::Cells;
 use param::Leg;
 use param::ParamPoint;
-use param::is_within;
 use param::param_in_bounds;
+use param::within;
 ghost use mathlib.Core.Path.{_≡_};
 ghost use Rattle.edges.specs.Near.{normalizeLambda};
 ghost use Rattle.edges.specs.Events.{edgeAtPoint, endCandidate, lambdaAt, onLine, lineAt, lineCandidate};
@@ -80,7 +80,7 @@ pub fn end_candidate(lambda: f64, at: EdgeAtPoint) -> Candidate
 pub fn normalize_lambda(lambda: f64) -> NormalizedLambda
     ensures { λ r. ⌜ r ≡ normalizeLambda lambda ⌝ }
 {
-    if is_within(lambda, 1.0) {
+    if within(lambda, 1.0) {
         return NormalizedLambda::Lambda(clamp(lambda, 0.0, 1.0));
     }
     NormalizedLambda::Outside
@@ -97,7 +97,7 @@ fn lambda_at(end: f64, start: f64, change: f64) -> NormalizedLambda
 fn on_line(x: f64, steps: usize, event: EdgeEvent) -> Candidate
     ensures { λ r. ⌜ r ≡ onLine x steps event ⌝ }
 {
-    if is_within(x, to_f64(steps)) {
+    if within(x, to_f64(steps)) {
         return Candidate::Event(event);
     }
     Candidate::NoEvent

@@ -32,8 +32,8 @@ abbrev pub lerp : ParamPoint → ParamPoint → Float → ParamPoint
 lerp a b t = param (towards (a .u) (b .u) t) (towards (a .v) (b .v) t)
 
 -- Rules 6.2: the point of a leg at lambda t
-abbrev pub onLeg : Leg → Float → ParamPoint
-onLeg l t = lerp (l .a) (l .b) t
+abbrev pub legAt : Leg → Float → ParamPoint
+legAt l t = lerp (l .a) (l .b) t
 
 -- the coordinate on an axis, and the one on the other axis
 abbrev pub along : Axis → ParamPoint → Float
