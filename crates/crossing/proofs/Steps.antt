@@ -21,7 +21,7 @@ use Rattle.float.proofs.Bounds.{floor-count, floor-nonneg, clamped-nonneg, abs-
 use Rattle.edges.proofs.Index.{abs-fits}
 use Rattle.crossing.specs.declared.StepIndex.{StepIndex}
 use Rattle.crossing.specs.declared.StepIndex.the-variants.{At, Nothing}
-use Rattle.crossing.specs.Crossing.{closeTo, cellOf, offAxis, inCell, stepIndex}
+use Rattle.crossing.specs.Crossing.{closeTo, cellOf, offAxis, atCell, stepIndex}
 
 -- ---- the tests
 
@@ -40,12 +40,12 @@ module _ (x : Float) (n : ℕ) (z : n ≡ 0 → ⊥) where
       (ea : a ≡ absolute (sub binary64 y top)) where
     pub index-close : lt a eps ≡ true → {k : Float} → k ≡ natFloat (n - 1) →
         At (n - 1) (sub binary64 y k) ≡ stepIndex x n
-    unfolding stepIndex offAxis inCell cellOf closeTo
+    unfolding stepIndex offAxis atCell cellOf closeTo
     index-close h ek = simp (ne-eqb n 0 z, ← et, inside, ← ey, ← ea, h, ek)
 
     pub index-far : lt a eps ≡ false → {i : ℕ} {k : Float} → i ≡ count (floorZ y) → k ≡ natFloat i →
         At i (sub binary64 y k) ≡ stepIndex x n
-    unfolding stepIndex offAxis inCell cellOf closeTo
+    unfolding stepIndex offAxis atCell cellOf closeTo
     index-far h ei ek = simp (ne-eqb n 0 z, ← et, inside, ← ey, ← ea, h, ek, ei)
 
 -- the floor that the code casts is a count
@@ -77,10 +77,10 @@ Below (At i t) n = i < n
 Below Nothing n = Unit
 
 step-below : (x : Float) (n : ℕ) → n ≤ 2 ^ 53 → Below (stepIndex x n) n
-unfolding stepIndex offAxis inCell
+unfolding stepIndex offAxis atCell
 step-below x n h = go (eqb n 0) (lt x (neg eps) || lt (add binary64 (natFloat n) eps) x) refl
   where
-    go : (b t : Bool) → eqb n 0 ≡ b → Below (cond (b || t) Nothing (inCell (clamped x zero64 (natFloat n)) n)) n
+    go : (b t : Bool) → eqb n 0 ≡ b → Below (cond (b || t) Nothing (atCell (clamped x zero64 (natFloat n)) n)) n
     go true t p = tt
     go false true p = tt
     go false false p = cell-below x n (omega (arith, eqb-false n 0 p)) h

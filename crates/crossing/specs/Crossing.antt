@@ -40,12 +40,12 @@ unfoldable pub offAxis : Float → ℕ → Bool
 offAxis x steps = eqb steps 0 || (lt x (neg eps) || lt (add binary64 (natFloat steps) eps) x)
 
 -- the cell of a value, and t: the value less the cell's index
-unfoldable pub inCell : Float → ℕ → StepIndex
-inCell x steps = At (cellOf x steps) (sub binary64 x (natFloat (cellOf x steps)))
+unfoldable pub atCell : Float → ℕ → StepIndex
+atCell x steps = At (cellOf x steps) (sub binary64 x (natFloat (cellOf x steps)))
 
 -- `step_index`: a value that has an answer is clamped to 0 to steps first
 unfoldable pub stepIndex : Float → ℕ → StepIndex
-stepIndex x steps = cond (offAxis x steps) Nothing (inCell (clamped x zero64 (natFloat steps)) steps)
+stepIndex x steps = cond (offAxis x steps) Nothing (atCell (clamped x zero64 (natFloat steps)) steps)
 
 -- ---- edge_point
 
@@ -67,17 +67,14 @@ abbrev pub onV : List Float → ℕ → ℕ → StepIndex → EdgePoint
 onV g n v (At u t) = On (crossing g (pointNumber n u v) (pointNumber n (u + 1) v) t)
 onV g n v Nothing = NoStep
 
--- on the diagonal of cell (u, v): from the corner (u+1, v) to (u, v+1), t from the leg's v there, y
-abbrev pub onDiagonal : List Float → ℕ → ℕ → ℕ → Float → EdgePoint
-onDiagonal g n u v y =
-    On (crossing g (pointNumber n (u + 1) v) (pointNumber n u (v + 1))
-    (clamped (sub binary64 y (natFloat v)) zero64 one64))
-
--- `edge_point`: the point of an event, from its side and the leg's point x at its lambda
+-- `edge_point`: the point of an event, from its side and the leg's point x at its lambda. On the diagonal of cell
+-- (u, v), p is the corner (u+1, v) and q is (u, v+1), and t is x's v less the cell's index, clamped to 0 to 1
 unfoldable pub edgePoint : List Float → Cells → ParamEdge → ParamPoint → EdgePoint
 edgePoint g k (U u) x = onU g (k .n) u (stepIndex (x .v) (k .n))
 edgePoint g k («V» v) x = onV g (k .n) v (stepIndex (x .u) (k .m))
-edgePoint g k (Diagonal u v) x = onDiagonal g (k .n) u v (x .v)
+edgePoint g k (Diagonal u v) x =
+    On (crossing g (pointNumber (k .n) (u + 1) v) (pointNumber (k .n) u (v + 1))
+    (clamped (sub binary64 (x .v) (natFloat v)) zero64 one64))
 
 -- what inner functions ask for: a grid of these cells, by its length
 abbrev pub GridFits : List Float → Cells → Type 0

@@ -6,11 +6,11 @@ use Rattle.float.specs.Consts.{eps, zero64, one64}
 use Rattle.grid.specs.Grid.{pointAt}
 use Rattle.edges.specs.Table as events
 use Rattle.crossing.specs.declared.StepIndex.the-variants.{At, Nothing}
-use Rattle.crossing.specs.Crossing.{closeTo, cellOf, offAxis, inCell, stepIndex, blend, edgePoint}
+use Rattle.crossing.specs.Crossing.{closeTo, cellOf, offAxis, atCell, stepIndex, blend, edgePoint}
 
 -- `unfolding computed` opens every definition that a closed result needs, here or in a trace
 unfoldable pub computed : Bool
-unfolding events.computed pointAt closeTo cellOf offAxis inCell stepIndex blend edgePoint
+unfolding events.computed pointAt closeTo cellOf offAxis atCell stepIndex blend edgePoint
 computed = true
 
 -- the value 4 of 4 steps is in cell 3, by 1

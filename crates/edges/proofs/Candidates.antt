@@ -7,7 +7,7 @@ use Rattle.param.specs.declared.ParamPoint.{ParamPoint}
 use Rattle.param.specs.declared.Leg.{Leg}
 use Rattle.param.specs.declared.Cells.{Cells}
 use Rattle.param.specs.declared.Axis.{Axis}
-use Rattle.param.specs.Param.{across, onLeg, stepsOff, paramInBounds}
+use Rattle.param.specs.Param.{across, legAt, stepsOff, paramInBounds}
 use Rattle.edges.specs.declared.point.WholeStep.the-variants.{Step, Between}
 use Rattle.edges.specs.declared.event.ParamEdge.{ParamEdge}
 use Rattle.edges.specs.declared.event.ParamEdge.the-variants.{U, «V»}
@@ -51,7 +51,7 @@ module _ (k : Cells) (leg : Leg) {L r : NormalizedLambda} (e : r ≡ L) where
   unfolding diagonalCrossing
   crossing-off h = rw (sym e ∙ h)
 
-  module _ {l : Float} {q : ParamPoint} (h : r ≡ Lambda l) (there : q ≡ onLeg leg l) where
+  module _ {l : Float} {q : ParamPoint} (h : r ≡ Lambda l) (there : q ≡ legAt leg l) where
     pub line-on : (x : Axis) (step : ℕ) {y : Float} {n : ℕ} {s : ParamEdge} {c : Candidate} →
         y ≡ across x q → n ≡ stepsOff x k → s ≡ lineAt x step → c ≡ onLine y n (event l s) →
         c ≡ lineCrossing x k leg step L

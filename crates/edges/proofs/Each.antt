@@ -21,7 +21,7 @@ use Rattle.edges.specs.declared.event.EdgeEvent.{EdgeEvent}
 use Rattle.edges.specs.declared.event.Candidate.{Candidate}
 use Rattle.edges.specs.declared.event.Candidate.the-variants.{Event, NoEvent}
 use Rattle.edges.specs.Events.{edgeAtPoint, endCandidate, change, lineCandidate, changeOfSum, diagonalCandidate}
-use Rattle.edges.specs.Events.{moves, listed, listFrom, firstSum, pastSum, ends, lines, diagonals, candidates}
+use Rattle.edges.specs.Events.{changes, listed, listFrom, firstSum, pastSum, ends, lines, diagonals, candidates}
 use Rattle.edges.specs.Events.{precedes, insert, sortInto, closeBy, uniqueAfter, unique, sortedEdgeEvents}
 use Rattle.edges.specs.Events.{IfEvent}
 
@@ -36,10 +36,10 @@ module _ (P : EdgeEvent → Type 0) where
   each-from f (suc k) i h =
       each-listed (f i) (listFrom f k (i + 1)) (h i (omega arith)) (each-from f k (i + 1) (λ j l. h j (omega arith)))
 
-  -- candidates in a row, which are tried if an axis moves
-  each-tried : (moved : Bool) (f : ℕ → Candidate) (k i : ℕ) → ((j : ℕ) → j < i + k → IfEvent P (f j)) →
-      Each P (cond moved (listFrom f k i) [])
-  each-tried moved f k i h = cond-keeps (Each P) moved _ [] (each-from f k i h) tt
+  -- candidates in a row, which are tried if an axis changes
+  each-tried : (changed : Bool) (f : ℕ → Candidate) (k i : ℕ) → ((j : ℕ) → j < i + k → IfEvent P (f j)) →
+      Each P (cond changed (listFrom f k i) [])
+  each-tried changed f k i h = cond-keeps (Each P) changed _ [] (each-from f k i h) tt
 
   pub each-insert : (e : EdgeEvent) (es : List EdgeEvent) → P e → Each P es → Each P (insert e es)
   unfolding insert
@@ -68,7 +68,7 @@ module _ (P : EdgeEvent → Type 0) where
       ((j : ℕ) → j < stepsOn x k + 1 → IfEvent P (lineCandidate x k leg j)) → Each P (lines x k leg)
   unfolding lines
   each-lines x k leg h =
-      each-tried (moves (change x leg)) (lineCandidate x k leg) (stepsOn x k + 1) 0 (λ j l. h j (omega arith))
+      each-tried (changes (change x leg)) (lineCandidate x k leg) (stepsOn x k + 1) 0 (λ j l. h j (omega arith))
 
   -- the candidates of a leg
   module _ (k : Cells) (leg : Leg) (start : IfEvent P (endCandidate zero64 (edgeAtPoint k (leg .a))))
@@ -84,7 +84,7 @@ module _ (P : EdgeEvent → Type 0) where
     each-diagonals : Each P (diagonals k leg)
     unfolding diagonals
     each-diagonals =
-        each-tried (moves (changeOfSum leg)) (diagonalCandidate k leg) (pastSum k leg - firstSum leg) (firstSum leg)
+        each-tried (changes (changeOfSum leg)) (diagonalCandidate k leg) (pastSum k leg - firstSum leg) (firstSum leg)
         (λ j h. d j)
 
     pub each-candidate : Each P (candidates k leg)
@@ -137,9 +137,9 @@ unfolding unique
 length-unique [] = omega arith
 length-unique (e ∷ es) = omega (arith, length-after (e .lambda) es)
 
-length-tried : (moved : Bool) (f : ℕ → Candidate) (k i : ℕ) → length (cond moved (listFrom f k i) []) ≤ k
-length-tried moved f k i =
-    cond-keeps (λ (r : List EdgeEvent). length r ≤ k) moved _ [] (length-from f k i) (omega arith)
+length-tried : (changed : Bool) (f : ℕ → Candidate) (k i : ℕ) → length (cond changed (listFrom f k i) []) ≤ k
+length-tried changed f k i =
+    cond-keeps (λ (r : List EdgeEvent). length r ≤ k) changed _ [] (length-from f k i) (omega arith)
 
 length-ends : (k : Cells) (leg : Leg) → length (ends k leg) ≤ 2
 unfolding ends
@@ -150,14 +150,14 @@ length-ends k leg =
 
 length-lines : (x : Axis) (k : Cells) (leg : Leg) → length (lines x k leg) ≤ stepsOn x k + 1
 unfolding lines
-length-lines x k leg = length-tried (moves (change x leg)) (lineCandidate x k leg) (stepsOn x k + 1) 0
+length-lines x k leg = length-tried (changes (change x leg)) (lineCandidate x k leg) (stepsOn x k + 1) 0
 
 length-diagonals : (k : Cells) (leg : Leg) → length (diagonals k leg) ≤ k .m + k .n - 1
 unfolding diagonals
 length-diagonals k leg =
     let first = firstSum leg in
     let past = pastSum k leg in
-    omega (arith, length-tried (moves (changeOfSum leg)) (diagonalCandidate k leg) (past - first) first)
+    omega (arith, length-tried (changes (changeOfSum leg)) (diagonalCandidate k leg) (past - first) first)
 
 pub length-candidates : (k : Cells) (leg : Leg) →
     length (candidates k leg) ≤ 2 + (k .m + 1) + (k .n + 1) + (k .m + k .n - 1)

@@ -17,7 +17,7 @@ use Rattle.edges.specs.declared.event.Candidate.{Candidate}
 use Rattle.edges.specs.declared.event.Candidate.the-variants.{Event, NoEvent}
 use Rattle.edges.specs.declared.event.EdgeAtPoint.{EdgeAtPoint}
 use Rattle.edges.specs.Events.{edgeAtPoint, endCandidate, change, lineCandidate, changeOfSum, diagonalCandidate}
-use Rattle.edges.specs.Events.{moves, listed, listFrom, firstSum, pastSum, ends, lines, diagonals, candidates}
+use Rattle.edges.specs.Events.{changes, listed, listFrom, firstSum, pastSum, ends, lines, diagonals, candidates}
 use Rattle.edges.specs.Events.{insert, pushed, sortInto, IfEvent}
 use Rattle.edges.specs.Scratch.{eventsIn, Sorted}
 
@@ -81,11 +81,11 @@ module _ {f : ℕ → Candidate} {first end : ℕ} {whole : List EdgeEvent} {cou
 
 -- ---- the four groups
 module _ (x : Axis) (k : Cells) (leg : Leg) (acc : List EdgeEvent) where
-  pub lines-none : moves (change x leg) ≡ false → acc ≡ sortInto (lines x k leg) acc
+  pub lines-none : changes (change x leg) ≡ false → acc ≡ sortInto (lines x k leg) acc
   unfolding lines sortInto
   lines-none h = rw h
 
-  pub lines-start : moves (change x leg) ≡ true → {n : ℕ} → n ≡ stepsOn x k →
+  pub lines-start : changes (change x leg) ≡ true → {n : ℕ} → n ≡ stepsOn x k →
       sortInto (lines x k leg) acc ≡ sortInto (listFrom (lineCandidate x k leg) (n + 1 - 0) 0) acc
   unfolding lines
   lines-start h {n} q = let all : n + 1 - 0 ≡ stepsOn x k + 1 = omega arith in rw (h, all)
@@ -98,11 +98,11 @@ module _ (k : Cells) (leg : Leg) where
   ends-pushed hx hy hc hd hr hs = rw (hs, hr, hd, hc, hy, hx, sort-listed, sort-listed)
 
   module _ (acc : List EdgeEvent) where
-    pub diagonals-none : moves (changeOfSum leg) ≡ false → acc ≡ sortInto (diagonals k leg) acc
+    pub diagonals-none : changes (changeOfSum leg) ≡ false → acc ≡ sortInto (diagonals k leg) acc
     unfolding diagonals sortInto
     diagonals-none h = rw h
 
-    pub diagonals-start : moves (changeOfSum leg) ≡ true → {first past : ℕ} → first ≡ firstSum leg →
+    pub diagonals-start : changes (changeOfSum leg) ≡ true → {first past : ℕ} → first ≡ firstSum leg →
         past ≡ pastSum k leg →
         sortInto (diagonals k leg) acc ≡ sortInto (listFrom (diagonalCandidate k leg) (past - first) first) acc
     unfolding diagonals

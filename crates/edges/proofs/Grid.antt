@@ -9,7 +9,7 @@ use Rattle.param.specs.declared.Leg.{Leg}
 use Rattle.param.specs.declared.Cells.{Cells}
 use Rattle.param.specs.declared.Axis.{Axis}
 use Rattle.param.specs.declared.Axis.the-variants.{AxisU, AxisV}
-use Rattle.param.specs.Param.{across, onLeg, stepsOn, stepsOff, within, paramInBounds}
+use Rattle.param.specs.Param.{across, legAt, stepsOn, stepsOff, within, paramInBounds}
 use Rattle.edges.specs.declared.point.WholeStep.{WholeStep}
 use Rattle.edges.specs.declared.point.WholeStep.the-variants.{Step, Between}
 use Rattle.edges.specs.declared.cell.DiagonalCell.{DiagonalCell}
@@ -75,13 +75,13 @@ module _ (k : Cells) (leg : Leg) where
   unfolding lineCrossing
   line-on-grid x step Outside h = tt
   line-on-grid x step (Lambda l) h =
-      on-line (OnGrid k) (across x (onLeg leg l)) (stepsOff x k) (event l (lineAt x step)) (line-inside x k step h)
+      on-line (OnGrid k) (across x (legAt leg l)) (stepsOff x k) (event l (lineAt x step)) (line-inside x k step h)
 
   pub diagonal-on-grid : (r : NormalizedLambda) → IfEvent (OnGrid k) (diagonalCrossing k leg r)
   unfolding diagonalCrossing
   diagonal-on-grid Outside = tt
   diagonal-on-grid (Lambda l) =
-      let p = onLeg leg l in
+      let p = legAt leg l in
       cond-keeps (IfEvent (OnGrid k)) (paramInBounds k p) _ NoEvent (at (diagonalCellAt k p) (diagonal-inside k p)) tt
     where
       at : (c : DiagonalCell) → CellInside k c → IfEvent (OnGrid k) (diagonalEvent l c)

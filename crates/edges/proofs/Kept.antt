@@ -24,6 +24,13 @@ next-event ls cs count i e h k =
       ← event-in ls cs count i (eventOf nan 0) e h k,
     )
 
+-- past the last there is none
+pub none-left : (ls : List Float) (cs : List ℕ) (count i : ℕ) → length ls ≡ length cs → count ≤ length ls → count ≤ i →
+    drop i (eventsIn ls cs count) ≡ []
+none-left ls cs count i e h k =
+    let past : length (eventsIn ls cs count) ≤ i = omega (arith, events-length ls cs count e h) in
+    drop-of-length-le (eventsIn ls cs count) past
+
 -- ---- in lists that held `count` events, so far i are looked at and `kept` of them kept, the last at `last`
 
 -- with what is left from i on, those kept make the answer
@@ -111,7 +118,4 @@ module _ {ls₀ : List Float} {cs₀ : List ℕ} {count : ℕ} (e : length ls₀
 
     pub keeping-ends : count ≤ i → eventsIn ls cs kept ≡ unique (eventsIn ls₀ cs₀ count)
     unfolding uniqueAfter
-    keeping-ends k =
-        let past : length (eventsIn ls cs count) ≤ i =
-        omega (arith, events-length ls cs count (omega arith) (omega arith)) in
-        rw (m .answer, drop-of-length-le (eventsIn ls cs count) past, append-nil)
+    keeping-ends k = rw (m .answer, none-left ls cs count i (omega arith) (omega arith) k, append-nil)

@@ -1,16 +1,19 @@
 -- What holds of the events of every leg: each is on a side of the grid, lambdas are from 0 to 1 and ascend in the
 -- total order, neighbours are at least EPS apart, and there are at most 1,023.
-use mathlib.Core.Path.{_≡_, refl, ap}
+use mathlib.Core.Path.{_≡_, refl, ap, _∙_}
 use mathlib.Core.Bool.{true, false}
 use mathlib.Core.List.{List, [], _∷_}
-use Prim.Native.Nat.{ℕ, _^_, _≤_}
+use Prim.Native.Nat.{ℕ, _^_, _≤_, _<_}
+use native.Mathlib.Nat.{le-trans}
 use native.Mathlib.Omega.{arith}
-use lib.ListN.{length}
-use lib.Ieee.{Float, binary64, ofBits, lt, le, eq, neg, add, isNan}
+use lib.Dec.{lit≤}
+use lib.ListN.{length, getD}
+use lib.Ieee.{Float, binary64, nan, ofBits, lt, le, eq, neg, add, isNan}
 use Rattle.float.specs.Consts.{eps, zero64, one64}
 use Rattle.float.specs.Order.{totalOrder}
+use Rattle.float.specs.Cast.{natFloat}
 use Rattle.basics.specs.Lists.{Each}
-use Rattle.basics.proofs.Lists.{each-implies}
+use Rattle.basics.proofs.Lists.{each-at, each-implies}
 use Rattle.basics.proofs.Tests.{and-both, cond-keeps, cond-case}
 use Rattle.float.proofs.Less.{le-not-nan}
 use Rattle.float.proofs.Bounds.{clamp-above, clamp-below}
@@ -18,7 +21,7 @@ use Rattle.float.proofs.Orders.{order-self}
 use Rattle.param.specs.declared.Leg.{Leg}
 use Rattle.param.specs.declared.Cells.{Cells}
 use Rattle.param.specs.declared.Axis.{Axis}
-use Rattle.param.specs.Param.{along, across, onLeg, stepsOff, within, paramInBounds}
+use Rattle.param.specs.Param.{along, across, legAt, stepsOff, within, paramInBounds}
 use Rattle.edges.specs.declared.cell.DiagonalCell.{DiagonalCell}
 use Rattle.edges.specs.declared.cell.DiagonalCell.the-variants.{Cell, NoCell}
 use Rattle.edges.specs.declared.event.EdgeEvent.{EdgeEvent}
@@ -32,7 +35,8 @@ use Rattle.edges.specs.Cell.{diagonalCellAt}
 use Rattle.edges.specs.Events.{event, edgeAtPoint, endCandidate, lambdaAt, lineAt, lineCrossing, change}
 use Rattle.edges.specs.Events.{diagonalEvent, diagonalCrossing, sumOf, changeOfSum, candidates, precedes}
 use Rattle.edges.specs.Events.{sortInto, closeBy, uniqueAfter, unique, sortedEdgeEvents, IfEvent, OnGrid}
-use Rattle.edges.specs.Scratch.{AscendFrom, Ascend}
+use Rattle.edges.specs.Scratch.{eventOf, eventsIn, AscendFrom, Ascend}
+use Rattle.edges.proofs.Places.{event-in, events-length}
 use Rattle.edges.proofs.Order.{not-precedes-transitive, sort-ascends}
 use Rattle.edges.proofs.Grid.{on-line, end-on-grid, line-on-grid, diagonal-on-grid}
 use Rattle.edges.proofs.Each.{each-event, each-candidate, each-sort, each-unique, length-sort, length-unique}
@@ -42,8 +46,22 @@ use Rattle.edges.proofs.Each.{length-candidates}
 pub events-inside : (k : Cells) (leg : Leg) → k .m ≤ 2 ^ 53 → k .n ≤ 2 ^ 53 → Each (OnGrid k) (sortedEdgeEvents k leg)
 events-inside k leg hm hn =
     each-event (OnGrid k) k leg (end-on-grid k zero64 (leg .a) hm hn) (end-on-grid k one64 (leg .b) hm hn)
-    (λ x j h. line-on-grid k leg x j (lambdaAt j (along x (leg .a)) (change x leg)) (omega arith))
-    (λ j. diagonal-on-grid k leg (lambdaAt j (sumOf (leg .a)) (changeOfSum leg)))
+    (λ x j h. line-on-grid k leg x j (lambdaAt (natFloat j) (along x (leg .a)) (change x leg)) (omega arith))
+    (λ j. diagonal-on-grid k leg (lambdaAt (natFloat j) (sumOf (leg .a)) (changeOfSum leg)))
+
+-- those that the code found
+pub leg-inside : (k : Cells) (leg : Leg) {es : List EdgeEvent} → k .m ≤ 255 → k .n ≤ 255 → es ≡ sortedEdgeEvents k leg →
+    Each (OnGrid k) es
+leg-inside k leg hm hn e = rw e (events-inside k leg (le-trans hm (lit≤ tt)) (le-trans hn (lit≤ tt)))
+
+-- and the one that it reads at i
+pub event-inside : (ls : List Float) (cs : List ℕ) (count i : ℕ) → length ls ≡ length cs → count ≤ length ls →
+    (k : Cells) {v : EdgeEvent} → Each (OnGrid k) (eventsIn ls cs count) → i < count →
+    v ≡ eventOf (getD ls i nan) (getD cs i 0) → OnGrid k v
+event-inside ls cs count i e h k o t ev =
+    let d = eventOf nan 0 in
+    rw (ev ∙ event-in ls cs count i d e h t)
+    (each-at (OnGrid k) (eventsIn ls cs count) i d o (omega (arith, events-length ls cs count e h)))
 
 -- ---- lambdas are from 0 to 1
 abbrev pub ZeroToOne : Float → Type 0
@@ -85,13 +103,13 @@ module _ (k : Cells) (leg : Leg) where
       IfEvent OnLeg (lineCrossing x k leg step r)
   unfolding lineCrossing
   line-on-leg x step Outside h = tt
-  line-on-leg x step (Lambda l) h = on-line OnLeg (across x (onLeg leg l)) (stepsOff x k) (event l (lineAt x step)) h
+  line-on-leg x step (Lambda l) h = on-line OnLeg (across x (legAt leg l)) (stepsOff x k) (event l (lineAt x step)) h
 
   pub diagonal-on-leg : (r : NormalizedLambda) → LambdaOnLeg r → IfEvent OnLeg (diagonalCrossing k leg r)
   unfolding diagonalCrossing
   diagonal-on-leg Outside h = tt
   diagonal-on-leg (Lambda l) h =
-      cond-keeps (IfEvent OnLeg) (paramInBounds k (onLeg leg l)) _ NoEvent (at (diagonalCellAt k (onLeg leg l))) tt
+      cond-keeps (IfEvent OnLeg) (paramInBounds k (legAt leg l)) _ NoEvent (at (diagonalCellAt k (legAt leg l))) tt
     where
       at : (c : DiagonalCell) → IfEvent OnLeg (diagonalEvent l c)
       at (Cell u v) = h
@@ -101,8 +119,8 @@ module _ (k : Cells) (leg : Leg) where
   candidates-on-leg =
       each-candidate OnLeg k leg (end-on-leg zero64 (edgeAtPoint k (leg .a)) zero-on-leg)
       (end-on-leg one64 (edgeAtPoint k (leg .b)) one-on-leg)
-      (λ x j h. line-on-leg x j (lambdaAt j (along x (leg .a)) (change x leg)) (normalized _))
-      (λ j. diagonal-on-leg (lambdaAt j (sumOf (leg .a)) (changeOfSum leg)) (normalized _))
+      (λ x j h. line-on-leg x j (lambdaAt (natFloat j) (along x (leg .a)) (change x leg)) (normalized _))
+      (λ j. diagonal-on-leg (lambdaAt (natFloat j) (sumOf (leg .a)) (changeOfSum leg)) (normalized _))
 
   sorted-on-leg : Each OnLeg (sortInto (candidates k leg) [])
   sorted-on-leg = each-sort OnLeg (candidates k leg) [] candidates-on-leg tt

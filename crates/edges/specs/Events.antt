@@ -16,7 +16,7 @@ use Rattle.param.specs.declared.Leg.{Leg}
 use Rattle.param.specs.declared.Cells.{Cells}
 use Rattle.param.specs.declared.Axis.{Axis}
 use Rattle.param.specs.declared.Axis.the-variants.{AxisU, AxisV}
-use Rattle.param.specs.Param.{along, across, onLeg, stepsOn, stepsOff, within, paramInBounds}
+use Rattle.param.specs.Param.{along, across, legAt, stepsOn, stepsOff, within, paramInBounds}
 use Rattle.edges.specs.declared.point.WholeStep.{WholeStep}
 use Rattle.edges.specs.declared.point.WholeStep.the-variants.{Step, Between}
 use Rattle.edges.specs.declared.cell.DiagonalCell.{DiagonalCell}
@@ -65,9 +65,9 @@ abbrev pub endCandidate : Float → EdgeAtPoint → Candidate
 endCandidate l (Edge e) = Event (event l e)
 endCandidate l NoEdge = NoEvent
 
--- the lambda at which what goes from x by dx comes to `step`, if it counts
-abbrev pub lambdaAt : ℕ → Float → Float → NormalizedLambda
-lambdaAt step x dx = normalizeLambda (div binary64 (sub binary64 (natFloat step) x) dx)
+-- the lambda at which what goes from x by dx comes to y, if it counts
+abbrev pub lambdaAt : Float → Float → Float → NormalizedLambda
+lambdaAt y x dx = normalizeLambda (div binary64 (sub binary64 y x) dx)
 
 -- an event on a line of so many steps, if x, where the leg meets it, is within EPS of the line
 abbrev pub onLine : Float → ℕ → EdgeEvent → Candidate
@@ -81,7 +81,7 @@ lineAt AxisV v = «V» v
 -- of a line, at a lambda that counts: the leg's point there is within EPS of the grid on the other axis
 unfoldable pub lineCrossing : Axis → Cells → Leg → ℕ → NormalizedLambda → Candidate
 lineCrossing x k leg step Outside = NoEvent
-lineCrossing x k leg step (Lambda l) = onLine (across x (onLeg leg l)) (stepsOff x k) (event l (lineAt x step))
+lineCrossing x k leg step (Lambda l) = onLine (across x (legAt leg l)) (stepsOff x k) (event l (lineAt x step))
 
 abbrev pub diagonalEvent : Float → DiagonalCell → Candidate
 diagonalEvent l (Cell u v) = Event (event l (Diagonal u v))
@@ -91,7 +91,7 @@ diagonalEvent l NoCell = NoEvent
 unfoldable pub diagonalCrossing : Cells → Leg → NormalizedLambda → Candidate
 diagonalCrossing k leg Outside = NoEvent
 diagonalCrossing k leg (Lambda l) =
-    cond (paramInBounds k (onLeg leg l)) (diagonalEvent l (diagonalCellAt k (onLeg leg l))) NoEvent
+    cond (paramInBounds k (legAt leg l)) (diagonalEvent l (diagonalCellAt k (legAt leg l))) NoEvent
 
 -- by how much an axis changes along the leg
 abbrev pub change : Axis → Leg → Float
@@ -99,7 +99,7 @@ change x leg = sub binary64 (along x (leg .b)) (along x (leg .a))
 
 -- 2 and 3: U(step) or V(step)
 abbrev pub lineCandidate : Axis → Cells → Leg → ℕ → Candidate
-lineCandidate x k leg step = lineCrossing x k leg step (lambdaAt step (along x (leg .a)) (change x leg))
+lineCandidate x k leg step = lineCrossing x k leg step (lambdaAt (natFloat step) (along x (leg .a)) (change x leg))
 
 -- u + v of a point, and by how much it changes along the leg: the sum of both changes
 abbrev pub sumOf : ParamPoint → Float
@@ -110,13 +110,13 @@ changeOfSum leg = add binary64 (sub binary64 (leg .b .u) (leg .a .u)) (sub binar
 
 -- 4: the diagonal at which u + v is `sum`
 abbrev pub diagonalCandidate : Cells → Leg → ℕ → Candidate
-diagonalCandidate k leg sum = diagonalCrossing k leg (lambdaAt sum (sumOf (leg .a)) (changeOfSum leg))
+diagonalCandidate k leg sum = diagonalCrossing k leg (lambdaAt (natFloat sum) (sumOf (leg .a)) (changeOfSum leg))
 
 -- ---- Rules 6.2: the candidates in their order
 
 -- a change that exceeds EPS in magnitude: without it nothing is tried
-abbrev pub moves : Float → Bool
-moves d = lt eps (absolute d)
+abbrev pub changes : Float → Bool
+changes d = lt eps (absolute d)
 
 abbrev pub listed : Candidate → List EdgeEvent → List EdgeEvent
 listed (Event e) es = e ∷ es
@@ -149,12 +149,14 @@ ends k leg =
 
 -- 2 and 3: the lines of an axis, from its first to its last
 unfoldable pub lines : Axis → Cells → Leg → List EdgeEvent
-lines x k leg = cond (moves (change x leg)) (listFrom (lineCandidate x k leg) (stepsOn x k + 1) 0) []
+lines x k leg = cond (changes (change x leg)) (listFrom (lineCandidate x k leg) (stepsOn x k + 1) 0) []
 
 -- 4: the diagonals
 unfoldable pub diagonals : Cells → Leg → List EdgeEvent
 diagonals k leg =
-    cond (moves (changeOfSum leg)) (listFrom (diagonalCandidate k leg) (pastSum k leg - firstSum leg) (firstSum leg)) []
+    cond (changes (changeOfSum leg))
+    (listFrom (diagonalCandidate k leg) (pastSum k leg - firstSum leg) (firstSum leg))
+    []
 
 -- all of them, in the order of their numbers in the rule
 unfoldable pub candidates : Cells → Leg → List EdgeEvent

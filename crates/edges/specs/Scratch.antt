@@ -10,13 +10,18 @@ use lib.Ieee.{Float, nan, isNan}
 use Rattle.basics.specs.Lists.{Each}
 use Rattle.float.specs.Order.{totalOrder}
 use Rattle.param.specs.declared.Cells.{Cells}
-use Rattle.param.specs.Param.{cells}
 use Rattle.edges.specs.declared.event.ParamEdge.{ParamEdge}
 use Rattle.edges.specs.declared.event.ParamEdge.the-variants.{U, «V», Diagonal}
 use Rattle.edges.specs.declared.event.EdgeEvent.{EdgeEvent}
-use Rattle.edges.specs.Events.{event, precedes, OnGrid}
+use Rattle.edges.specs.Events.{event, precedes}
 
--- a side as one number, and back: indices are below 256
+-- a side that has a code: its indices are below 256
+abbrev pub Codable : ParamEdge → Type 0
+Codable (U u) = u < 256
+Codable («V» v) = v < 256
+Codable (Diagonal u v) = (u < 256) × (v < 256)
+
+-- such a side as one number, and back
 unfoldable pub codeOf : ParamEdge → ℕ
 codeOf (U u) = u
 codeOf («V» v) = 256 + v
@@ -56,7 +61,7 @@ Ascend (e ∷ es) = AscendFrom (e .lambda) es
 
 -- an event that the lists take: its side has a code, and its lambda is no NaN
 abbrev pub Storable : EdgeEvent → Type 0
-Storable e = OnGrid (cells 255 255) e × (isNan (e .lambda) ≡ false)
+Storable e = Codable (e .edge) × (isNan (e .lambda) ≡ false)
 
 -- such events, in order
 pub record Sorted (es : List EdgeEvent) : Type 0 where

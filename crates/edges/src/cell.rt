@@ -5,7 +5,7 @@ use float::sign::abs;
 use float::whole::floor_i64;
 use param::Cells;
 use param::ParamPoint;
-use param::is_within;
+use param::within;
 ghost use mathlib.Core.Path.{_≡_};
 ghost use lib.IntN.{pos, _-ℤ_};
 ghost use Rattle.edges.specs.Cell.{indexOf, onDiagonal, tryCell, inCell, diagonalCellAt};
@@ -51,7 +51,7 @@ fn on_diagonal(point: ParamPoint, u: usize, v: usize) -> bool
 {
     let s = point.u - to_f64(u);
     let t = point.v - to_f64(v);
-    is_within(s, 1.0) & (is_within(t, 1.0) & (abs(s + t - 1.0) < EPS))
+    within(s, 1.0) & (within(t, 1.0) & (abs(s + t - 1.0) < EPS))
 }
 
 // The cell of two indices, where the point is on its diagonal.
@@ -75,11 +75,11 @@ fn try_cell(point: ParamPoint, i: CellIndex, j: CellIndex) -> DiagonalCell
 
 // Whether x is in the cells of an index on its axis, within EPS. Of a point that is not, none of
 // them need be tried.
-fn is_in_cell(x: f64, index: CellIndex) -> bool
+fn in_cell(x: f64, index: CellIndex) -> bool
     ensures { λ r. ⌜ r ≡ inCell x index ⌝ }
 {
     match index {
-        CellIndex::Index(k) => is_within(x - to_f64(k), 1.0),
+        CellIndex::Index(k) => within(x - to_f64(k), 1.0),
         CellIndex::Outside => false,
     }
 }
@@ -95,7 +95,7 @@ pub fn diagonal_cell_at(cells: Cells, point: ParamPoint) -> DiagonalCell
     let u1 = index_of(u_floor, cells.m);
     let v0 = index_before(v_floor, cells.n);
     let v1 = index_of(v_floor, cells.n);
-    if is_in_cell(point.u, u0) {
+    if in_cell(point.u, u0) {
         if let DiagonalCell::Cell(u, v) = try_cell(point, u0, v0) {
             return DiagonalCell::Cell(u, v);
         }
@@ -103,7 +103,7 @@ pub fn diagonal_cell_at(cells: Cells, point: ParamPoint) -> DiagonalCell
             return DiagonalCell::Cell(u, v);
         }
     }
-    if is_in_cell(point.v, v0) {
+    if in_cell(point.v, v0) {
         if let DiagonalCell::Cell(u, v) = try_cell(point, u1, v0) {
             return DiagonalCell::Cell(u, v);
         }

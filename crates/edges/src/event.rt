@@ -9,8 +9,8 @@ use param::Axis;
 use param::Cells;
 use param::Leg;
 use param::ParamPoint;
-use param::is_within;
 use param::param_in_bounds;
+use param::within;
 ghost use mathlib.Core.Path.{_≡_};
 ghost use Rattle.edges.specs.Near.{normalizeLambda};
 ghost use Rattle.edges.specs.Events.{edgeAtPoint, endCandidate, lambdaAt, onLine, lineAt, lineCandidate};
@@ -80,24 +80,24 @@ pub fn end_candidate(lambda: f64, at: EdgeAtPoint) -> Candidate
 pub fn normalize_lambda(lambda: f64) -> NormalizedLambda
     ensures { λ r. ⌜ r ≡ normalizeLambda lambda ⌝ }
 {
-    if is_within(lambda, 1.0) {
+    if within(lambda, 1.0) {
         return NormalizedLambda::Lambda(clamp(lambda, 0.0, 1.0));
     }
     NormalizedLambda::Outside
 }
 
-// Where an axis that goes from `start` by `change` comes to `step`.
-fn lambda_at(step: usize, start: f64, change: f64) -> NormalizedLambda
-    ensures { λ r. ⌜ r ≡ lambdaAt step start change ⌝ }
+// Where what goes from `start` by `change` comes to `end`.
+fn lambda_at(end: f64, start: f64, change: f64) -> NormalizedLambda
+    ensures { λ r. ⌜ r ≡ lambdaAt end start change ⌝ }
 {
-    normalize_lambda((to_f64(step) - start) / change)
+    normalize_lambda((end - start) / change)
 }
 
 // An event on a line of so many steps, where it is within EPS of the line.
 fn on_line(x: f64, steps: usize, event: EdgeEvent) -> Candidate
     ensures { λ r. ⌜ r ≡ onLine x steps event ⌝ }
 {
-    if is_within(x, to_f64(steps)) {
+    if within(x, to_f64(steps)) {
         return Candidate::Event(event);
     }
     Candidate::NoEvent
@@ -118,7 +118,8 @@ pub fn line_candidate(axis: Axis, cells: Cells, leg: Leg, step: usize) -> Candid
     ensures { λ r. ⌜ r ≡ lineCandidate axis cells leg step ⌝ }
 {
     let start = leg.a.along(axis);
-    let NormalizedLambda::Lambda(lambda) = lambda_at(step, start, leg.b.along(axis) - start) else {
+    let change = leg.b.along(axis) - start;
+    let NormalizedLambda::Lambda(lambda) = lambda_at(to_f64(step), start, change) else {
         return Candidate::NoEvent;
     };
     let point = leg.at(lambda);
@@ -137,7 +138,7 @@ pub fn diagonal_candidate(cells: Cells, leg: Leg, sum: usize) -> Candidate
     ensures { λ r. ⌜ r ≡ diagonalCandidate cells leg sum ⌝ }
 {
     let change = leg.b.u - leg.a.u + (leg.b.v - leg.a.v);
-    let NormalizedLambda::Lambda(lambda) = lambda_at(sum, leg.a.u + leg.a.v, change) else {
+    let NormalizedLambda::Lambda(lambda) = lambda_at(to_f64(sum), leg.a.u + leg.a.v, change) else {
         return Candidate::NoEvent;
     };
     let point = leg.at(lambda);

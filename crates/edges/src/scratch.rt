@@ -14,13 +14,12 @@ ghost use lib.ListN.{length, getD, take};
 ghost use lib.Ieee.{nan};
 ghost use Rattle.basics.specs.Lists.{putAt};
 ghost use Rattle.float.specs.Order.{totalOrder};
-ghost use Rattle.param.specs.Param.{cells};
-ghost use Rattle.edges.specs.Events.{precedes, insert, pushed, unique, Inside, IfEvent};
-ghost use Rattle.edges.specs.Scratch.{codeOf, edgeOf, eventOf, eventsIn, PlaceOf, Storable, Sorted};
+ghost use Rattle.edges.specs.Events.{precedes, insert, pushed, unique, IfEvent};
+ghost use Rattle.edges.specs.Scratch.{Codable, codeOf, edgeOf, eventOf, eventsIn, PlaceOf, Storable, Sorted};
 
 // A side as one number.
 fn code_of(edge: ParamEdge) -> u32
-    requires { ⌜ Inside (cells 255 255) edge ⌝ }
+    requires { ⌜ Codable edge ⌝ }
     ensures { λ r. ⌜ r ≡ codeOf edge ⌝ }
 {
     match edge {

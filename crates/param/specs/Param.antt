@@ -24,16 +24,16 @@ abbrev pub cells : ℕ → ℕ → Cells
 cells m n = record { m = m; n = n }
 
 -- from a towards b by t: a + (b − a)·t, which at 1 need not be b
-abbrev pub between : Float → Float → Float → Float
-between a b t = add binary64 a (mul binary64 (sub binary64 b a) t)
+abbrev pub towards : Float → Float → Float → Float
+towards a b t = add binary64 a (mul binary64 (sub binary64 b a) t)
 
 -- the same of u and of v
 abbrev pub lerp : ParamPoint → ParamPoint → Float → ParamPoint
-lerp a b t = param (between (a .u) (b .u) t) (between (a .v) (b .v) t)
+lerp a b t = param (towards (a .u) (b .u) t) (towards (a .v) (b .v) t)
 
 -- Rules 6.2: the point of a leg at lambda t
-abbrev pub onLeg : Leg → Float → ParamPoint
-onLeg l t = lerp (l .a) (l .b) t
+abbrev pub legAt : Leg → Float → ParamPoint
+legAt l t = lerp (l .a) (l .b) t
 
 -- the coordinate on an axis, and the one on the other axis
 abbrev pub along : Axis → ParamPoint → Float

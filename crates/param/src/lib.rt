@@ -2,7 +2,7 @@
 use float::cast::to_f64;
 use float::consts::EPS;
 ghost use mathlib.Core.Path.{_≡_};
-ghost use Rattle.param.specs.Param.{lerp, along, across, onLeg, stepsOn, stepsOff, within, paramInBounds};
+ghost use Rattle.param.specs.Param.{lerp, along, across, legAt, stepsOn, stepsOff, within, paramInBounds};
 
 // A point of the plane (Rules 6.1).
 #[repr(C)]
@@ -63,7 +63,7 @@ impl ParamPoint {
 impl Leg {
     // The point at `lambda`, which runs from 0 at a to 1 at b.
     pub fn at(self, lambda: f64) -> ParamPoint
-        ensures { λ r. ⌜ r ≡ onLeg self lambda ⌝ }
+        ensures { λ r. ⌜ r ≡ legAt self lambda ⌝ }
     {
         let a = self.a;
         a.lerp(self.b, lambda)
@@ -93,7 +93,7 @@ impl Cells {
 }
 
 // From -EPS to top + EPS: never so for a NaN.
-pub fn is_within(x: f64, top: f64) -> bool
+pub fn within(x: f64, top: f64) -> bool
     ensures { λ r. ⌜ r ≡ within x top ⌝ }
 {
     (-EPS <= x) & (x <= top + EPS)
@@ -103,5 +103,5 @@ pub fn is_within(x: f64, top: f64) -> bool
 pub fn param_in_bounds(cells: Cells, point: ParamPoint) -> bool
     ensures { λ r. ⌜ r ≡ paramInBounds cells point ⌝ }
 {
-    is_within(point.u, to_f64(cells.m)) & is_within(point.v, to_f64(cells.n))
+    within(point.u, to_f64(cells.m)) & within(point.v, to_f64(cells.n))
 }

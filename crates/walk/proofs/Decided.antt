@@ -7,7 +7,7 @@ use Rattle.float.specs.Consts.{eps}
 use Rattle.param.specs.declared.ParamPoint.{ParamPoint}
 use Rattle.param.specs.declared.Cells.{Cells}
 use Rattle.param.specs.declared.Leg.{Leg}
-use Rattle.param.specs.Param.{onLeg, paramInBounds}
+use Rattle.param.specs.Param.{legAt, paramInBounds}
 use Rattle.edges.specs.declared.event.EdgeEvent.{EdgeEvent}
 use Rattle.crossing.specs.declared.Crossing.{Crossing}
 use Rattle.crossing.specs.declared.EdgePoint.{EdgePoint}
@@ -20,16 +20,16 @@ use Rattle.walk.specs.Walk.{middle, beforeInside, afterInside, pushOf, d
 -- ---- inside before and after
 
 module _ (k : Cells) (l : Leg) (x y : Float) {p : ParamPoint} {r : Bool} where
-  pub before-far : lt (add binary64 x eps) y ≡ true → p ≡ onLeg l (middle x y) → r ≡ paramInBounds k p →
+  pub before-far : lt (add binary64 x eps) y ≡ true → p ≡ legAt l (middle x y) → r ≡ paramInBounds k p →
       r ≡ beforeInside k l x y
   unfolding beforeInside
   before-far h ep er = rw (er, ep, h)
 
-  pub before-near : lt (add binary64 x eps) y ≡ false → p ≡ onLeg l y → r ≡ paramInBounds k p → r ≡ beforeInside k l x y
+  pub before-near : lt (add binary64 x eps) y ≡ false → p ≡ legAt l y → r ≡ paramInBounds k p → r ≡ beforeInside k l x y
   unfolding beforeInside
   before-near h ep er = rw (er, ep, h)
 
-  pub after-far : lt (add binary64 x eps) y ≡ true → p ≡ onLeg l (middle x y) → r ≡ paramInBounds k p →
+  pub after-far : lt (add binary64 x eps) y ≡ true → p ≡ legAt l (middle x y) → r ≡ paramInBounds k p →
       r ≡ afterInside k l x y
   unfolding afterInside
   after-far h ep er = rw (er, ep, h)
@@ -49,7 +49,7 @@ module _ (g : List Float) (k : Cells) (l : Leg) (previous : Float) (e : EdgeEven
     unfolding decide
     passes h = rw (← eb, ← ea, h)
 
-    module _ (h : (before || after) ≡ true) {x : ParamPoint} (ex : x ≡ onLeg l (e .lambda)) {p : EdgePoint}
+    module _ (h : (before || after) ≡ true) {x : ParamPoint} (ex : x ≡ legAt l (e .lambda)) {p : EdgePoint}
         (ep : p ≡ edgePoint g k (e .edge) x) where
       decided : decide g k l previous e next ≡ record { point = pushOf p; inside = after }
       unfolding decide

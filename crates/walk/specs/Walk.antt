@@ -7,7 +7,7 @@ use Rattle.refusal.specs.declared.Refusal.the-variants as refusals
 use Rattle.float.specs.Consts.{eps, zero64, one64, half64}
 use Rattle.param.specs.declared.Cells.{Cells}
 use Rattle.param.specs.declared.Leg.{Leg}
-use Rattle.param.specs.Param.{onLeg, paramInBounds}
+use Rattle.param.specs.Param.{legAt, paramInBounds}
 use Rattle.edges.specs.declared.event.EdgeEvent.{EdgeEvent}
 use Rattle.edges.specs.Events.{sortedEdgeEvents}
 use Rattle.crossing.specs.declared.Crossing.{Crossing}
@@ -28,15 +28,15 @@ middle x y = mul binary64 (add binary64 x y) half64
 unfoldable pub beforeInside : Cells → Leg → Float → Float → Bool
 beforeInside k l previous x =
     cond (lt (add binary64 previous eps) x)
-    (paramInBounds k (onLeg l (middle previous x)))
-    (paramInBounds k (onLeg l x))
+    (paramInBounds k (legAt l (middle previous x)))
+    (paramInBounds k (legAt l x))
 
 -- it is inside after an event at x: its middle up to `next`, the lambda of the next event, is within EPS of the grid;
 -- where x plus EPS is not below `next`, b is asked instead
 unfoldable pub afterInside : Cells → Leg → Float → Float → Bool
 afterInside k l x next =
     cond (lt (add binary64 x eps) next)
-    (paramInBounds k (onLeg l (middle x next)))
+    (paramInBounds k (legAt l (middle x next)))
     (paramInBounds k (l .b))
 
 -- what becomes of an event's point; Rules 7.4: 11 where `step_index` has no answer for it
@@ -50,7 +50,7 @@ decide g k l previous e next =
     let before = beforeInside k l previous (e .lambda) in
     let after = afterInside k l (e .lambda) next in
     record {
-      point = cond (before || after) (pushOf (edgePoint g k (e .edge) (onLeg l (e .lambda)))) Pass;
+      point = cond (before || after) (pushOf (edgePoint g k (e .edge) (legAt l (e .lambda)))) Pass;
       inside = after;
     }
 

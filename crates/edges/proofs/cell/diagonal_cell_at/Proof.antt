@@ -48,7 +48,7 @@ before-none c =
     let p = started e .args .point in
     let u0 = e .before .before .before .index-before .result in
     ⊎-elim (λ w. (sym (w .1 .ensures) ∙ w .3 .given .1, sym (w .4 .ensures) ∙ w .6 .given .1))
-    (λ w. let out = sym (c .before .is-in-cell .ensures) ∙ w .left in
+    (λ w. let out = sym (c .before .in-cell .ensures) ∙ w .left in
     (not-in-u p u0 (e .before .index-before2 .result) out, not-in-u p u0 (e .index-of2 .result) out)) (c .if1 .came)
 
 returns : tie.Need-returns
@@ -77,7 +77,7 @@ returns-4 c =
     let v0 = e .before .index-before2 .result in
     let out =
     ⊎-elim (λ w. sym (w .1 .ensures) ∙ w .3 .given .1)
-    (λ w. not-in-v (started e .args .point) u1 v0 (sym (c .before .before .is-in-cell2 .ensures) ∙ w .left))
+    (λ w. not-in-v (started e .args .point) u1 v0 (sym (c .before .before .in-cell2 .ensures) ∙ w .left))
     (c .before .if2 .came) in
     fourth-left (cells e) (before-none j) out (c .try-cell4 .ensures)
 

@@ -1,5 +1,6 @@
 -- `edges::event::line_candidate` meets its contract: where there is a lambda, `on_line` decides at the point there.
 use mathlib.Core.Path.{_≡_}
+use Rattle.float.specs.Cast.{natFloat}
 use Rattle.param.specs.Param.{along}
 use Rattle.edges.specs.Events.{lambdaAt, change}
 use Rattle.edges.proofs.Candidates.{line-off, line-on}
@@ -9,14 +10,14 @@ use Rattle.edges.proofs.event.line_candidate.Tie as tie
 
 -- the start, from where the lambda is found; and where the point is known, from the last test
 abbrev started : tie.After-lambda-at → tie.Start
-started l = l .before .before .before
+started l = l .before .before .before .before
 
 abbrev pointed : tie.After-on-line → tie.After-at
 pointed o = o .before .before .before .before
 
 -- the lambda that was found is the line's
 found : (l : tie.After-lambda-at) → let a = started l .args in
-    l .lambda-at .result ≡ lambdaAt (a .step) (along (a .axis) (a .leg .a)) (change (a .axis) (a .leg))
+    l .lambda-at .result ≡ lambdaAt (natFloat (a .step)) (along (a .axis) (a .leg .a)) (change (a .axis) (a .leg))
 found l = cc
 
 returns : tie.Need-returns
@@ -39,6 +40,7 @@ pub line-candidate-spec : {M : Type 1} → statement M
 line-candidate-spec =
     tie.close
     (tie.spec
+    (λ c κs. search needs)
     (λ c κs. search needs)
     (λ c κs. search needs)
     (λ c κs. search needs)

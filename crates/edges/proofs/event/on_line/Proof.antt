@@ -6,8 +6,8 @@ use borrow.Author.Needs.{needs}
 use Rattle.edges.proofs.event.on_line.Statement.{statement}
 use Rattle.edges.proofs.event.on_line.Tie as tie
 
-test : (c : tie.After-is-within) → within (c .before .before .args .x) (natFloat (c .before .before .args .steps))
-    ≡ c .is-within .result
+test : (c : tie.After-within) → within (c .before .before .args .x) (natFloat (c .before .before .args .steps))
+    ≡ c .within .result
 test c = cc
 
 returns : tie.Need-returns

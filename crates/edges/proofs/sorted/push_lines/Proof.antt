@@ -5,7 +5,7 @@ use Prim.Native.Nat.{_-_}
 use lib.Ieee.{lt}
 use Rattle.float.specs.Consts.{eps}
 use Rattle.basics.proofs.Tests.{held, failed}
-use Rattle.edges.specs.Events.{change, lineCandidate, moves, lines, sortInto}
+use Rattle.edges.specs.Events.{change, lineCandidate, changes, lines, sortInto}
 use Rattle.edges.specs.Scratch.{eventsIn, Storable}
 use Rattle.edges.proofs.Storable.{line-storable}
 use Rattle.edges.proofs.Gather.{if-event, push-yes, push-no, Gathering, gather-turn, gather-ends, lines-none}
@@ -36,9 +36,9 @@ told e = e .before .before .before
 abbrev inserted : tie.After-slice-known4 Inv-loop μ-loop → tie.After-insert-event Inv-loop μ-loop
 inserted e = e .before .before .before .before
 
--- what is tested is whether the axis moves
+-- what is tested is whether the axis changes
 test : (e : tie.After-abs Inv-loop μ-loop) → let a = started e .args in
-    lt eps (e .abs .result) ≡ moves (change (a .axis) (a .leg))
+    lt eps (e .abs .result) ≡ changes (change (a .axis) (a .leg))
 test e = cc
 
 returns : tie.Need-returns Inv-loop μ-loop
