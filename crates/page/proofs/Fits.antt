@@ -9,7 +9,6 @@ use lib.Dec.{ltb, leb}
 use lib.ListN.{length, length-set}
 use lib.Ieee.{Float}
 use borrow.Author.Tests.{ltb-true}
-use Rattle.float.specs.Consts.{eps}
 use Rattle.refusal.specs.declared.Refusal.the-variants.{Full}
 use Rattle.lent.specs.Lent.{afterwards}
 use Rattle.lent.proofs.After.{same-answer, same-lists}
@@ -61,6 +60,7 @@ flush-fits g h = go (leb (g .pen .start + 2) (g .pen .count)) (ltb (g .pen .line
     go false b = (omega arith, omega arith)
 
 -- whatever the moves
-pub moves-fit : (ms : List (Move Crossing)) (g : Page) → Fitting g → Fits (onPage ms g)
-moves-fit ms g h =
-    run-keeps Any Fits (pushPage eps) flushPage (λ k g h. tt) (λ c a. push-fits eps c) flush-fits (any-pushed ms) g h
+pub moves-fit : (tolerance : Float) (ms : List (Move Crossing)) (g : Page) → Fitting g → Fits (onPage tolerance ms g)
+moves-fit tolerance ms g h =
+    run-keeps Any Fits (pushPage tolerance) flushPage (λ k g h. tt) (λ c a. push-fits tolerance c) flush-fits
+    (any-pushed ms) g h

@@ -2,10 +2,10 @@
 -- follows it.
 use Prim.Native.Nat.{ℕ}
 use native.Mathlib.Omega.{arith}
-use mathlib.Core.Path.{_≡_, refl}
+use mathlib.Core.Path.{_≡_}
 use mathlib.Core.List.{List, [], _∷_, _++_}
+use lib.Ieee.{Float}
 use Rattle.refusal.specs.declared.Refusal.{Refusal}
-use Rattle.float.specs.Consts.{eps}
 use Rattle.lent.specs.Lent.{afterwards}
 use Rattle.lent.proofs.After.{same-answer, same-lists}
 use Rattle.crossing.specs.declared.Crossing.{Crossing}
@@ -37,11 +37,13 @@ module _ (x : Outcome Page) (k : Page → Outcome Page) {r : Penned} {l : Lists}
 
 -- ---- moves on a page
 
-pub page-append : (ms ns : List (Move Crossing)) (w : Page) → onPage (ms ++ ns) w ≡ follow (onPage ms w) (onPage ns)
-page-append = run-append (pushPage eps) flushPage
+module _ (tolerance : Float) where
+  pub page-append : (ms ns : List (Move Crossing)) (w : Page) →
+      onPage tolerance (ms ++ ns) w ≡ follow (onPage tolerance ms w) (onPage tolerance ns)
+  page-append = run-append (pushPage tolerance) flushPage
 
-pub page-none : (w : Page) → onPage [] w ≡ on w
-page-none = run-none (pushPage eps) flushPage
+  pub page-none : (w : Page) → onPage tolerance [] w ≡ on w
+  page-none = run-none (pushPage tolerance) flushPage
 
-pub page-one : (x : Move Crossing) (w : Page) → onPage (x ∷ []) w ≡ move (pushPage eps) flushPage x w
-page-one = run-one (pushPage eps) flushPage
+  pub page-one : (x : Move Crossing) (w : Page) → onPage tolerance (x ∷ []) w ≡ move (pushPage tolerance) flushPage x w
+  page-one = run-one (pushPage tolerance) flushPage

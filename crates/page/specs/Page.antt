@@ -9,7 +9,6 @@ use lib.Dec.{ltb, leb}
 use lib.ListN.{length, set}
 use lib.Ieee.{Float}
 use Rattle.refusal.specs.declared.Refusal.the-variants.{Full}
-use Rattle.float.specs.Consts.{eps}
 use Rattle.lent.specs.Lent.{Afterwards, afterwards}
 use Rattle.vector.specs.Vectors.{allClose}
 use Rattle.grid.specs.Grid.{pointAt}
@@ -100,9 +99,9 @@ flushPage g =
     (cond (ltb (g .pen .lines) (length (g .lists .starts))) (on (kept g)) (off Full g))
     (on (dropped g))
 
--- moves in order, on a page, where close means by EPS
-abbrev pub onPage : List (Move Crossing) → Page → Outcome Page
-onPage = run (pushPage eps) flushPage
+-- moves in order, on a page, where close means by a tolerance
+abbrev pub onPage : Float → List (Move Crossing) → Page → Outcome Page
+onPage tolerance = run (pushPage tolerance) flushPage
 
 -- ---- what a function says of it: its answer, and the lists afterwards
 

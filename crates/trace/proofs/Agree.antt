@@ -9,7 +9,7 @@ use native.Mathlib.Omega.{arith}
 use lib.Dec.{ltb, leb}
 use lib.ListN.{length}
 use lib.Ieee.{Float}
-use Rattle.float.specs.Consts.{eps, zero64}
+use Rattle.float.specs.Consts.{zero64}
 use Rattle.refusal.specs.declared.Refusal.the-variants.{Full}
 use Rattle.lent.specs.Lent.{filled, zeroedFrom, afterwards}
 use Rattle.lent.proofs.Laws.{zeroed-filled}
@@ -49,13 +49,13 @@ first-shows l =
     }
 
 -- both, from the first move to the last
-moves-related : (l : Lists) (ms : List (Move Crossing)) →
-    Related (Shows l) (SizedPage l) (onPage ms (firstPage l)) (draw (roomIn l) ms nothingDrawn)
-moves-related l ms =
-    run-related Any (Shows l) (SizedPage l) (pushPage eps) flushPage (pushSegmentPoint eps (roomIn l))
+moves-related : (tolerance : Float) (l : Lists) (ms : List (Move Crossing)) →
+    Related (Shows l) (SizedPage l) (onPage tolerance ms (firstPage l)) (draw tolerance (roomIn l) ms nothingDrawn)
+moves-related tolerance l ms =
+    run-related Any (Shows l) (SizedPage l) (pushPage tolerance) flushPage (pushSegmentPoint tolerance (roomIn l))
     (flushSegment (roomIn l))
     (λ s t r. r .sized)
-    (λ c good s t r. push-related l s t r eps c)
+    (λ c good s t r. push-related l s t r tolerance c)
     (λ s t r. flush-related l s t r)
     (any-pushed ms) (firstPage l) nothingDrawn (first-shows l)
 
@@ -79,15 +79,17 @@ follow-ends : (x : Outcome Drawing) (k : Drawing → Outcome Drawing) → ((d : 
 follow-ends (on d) k h = h d
 follow-ends (off r d) k h = tt
 
-trace-flushed : (room : Room) (g : List Float) (k : Cells) (xs : List Sample) (p : Previous) (d : Drawing) →
-    NonePending (draw room (traceMoves g k xs p) d)
-unfolding traceMoves
-trace-flushed room g k [] p d = rw (run-one (pushSegmentPoint eps room) (flushSegment room) flush d) (flush-ends room d)
-trace-flushed room g k (x ∷ xs) p d =
-    rw (run-append (pushSegmentPoint eps room) (flushSegment room) (visitMoves g k (visitOf p x))
-    (traceMoves g k xs (afterSample x)) d)
-    (follow-ends (draw room (visitMoves g k (visitOf p x)) d) (draw room (traceMoves g k xs (afterSample x)))
-    (trace-flushed room g k xs (afterSample x)))
+module _ (tolerance : Float) (room : Room) (g : List Float) (k : Cells) where
+  trace-flushed : (xs : List Sample) (p : Previous) (d : Drawing) →
+      NonePending (draw tolerance room (traceMoves g k xs p) d)
+  unfolding traceMoves
+  trace-flushed [] p d =
+      rw (run-one (pushSegmentPoint tolerance room) (flushSegment room) flush d) (flush-ends room d)
+  trace-flushed (x ∷ xs) p d =
+      let first = visitMoves g k (visitOf p x) in
+      let others = traceMoves g k xs (afterSample x) in
+      rw (run-append (pushSegmentPoint tolerance room) (flushSegment room) first others d)
+      (follow-ends (draw tolerance room first d) (draw tolerance room others) (trace-flushed xs (afterSample x)))
 
 -- what the open call is left to do: zero each list past its count
 abbrev pub zeroedPast : ℕ → ℕ → Lists → Lists
@@ -135,9 +137,10 @@ ended l (both-off {s = g} h) e u =
     rw (same-answer u, same-lists u, points, starts, sides, fractions)
 
 -- THE LAW: from what the inner walk ensures to what the open call promises
-pub trace-ends : (l : Lists) (g : List Float) (k : Cells) (xs : List Sample) (p : Previous) {r : Penned} {m : Lists}
-    → afterwards r m ≡ pageAfter (onPage (traceMoves g k xs p) (firstPage l))
+pub trace-ends : (tolerance : Float) (l : Lists) (g : List Float) (k : Cells) (xs : List Sample) (p : Previous)
+    {r : Penned} {m : Lists} → afterwards r m ≡ pageAfter (onPage tolerance (traceMoves g k xs p) (firstPage l))
     → afterwards (statedTrace (answerOf r)) (zeroedPast (countIn r) (linesIn r) m)
-    ≡ finished (draw (roomIn l) (traceMoves g k xs p) nothingDrawn) l
-trace-ends l g k xs p u =
-    ended l (moves-related l (traceMoves g k xs p)) (trace-flushed (roomIn l) g k xs p nothingDrawn) u
+    ≡ finished (draw tolerance (roomIn l) (traceMoves g k xs p) nothingDrawn) l
+trace-ends tolerance l g k xs p u =
+    ended l (moves-related tolerance l (traceMoves g k xs p))
+    (trace-flushed tolerance (roomIn l) g k xs p nothingDrawn) u

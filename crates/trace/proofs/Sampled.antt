@@ -47,18 +47,19 @@ module _ (p : Previous) (k : ℕ) (b : ParamPoint) where
   visit-first e q = simp (ne-eqb k 0 e) (rw q)
 
 -- what is done for a sample, by what it is
-module _ (g : List Float) (k : Cells) (w : Page) {v : Visit} where
+module _ (tolerance : Float) (g : List Float) (k : Cells) (w : Page) {v : Visit} where
   pub sample-break : v ≡ Break → {r : Penned} {l : Lists} → afterwards r l ≡ pageAfter (flushPage w) →
-      afterwards r l ≡ pageAfter (onPage (visitMoves g k v) w)
-  sample-break e u = rw (e, page-one flush w) u
+      afterwards r l ≡ pageAfter (onPage tolerance (visitMoves g k v) w)
+  sample-break e u = rw (e, page-one tolerance flush w) u
 
   pub sample-leg : {l : Leg} → v ≡ Along l → {r : Penned} {m : Lists} →
-      afterwards r m ≡ pageAfter (onPage (legMoves g k l) w) →
-      afterwards r m ≡ pageAfter (onPage (visitMoves g k v) w)
+      afterwards r m ≡ pageAfter (onPage tolerance (legMoves g k l) w) →
+      afterwards r m ≡ pageAfter (onPage tolerance (visitMoves g k v) w)
   sample-leg e u = rw e u
 
-  pub sample-first : v ≡ First → afterwards (Down (w .pen)) (w .lists) ≡ pageAfter (onPage (visitMoves g k v) w)
-  sample-first e = rw (e, page-none w)
+  pub sample-first : v ≡ First →
+      afterwards (Down (w .pen)) (w .lists) ≡ pageAfter (onPage tolerance (visitMoves g k v) w)
+  sample-first e = rw (e, page-none tolerance w)
 
 -- ---- the list of samples
 
@@ -81,23 +82,23 @@ samples-at (k ∷ ks) (u ∷ (v ∷ ps)) (suc i) z h t =
     let q : 2 * suc i + 1 ≡ suc (suc (2 * i + 1)) = omega arith in
     rw (q, e) (samples-at ks ps i z (omega arith) (omega arith))
 
-module _ (g : List Float) (k : Cells) (ks : List ℕ) (ps : List Float) where
+module _ (tolerance : Float) (g : List Float) (k : Cells) (ks : List ℕ) (ps : List Float) where
   -- what is left of the trace: the samples from i on, with p before them
   abbrev left : ℕ → Previous → Page → Outcome Page
-  left i p = onPage (traceMoves g k (drop i (samplesOf ks ps)) p)
+  left i p = onPage tolerance (traceMoves g k (drop i (samplesOf ks ps)) p)
 
   module _ (i : ℕ) (h : length ps ≡ 2 * length ks) where
     pub trace-flushes : (p : Previous) (w : Page) → length ks ≤ i → left i p w ≡ flushPage w
     unfolding traceMoves
     trace-flushes p w t =
         let past : length (samplesOf ks ps) ≤ i = omega (arith, samples-length ks ps h) in
-        rw (drop-of-length-le (samplesOf ks ps) past) (page-one flush w)
+        rw (drop-of-length-le (samplesOf ks ps) past) (page-one tolerance flush w)
 
     module _ (p : Previous) (w : Page) (t : i < length ks) {b : ParamPoint} {v : Visit}
         (eb : b ≡ param (getD ps (2 * i) nan) (getD ps (2 * i + 1) nan)) (ev : v ≡ visitOf p (sampleAt (getD ks i 0) b))
       where
         abbrev here : Outcome Page
-        here = onPage (visitMoves g k v) w
+        here = onPage tolerance (visitMoves g k v) w
 
         abbrev after : Previous
         after = afterSample (sampleAt (getD ks i 0) b)
@@ -109,7 +110,7 @@ module _ (g : List Float) (k : Cells) (ks : List ℕ) (ps : List Float) where
             let there : i < length (samplesOf ks ps) = omega (arith, samples-length ks ps h) in
             let first : drop i (samplesOf ks ps) ≡ sampleAt (getD ks i 0) b ∷ drop (i + 1) (samplesOf ks ps) =
             rw (add-one i, drop-cons (samplesOf ks ps) i z there, samples-at ks ps i z h t, eb) in
-            rw (first, ev) (page-append _ _ w)
+            rw (first, ev) (page-append tolerance _ _ w)
 
         module _ {z : Outcome Page} (ez : z ≡ left i p w) {r : Penned} {l : Lists}
             (u : afterwards r l ≡ pageAfter here) where

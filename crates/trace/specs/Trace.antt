@@ -5,7 +5,7 @@ use Prim.Native.Nat.{ℕ, _*_}
 use lib.Dec.{eqb, leb}
 use lib.ListN.{length}
 use lib.Ieee.{Float, binary64, ofBits}
-use Rattle.float.specs.Consts.{zero64}
+use Rattle.float.specs.Consts.{eps, zero64}
 use Rattle.float.specs.Sign.{atMost}
 use Rattle.refusal.specs.declared.Check.{Check}
 use Rattle.refusal.specs.declared.Check.the-variants.{Passed}
@@ -87,9 +87,10 @@ listsWith cs ss l =
 
 -- ---- the call
 
--- the moves of all samples, with nothing before the first, drawn
-abbrev pub drawingOf : List Float → ℕ → ℕ → List Float → List ℕ → Room → Outcome Drawing
-drawingOf g m n pairs marks room = draw room (traceMoves g (cells m n) (samplesOf marks pairs) Nowhere) nothingDrawn
+-- the moves of all samples, with nothing before the first, drawn, where close means by a tolerance
+abbrev pub drawingOf : Float → List Float → ℕ → ℕ → List Float → List ℕ → Room → Outcome Drawing
+drawingOf tolerance g m n pairs marks room =
+    draw tolerance room (traceMoves g (cells m n) (samplesOf marks pairs) Nowhere) nothingDrawn
 
 -- Rules 8.2, 8.3: the counts and the lists; 11 and 12 leave every place zero
 abbrev pub finished : Outcome Drawing → Lists → Afterwards (Answer Counts) Lists
@@ -97,7 +98,12 @@ finished (on d) l =
     afterwards (ok (counts (length (d .drawn)) (length (d .starts)))) (listsWith (d .drawn) (d .starts) l)
 finished (off k d) l = afterwards (refused (numberOf k)) (listsWith [] [] l)
 
--- the open call: refusals 1 to 10 leave the lists as they were
-unfoldable pub traceFlat : List Float → ℕ → ℕ → List Float → List ℕ → Lists → Afterwards (Answer Counts) Lists
-traceFlat g m n pairs marks l =
-    ifPassed (traceCheck g m n pairs marks) l (finished (drawingOf g m n pairs marks (roomIn l)) l)
+-- the trace: refusals 1 to 10 leave the lists as they were
+unfoldable pub traceWithin : Float → List Float → ℕ → ℕ → List Float → List ℕ → Lists →
+    Afterwards (Answer Counts) Lists
+traceWithin tolerance g m n pairs marks l =
+    ifPassed (traceCheck g m n pairs marks) l (finished (drawingOf tolerance g m n pairs marks (roomIn l)) l)
+
+-- the open call: close means by EPS
+abbrev pub traceFlat : List Float → ℕ → ℕ → List Float → List ℕ → Lists → Afterwards (Answer Counts) Lists
+traceFlat = traceWithin eps

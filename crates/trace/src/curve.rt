@@ -10,6 +10,7 @@ ghost use Prim.Native.Nat.{_+_, _*_, _≤_};
 ghost use mathlib.Core.Path.{_≡_};
 ghost use lib.ListN.{length, getD};
 ghost use lib.Ieee.{nan};
+ghost use Rattle.float.specs.Consts.{eps};
 ghost use Rattle.lent.specs.Lent.{afterwards};
 ghost use Rattle.param.specs.Param.{param};
 ghost use Rattle.crossing.specs.Crossing.{GridFits};
@@ -84,7 +85,7 @@ fn trace_sample(
     requires { ⌜ PenFits (now points) pen ⌝ }
     ensures { λ r. ⌜ afterwards r
         (lists (now (points .exit)) (now (starts .exit)) (now (sides .exit)) (now (fractions .exit)))
-        ≡ pageAfter (onPage (visitMoves (now (grid .entry)) cells visit)
+        ≡ pageAfter (onPage eps (visitMoves (now (grid .entry)) cells visit)
         (page (lists (now (points .entry)) (now (starts .entry)) (now (sides .entry)) (now (fractions .entry)))
         pen)) ⌝ }
 {
@@ -122,7 +123,7 @@ pub fn trace_parametric_edge_curve(
     requires { ⌜ (length (now pairs) ≡ 2 * length (now marks)) × (length (now marks) ≤ 65537) ⌝ }
     ensures { λ r. ⌜ afterwards r
         (lists (now (points .exit)) (now (starts .exit)) (now (sides .exit)) (now (fractions .exit)))
-        ≡ pageAfter (onPage (traceMoves (now (grid .entry)) cells
+        ≡ pageAfter (onPage eps (traceMoves (now (grid .entry)) cells
         (samplesOf (now (marks .entry)) (now (pairs .entry))) Previous.Nowhere)
         (page (lists (now (points .entry)) (now (starts .entry)) (now (sides .entry)) (now (fractions .entry)))
         (penAt 0 0 0))) ⌝ }

@@ -72,19 +72,19 @@ follow-follow : {S : Type 0} (x : Outcome S) (h k : S → Outcome S) →
 follow-follow (on s) h k = refl
 follow-follow (off r s) h k = refl
 
-module _ (g : List Float) (k : Cells) (l : Leg) where
+module _ (tolerance : Float) (g : List Float) (k : Cells) (l : Leg) where
   -- the line's end where the leg leaves the grid
   abbrev ending : Page → Outcome Page
-  ending = onPage (endMoves (paramInBounds k (l .b)))
+  ending = onPage tolerance (endMoves (paramInBounds k (l .b)))
 
   -- the events es, after one at `previous`, and the end
   abbrev pub left : List EdgeEvent → Float → Page → Outcome Page
-  left es previous w = follow (onPage (eventsMoves g k l previous es) w) ending
+  left es previous w = follow (onPage tolerance (eventsMoves g k l previous es) w) ending
 
   pub leg-starts : (w : Page) {es : List EdgeEvent} → es ≡ sortedEdgeEvents k l →
-      onPage (legMoves g k l) w ≡ left es zero64 w
+      onPage tolerance (legMoves g k l) w ≡ left es zero64 w
   unfolding legMoves
-  leg-starts w e = rw e (page-append _ _ w)
+  leg-starts w e = rw e (page-append tolerance _ _ w)
 
   module _ (ls : List Float) (cs : List ℕ) (count i : ℕ) (h : count ≤ length ls) (s : length ls ≡ length cs) where
     -- the events from i on
@@ -94,7 +94,8 @@ module _ (g : List Float) (k : Cells) (l : Leg) where
     pub leg-ends : (previous : Float) (w : Page) → count ≤ i →
         left (rest i) previous w ≡ cond (paramInBounds k (l .b)) (on w) (flushPage w)
     unfolding eventsMoves
-    leg-ends previous w t = rw (ended ls cs count i h s t, page-none w) (end-run (paramInBounds k (l .b)) w)
+    leg-ends previous w t =
+        rw (ended ls cs count i h s t, page-none tolerance w) (end-run tolerance (paramInBounds k (l .b)) w)
 
     module _ (t : i < count) (previous : Float) (w : Page) {v : EdgeEvent} {x : Float} {d : Decision}
         (ev : v ≡ eventOf (getD ls i nan) (getD cs i 0))
@@ -102,13 +103,13 @@ module _ (g : List Float) (k : Cells) (l : Leg) where
       where
         -- the event at i
         abbrev here : Outcome Page
-        here = onPage (movesOf d) w
+        here = onPage tolerance (movesOf d) w
 
         turn : left (rest i) previous w ≡ follow here (left (rest (i + 1)) (v .lambda))
         unfolding eventsMoves
         turn =
             let first : rest i ≡ v ∷ rest (i + 1) = rw ev (next-event ls cs count i s h t) in
-            rw (first, next-is ls cs count (i + 1) h s ex, ← ed, page-append) (follow-follow here _ ending)
+            rw (first, next-is ls cs count (i + 1) h s ex, ← ed, page-append tolerance) (follow-follow here _ ending)
 
         module _ {z : Outcome Page} (ez : z ≡ left (rest i) previous w) {r : Penned} {m : Lists}
             (u : afterwards r m ≡ pageAfter here) where

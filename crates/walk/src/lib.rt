@@ -20,7 +20,7 @@ ghost use mathlib.Core.Path.{_≡_};
 ghost use lib.Dec.{ltb};
 ghost use lib.ListN.{length, getD};
 ghost use lib.Ieee.{nan};
-ghost use Rattle.float.specs.Consts.{one64};
+ghost use Rattle.float.specs.Consts.{eps, one64};
 ghost use Rattle.lent.specs.Lent.{afterwards};
 ghost use Rattle.edges.specs.Events.{Inside};
 ghost use Rattle.crossing.specs.Crossing.{GridFits};
@@ -109,7 +109,7 @@ fn draw_event(
     requires { ⌜ PenFits (now points) pen ⌝ }
     ensures { λ r. ⌜ afterwards r
         (lists (now (points .exit)) (now (starts .exit)) (now (sides .exit)) (now (fractions .exit)))
-        ≡ pageAfter (onPage (movesOf decision)
+        ≡ pageAfter (onPage eps (movesOf decision)
         (page (lists (now (points .entry)) (now (starts .entry)) (now (sides .entry)) (now (fractions .entry)))
         pen)) ⌝ }
 {
@@ -154,7 +154,7 @@ pub fn append_edge_crossings(
     requires { ⌜ PenFits (now points) pen ⌝ }
     ensures { λ r. ⌜ afterwards r
         (lists (now (points .exit)) (now (starts .exit)) (now (sides .exit)) (now (fractions .exit)))
-        ≡ pageAfter (onPage (legMoves (now (grid .entry)) cells leg)
+        ≡ pageAfter (onPage eps (legMoves (now (grid .entry)) cells leg)
         (page (lists (now (points .entry)) (now (starts .entry)) (now (sides .entry)) (now (fractions .entry)))
         pen)) ⌝ }
 {

@@ -5,7 +5,7 @@ use mathlib.Core.Path.{_≡_, _∙_}
 use native.Mathlib.Omega.{arith}
 use denote.Ref.{now}
 use lib.ListN.{length, drop}
-use Rattle.float.specs.Consts.{zero64}
+use Rattle.float.specs.Consts.{eps, zero64}
 use Rattle.edges.specs.Scratch.{eventsIn}
 use Rattle.page.specs.Page.{lists, page, onPage, PenFits}
 use Rattle.page.proofs.Fits.{fits-down, moves-fit}
@@ -21,8 +21,9 @@ Inv-loop lambdas codes grid cells leg points₀ starts₀ sides₀ fractions₀ 
     (i ≤ count) × (length points ≡ length points₀) × (length starts ≡ length starts₀) × (length sides ≡ length sides₀)
     × (length fractions ≡ length fractions₀)
     × PenFits points pen
-    × (left grid cells leg (eventsIn lambdas codes count) zero64 (page (lists points₀ starts₀ sides₀ fractions₀) pen₀)
-    ≡ left grid cells leg (drop i (eventsIn lambdas codes count)) previous
+    × (left eps grid cells leg (eventsIn lambdas codes count) zero64
+    (page (lists points₀ starts₀ sides₀ fractions₀) pen₀)
+    ≡ left eps grid cells leg (drop i (eventsIn lambdas codes count)) previous
     (page (lists points starts sides fractions) pen))
 
 abbrev μ-loop : tie.MeasureT-loop
@@ -93,11 +94,11 @@ alike l =
 whole : (l : tie.At-loop Inv-loop μ-loop) → let a = started l .args in
     let w = page (lists (now (a .points)) (now (a .starts)) (now (a .sides)) (now (a .fractions))) (a .pen) in
     let o = sorted l .sorted-edge-events in
-    onPage (legMoves (now (a .grid)) (a .cells) (a .leg)) w
-    ≡ left (now (a .grid)) (a .cells) (a .leg) (eventsIn (o .last .0) (o .last .1 .0) (o .result)) zero64 w
+    onPage eps (legMoves (now (a .grid)) (a .cells) (a .leg)) w
+    ≡ left eps (now (a .grid)) (a .cells) (a .leg) (eventsIn (o .last .0) (o .last .1 .0) (o .result)) zero64 w
 whole l =
     let a = started l .args in
-    leg-starts (now (a .grid)) (a .cells) (a .leg)
+    leg-starts eps (now (a .grid)) (a .cells) (a .leg)
     (page (lists (now (a .points)) (now (a .starts)) (now (a .sides)) (now (a .fractions))) (a .pen))
     (sorted l .sorted-edge-events .ensures .1)
 
@@ -127,7 +128,7 @@ returns c =
     let l = looping d in
     let a = started l .args in
     let o = sorted l .sorted-edge-events in
-    turn-stops (now (a .grid)) (a .cells) (a .leg) (o .last .0) (o .last .1 .0) (o .result) (l .loop .i) (below l)
+    turn-stops eps (now (a .grid)) (a .cells) (a .leg) (o .last .0) (o .last .1 .0) (o .result) (l .loop .i) (below l)
     (alike l) (looped e .loop-test .taken) _ _
     (e .before .before .before .event-at .ensures) (e .before .lambda-or-one .ensures) (e .decide .ensures)
     (whole l ∙ l .loop .inv .6) (d .draw-event .ensures) (c .before .refusal .given .1)
@@ -154,9 +155,9 @@ loop-again c =
       omega (arith, starts-kept c .starts .given, l .loop .inv .2),
       omega (arith, sides-kept c .sides .given, l .loop .inv .3),
       omega (arith, fractions-kept c .fractions .given, l .loop .inv .4),
-      fits-down (onPage (movesOf (e .decide .result)) w) (d .draw-event .ensures) (c .before .drawn .given .1)
-          (moves-fit (movesOf (e .decide .result)) w (l .loop .inv .5)),
-      turn-goes (now (a .grid)) (a .cells) (a .leg) (o .last .0) (o .last .1 .0) (o .result) (l .loop .i) (below l)
+      fits-down (onPage eps (movesOf (e .decide .result)) w) (d .draw-event .ensures) (c .before .drawn .given .1)
+          (moves-fit eps (movesOf (e .decide .result)) w (l .loop .inv .5)),
+      turn-goes eps (now (a .grid)) (a .cells) (a .leg) (o .last .0) (o .last .1 .0) (o .result) (l .loop .i) (below l)
           (alike l) (looped e .loop-test .taken) _ _
           (e .before .before .before .event-at .ensures) (e .before .lambda-or-one .ensures) (e .decide .ensures)
           (l .loop .inv .6) (d .draw-event .ensures) (c .before .drawn .given .1),
@@ -173,7 +174,7 @@ returns-2 c =
     let a = started l .args in
     let o = sorted l .sorted-edge-events in
     rw (
-      whole l ∙ l .loop .inv .6 ∙ leg-ends (now (a .grid)) (a .cells) (a .leg) (o .last .0) (o .last .1 .0)
+      whole l ∙ l .loop .inv .6 ∙ leg-ends eps (now (a .grid)) (a .cells) (a .leg) (o .last .0) (o .last .1 .0)
           (o .result) (l .loop .i) (below l) (alike l) _ _ (b .before .loop-test .left),
       ← b .param-in-bounds .ensures,
     )

@@ -41,14 +41,14 @@ returns c =
     let d = f .before .before .before in
     let p = pushed d in
     let s = started (pointed p .before .before) in
-    draws-point (s .args .decision) (lent s) (pointed p .point .given .1)
+    draws-point eps (s .args .decision) (lent s) (pointed p .point .given .1)
     (p .push-segment-point .ensures (now (s .args .starts))) (d .pushed .given .1) (f .flush-unless .ensures _ _ _)
 
 returns-2 : tie.Need-returns-2
 returns-2 c =
     let p = refused c in
     let s = started (pointed p .before .before) in
-    draws-full (s .args .decision) (lent s) (pointed p .point .given .1)
+    draws-full eps (s .args .decision) (lent s) (pointed p .point .given .1)
     (p .push-segment-point .ensures (now (s .args .starts))) (c .before .refusal .given .1)
 
 returns-3 : tie.Need-returns-3
@@ -56,12 +56,12 @@ returns-3 c =
     let f = c .before .before in
     let e = f .before .before in
     let s = started (e .before .before) in
-    draws-end (s .args .decision) (lent s) (e .enum-told .given .1) (f .flush-unless2 .ensures _ _ _)
+    draws-end eps (s .args .decision) (lent s) (e .enum-told .given .1) (f .flush-unless2 .ensures _ _ _)
 
 returns-4 : tie.Need-returns-4
 returns-4 c =
     let s = started (c .before .before) in
-    draws-stop (s .args .decision) (lent s) (c .enum-told2 .given .1)
+    draws-stop eps (s .args .decision) (lent s) (c .enum-told2 .given .1)
 
 pub draw-event-spec : {M : Type 1} → statement M
 draw-event-spec =

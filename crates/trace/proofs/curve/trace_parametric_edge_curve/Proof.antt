@@ -5,6 +5,7 @@ use mathlib.Core.Path.{_≡_, _∙_}
 use native.Mathlib.Omega.{arith}
 use denote.Ref.{now}
 use lib.ListN.{length, drop}
+use Rattle.float.specs.Consts.{eps}
 use Rattle.page.specs.Page.{lists, penAt, page, onPage, PenFits}
 use Rattle.page.proofs.Fits.{fits-down, moves-fit}
 use Rattle.trace.specs.declared.curve.Previous.the-variants.{Nowhere}
@@ -20,9 +21,9 @@ Inv-loop grid cells pairs marks points₀ starts₀ sides₀ fractions₀ lambda
     (i ≤ length marks) × (length points ≡ length points₀) × (length starts ≡ length starts₀)
     × (length sides ≡ length sides₀) × (length fractions ≡ length fractions₀)
     × (length lambdas ≡ 1023) × (length codes ≡ 1023) × PenFits points pen
-    × (onPage (traceMoves grid cells (samplesOf marks pairs) Nowhere)
+    × (onPage eps (traceMoves grid cells (samplesOf marks pairs) Nowhere)
     (page (lists points₀ starts₀ sides₀ fractions₀) (penAt 0 0 0))
-    ≡ onPage (traceMoves grid cells (drop i (samplesOf marks pairs)) previous)
+    ≡ onPage eps (traceMoves grid cells (drop i (samplesOf marks pairs)) previous)
     (page (lists points starts sides fractions) pen))
 
 abbrev μ-loop : tie.MeasureT-loop
@@ -73,7 +74,7 @@ returns c =
     let v = visited (t .before) in
     let l = looped v .before in
     let s = started l in
-    trace-stops (now (s .args .grid)) (s .args .cells) (now (s .args .marks)) (now (s .args .pairs)) (l .loop .i)
+    trace-stops eps (now (s .args .grid)) (s .args .cells) (now (s .args .marks)) (now (s .args .pairs)) (l .loop .i)
     (s .pre .1 .0) _ _ (looped v .loop-test .taken)
     (v .before .point-of .ensures) (v .visit-of .ensures) (l .loop .inv .8) (t .trace-sample .ensures)
     (c .before .refusal .given .1)
@@ -103,9 +104,9 @@ loop-again c =
       omega (arith, fractions-kept c .fractions .given, l .loop .inv .4),
       search needs,
       search needs,
-      fits-down (onPage ms w) (t .trace-sample .ensures) (c .before .before .traced .given .1)
-          (moves-fit ms w (l .loop .inv .7)),
-      trace-goes (now (a .grid)) (a .cells) (now (a .marks)) (now (a .pairs)) (l .loop .i) (s .pre .1 .0) _ _
+      fits-down (onPage eps ms w) (t .trace-sample .ensures) (c .before .before .traced .given .1)
+          (moves-fit eps ms w (l .loop .inv .7)),
+      trace-goes eps (now (a .grid)) (a .cells) (now (a .marks)) (now (a .pairs)) (l .loop .i) (s .pre .1 .0) _ _
           (looped v .loop-test .taken) (v .before .point-of .ensures)
           (v .visit-of .ensures) (l .loop .inv .8) (t .trace-sample .ensures) (c .before .before .traced .given .1)
           (c .after-sample .ensures),
@@ -121,7 +122,7 @@ returns-2 c =
     let l = e .before in
     let s = started l in
     let a = s .args in
-    rw (l .loop .inv .8 ∙ trace-flushes (now (a .grid)) (a .cells) (now (a .marks)) (now (a .pairs)) (l .loop .i)
+    rw (l .loop .inv .8 ∙ trace-flushes eps (now (a .grid)) (a .cells) (now (a .marks)) (now (a .pairs)) (l .loop .i)
     (s .pre .1 .0) _ _ (e .loop-test .left))
     (f .flush-segment .ensures _ _ _)
 
