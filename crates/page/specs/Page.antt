@@ -47,9 +47,13 @@ writeSide l i c = set (set l (2 * i) (c .p)) (2 * i + 1) (c .q)
 abbrev pub writeAt : ℕ → Crossing → Lists → Lists
 writeAt i c l = lists (writePoint (l .points) i c) (l .starts) (writeSide (l .sides) i c) (set (l .fractions) i (c .t))
 
+-- the same lists but the starts
+abbrev pub withStarts : List ℕ → Lists → Lists
+withStarts s l = lists (l .points) s (l .sides) (l .fractions)
+
 -- a start at its place
 abbrev pub writeStart : ℕ → ℕ → Lists → Lists
-writeStart i s l = lists (l .points) (set (l .starts) i s) (l .sides) (l .fractions)
+writeStart i s l = withStarts (set (l .starts) i s) l
 
 -- ---- for inner contracts: the lists, and where the pen stands in them
 
@@ -98,6 +102,10 @@ flushPage g =
     cond (leb (g .pen .start + 2) (g .pen .count))
     (cond (ltb (g .pen .lines) (length (g .lists .starts))) (on (kept g)) (off Full g))
     (on (dropped g))
+
+-- Rules 7.1, `flush_unless`: the pending line is flushed unless the leg is inside the grid, where it goes on
+abbrev pub flushUnless : Bool → Page → Outcome Page
+flushUnless inside g = cond inside (on g) (flushPage g)
 
 -- moves in order, on a page, where close means by a tolerance
 abbrev pub onPage : Float → List (Move Crossing) → Page → Outcome Page

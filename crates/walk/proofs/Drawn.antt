@@ -1,6 +1,6 @@
 -- What is decided of one event, done to the lists: a push and what follows it, by what the calls gave.
 use mathlib.Core.Path.{_≡_, _∙_}
-use mathlib.Core.Bool.{Bool, true, false, cond}
+use mathlib.Core.Bool.{Bool, true, false}
 use lib.Ieee.{Float}
 use Rattle.refusal.specs.declared.Refusal.{Refusal}
 use Rattle.refusal.specs.declared.Refusal.the-variants as refusals
@@ -9,8 +9,8 @@ use Rattle.crossing.specs.declared.Crossing.{Crossing}
 use Rattle.page.specs.declared.Pen.{Pen}
 use Rattle.page.specs.declared.Penned.{Penned}
 use Rattle.page.specs.declared.Penned.the-variants as penned
-use Rattle.page.specs.Moves.{push, flush, stop, Outcome, on, off, follow}
-use Rattle.page.specs.Page.{Lists, Page, page, pushPage, flushPage, onPage, pageAfter}
+use Rattle.page.specs.Moves.{push, flush, stop, Outcome, off, follow}
+use Rattle.page.specs.Page.{Lists, Page, page, pushPage, flushUnless, onPage, pageAfter}
 use Rattle.page.proofs.Follow.{down, stops, page-append, page-none, page-one}
 use Rattle.walk.specs.declared.EventPoint.the-variants.{Push, Pass, Stop}
 use Rattle.walk.specs.declared.Decision.{Decision}
@@ -18,7 +18,7 @@ use Rattle.walk.specs.Walk.{pointMoves, endMoves, movesOf}
 
 -- the line's end
 pub end-run : (tolerance : Float) (inside : Bool) (w : Page) →
-    onPage tolerance (endMoves inside) w ≡ cond inside (on w) (flushPage w)
+    onPage tolerance (endMoves inside) w ≡ flushUnless inside w
 end-run tolerance true w = page-none tolerance w
 end-run tolerance false w = page-one tolerance flush w
 
@@ -31,9 +31,9 @@ module _ (tolerance : Float) (d : Decision) (w : Page) where
 
   -- no point
   pub draws-end : d .point ≡ Pass → {r : Penned} {l : Lists} →
-      afterwards r l ≡ pageAfter (cond (d .inside) (on w) (flushPage w)) → afterwards r l ≡ pageAfter done
+      afterwards r l ≡ pageAfter (flushUnless (d .inside) w) → afterwards r l ≡ pageAfter done
   draws-end e u =
-      let is : done ≡ cond (d .inside) (on w) (flushPage w) =
+      let is : done ≡ flushUnless (d .inside) w =
       parted ∙ rw (e, page-none tolerance w) (end-run tolerance (d .inside) w) in
       rw is u
 
@@ -53,10 +53,10 @@ module _ (tolerance : Float) (d : Decision) (w : Page) where
 
     -- the point is pushed
     pub draws-point : {pen : Pen} → r ≡ penned.Down pen → {r′ : Penned} {l′ : Lists} →
-        afterwards r′ l′ ≡ pageAfter (cond (d .inside) (on (page l pen)) (flushPage (page l pen))) →
+        afterwards r′ l′ ≡ pageAfter (flushUnless (d .inside) (page l pen)) →
         afterwards r′ l′ ≡ pageAfter done
     draws-point {pen} er v =
-        let is : done ≡ cond (d .inside) (on (page l pen)) (flushPage (page l pen)) =
+        let is : done ≡ flushUnless (d .inside) (page l pen) =
         after-push ∙ down (pushPage tolerance c w) ending u pen er ∙ end-run tolerance (d .inside) (page l pen) in
         rw is v
 

@@ -28,7 +28,7 @@ use Rattle.page.specs.declared.Pen.{Pen}
 use Rattle.page.specs.declared.Penned.{Penned}
 use Rattle.page.specs.declared.Penned.the-variants.{Down, Stop}
 use Rattle.page.specs.Moves.{Outcome, on, off, follow}
-use Rattle.page.specs.Page.{Lists, Page, page, flushPage, onPage, pageAfter}
+use Rattle.page.specs.Page.{Lists, Page, page, flushUnless, onPage, pageAfter}
 use Rattle.page.proofs.Follow.{down, stops, page-append, page-none}
 use Rattle.walk.specs.declared.Decision.{Decision}
 use Rattle.walk.specs.Walk.{nextLambda, decide, movesOf, endMoves, eventsMoves, legMoves}
@@ -92,7 +92,7 @@ module _ (tolerance : Float) (g : List Float) (k : Cells) (l : Leg) where
     rest j = drop j (eventsIn ls cs count)
 
     pub leg-ends : (previous : Float) (w : Page) → count ≤ i →
-        left (rest i) previous w ≡ cond (paramInBounds k (l .b)) (on w) (flushPage w)
+        left (rest i) previous w ≡ flushUnless (paramInBounds k (l .b)) w
     unfolding eventsMoves
     leg-ends previous w t =
         rw (ended ls cs count i h s t, page-none tolerance w) (end-run tolerance (paramInBounds k (l .b)) w)

@@ -7,7 +7,7 @@ use denote.Ref.{now}
 use lib.ListN.{length, drop}
 use Rattle.float.specs.Consts.{eps, zero64}
 use Rattle.edges.specs.Scratch.{eventsIn}
-use Rattle.page.specs.Page.{lists, page, onPage, PenFits}
+use Rattle.page.specs.Page.{lists, Page, page, onPage, PenFits}
 use Rattle.page.proofs.Fits.{fits-down, moves-fit}
 use Rattle.walk.specs.Walk.{movesOf, legMoves}
 use Rattle.walk.proofs.Walked.{left, event-inside, leg-inside, leg-starts, leg-ends, turn-goes, turn-stops}
@@ -47,6 +47,14 @@ decided d = d .before .before .before .before .before
 
 abbrev looping : tie.After-draw-event Inv-loop μ-loop → tie.At-loop Inv-loop μ-loop
 looping d = looped (decided d) .before
+
+-- the lists and the pen as they were lent, and as they stand at the loop
+abbrev lent : tie.Start Inv-loop μ-loop → Page
+lent s =
+    let a = s .args in page (lists (now (a .points)) (now (a .starts)) (now (a .sides)) (now (a .fractions))) (a .pen)
+
+abbrev held : tie.At-loop Inv-loop μ-loop → Page
+held l = let o = l .loop in page (lists (o .points) (o .starts) (o .sides) (o .fractions)) (o .pen)
 
 -- where the scratch lists stand, from the loop
 abbrev lambdas-kept : tie.At-loop Inv-loop μ-loop → tie.After-lambdas Inv-loop μ-loop
@@ -92,15 +100,13 @@ alike l =
 
 -- the whole leg is what is left of it before the first event
 whole : (l : tie.At-loop Inv-loop μ-loop) → let a = started l .args in
-    let w = page (lists (now (a .points)) (now (a .starts)) (now (a .sides)) (now (a .fractions))) (a .pen) in
+    let w = lent (started l) in
     let o = sorted l .sorted-edge-events in
     onPage eps (legMoves (now (a .grid)) (a .cells) (a .leg)) w
     ≡ left eps (now (a .grid)) (a .cells) (a .leg) (eventsIn (o .last .0) (o .last .1 .0) (o .result)) zero64 w
 whole l =
     let a = started l .args in
-    leg-starts eps (now (a .grid)) (a .cells) (a .leg)
-    (page (lists (now (a .points)) (now (a .starts)) (now (a .sides)) (now (a .fractions))) (a .pen))
-    (sorted l .sorted-edge-events .ensures .1)
+    leg-starts eps (now (a .grid)) (a .cells) (a .leg) (lent (started l)) (sorted l .sorted-edge-events .ensures .1)
 
 decide-requires : tie.Need-decide-requires Inv-loop μ-loop
 decide-requires c κs =
@@ -145,7 +151,7 @@ loop-again c =
     let l = looping d in
     let a = started l .args in
     let o = sorted l .sorted-edge-events in
-    let w = page (lists (l .loop .points) (l .loop .starts) (l .loop .sides) (l .loop .fractions)) (l .loop .pen) in (
+    let w = held l in (
       omega (arith, looped e .loop-test .taken),
       omega (
         arith,
@@ -178,7 +184,7 @@ returns-2 c =
           (o .result) (l .loop .i) (below l) (alike l) _ _ (b .before .loop-test .left),
       ← b .param-in-bounds .ensures,
     )
-    (f .flush-unless .ensures _ _ _)
+    (f .flush-unless .ensures (held l .lists))
 
 pub append-edge-crossings-spec : {M : Type 1} → statement M
 append-edge-crossings-spec =

@@ -6,7 +6,7 @@ use native.Mathlib.Omega.{arith}
 use denote.Ref.{now}
 use lib.ListN.{length, drop}
 use Rattle.float.specs.Consts.{eps}
-use Rattle.page.specs.Page.{lists, penAt, page, onPage, PenFits}
+use Rattle.page.specs.Page.{lists, penAt, Page, page, onPage, PenFits}
 use Rattle.page.proofs.Fits.{fits-down, moves-fit}
 use Rattle.trace.specs.declared.curve.Previous.the-variants.{Nowhere}
 use Rattle.trace.specs.Curve.{samplesOf, visitMoves, traceMoves}
@@ -41,6 +41,10 @@ visited t = t .before .before .before .before .before .before
 
 abbrev looped : tie.After-visit-of Inv-loop μ-loop → tie.In-loop Inv-loop μ-loop
 looped v = v .before .before .before
+
+-- the lists and the pen as they stand at the loop
+abbrev held : tie.At-loop Inv-loop μ-loop → Page
+held l = let o = l .loop in page (lists (o .points) (o .starts) (o .sides) (o .fractions)) (o .pen)
 
 -- the place where a sample is refused, and where the trace goes on after it
 abbrev refused : tie.After-known-told2 Inv-loop μ-loop → tie.After-trace-sample Inv-loop μ-loop
@@ -92,7 +96,7 @@ loop-again c =
     let s = started l in
     let a = s .args in
     let ms = visitMoves (now (a .grid)) (a .cells) (v .visit-of .result) in
-    let w = page (lists (l .loop .points) (l .loop .starts) (l .loop .sides) (l .loop .fractions)) (l .loop .pen) in (
+    let w = held l in (
       omega (arith, looped v .loop-test .taken),
       omega (arith, points-kept c .points .given, l .loop .inv .1),
       omega (
@@ -124,7 +128,7 @@ returns-2 c =
     let a = s .args in
     rw (l .loop .inv .8 ∙ trace-flushes eps (now (a .grid)) (a .cells) (now (a .marks)) (now (a .pairs)) (l .loop .i)
     (s .pre .1 .0) _ _ (e .loop-test .left))
-    (f .flush-segment .ensures _ _ _)
+    (f .flush-segment .ensures (held l .lists))
 
 pub trace-parametric-edge-curve-spec : {M : Type 1} → statement M
 trace-parametric-edge-curve-spec =

@@ -26,7 +26,8 @@ returns : tie.Need-returns
 returns c =
     let f = c .before .before in
     let e = f .before .before in
-    sample-break eps _ _ (lent (started (e .before .before))) (e .enum-told .given .1) (f .flush-segment .ensures _ _ _)
+    let w = lent (started (e .before .before)) in
+    sample-break eps _ _ w (e .enum-told .given .1) (f .flush-segment .ensures (w .lists))
 
 returns-2 : tie.Need-returns-2
 returns-2 c =
