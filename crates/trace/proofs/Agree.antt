@@ -1,7 +1,7 @@
 -- The lists filled in place and the moves drawn agree: the page shows the drawing from the first move to the last,
 -- since each push and each flush leaves it so. A trace ends with a flush, so nothing is pending, and the lists,
 -- zeroed past the counts, are those of `finished`.
-use mathlib.Core.Path.{_≡_, refl, ap, _∙_}
+use mathlib.Core.Path.{_≡_, refl, ap}
 use mathlib.Core.Bool.{Bool, true, false, cond}
 use mathlib.Core.List.{List, [], _∷_, _++_, append-nil}
 use Prim.Native.Nat.{ℕ, _*_}
@@ -24,10 +24,10 @@ use Rattle.trace.specs.declared.curve.Previous.{Previous}
 use Rattle.trace.specs.Curve.{Sample, afterSample, visitOf, visitMoves, traceMoves}
 use Rattle.trace.specs.Drawing.{Drawing, drawing, nothingDrawn, Room, roomIn, pushSegmentPoint, flushSegment}
 use Rattle.trace.specs.Drawing.{draw}
-use Rattle.trace.specs.Trace.{statedTrace, pointOf, sideOf, fractionOf, inTurn, finished}
+use Rattle.trace.specs.Trace.{statedTrace, pointOf, sideOf, fractionOf, inTurn, listsWith, finished}
 use Rattle.trace.specs.Ended.{countIn, linesIn, answerOf}
 use Rattle.trace.proofs.Turns.{Holds, length-turn}
-use Rattle.trace.proofs.Shown.{Sized, SizedPage, all, Shows, push-related, flush-related}
+use Rattle.trace.proofs.Shown.{Sized, SizedPage, all, Fronts, none-held, Shows, push-related, flush-related}
 use Rattle.trace.proofs.Keeps.{Holding}
 
 abbrev pub firstPage : Lists → Page
@@ -35,17 +35,13 @@ firstPage l = page l (penAt 0 0 0)
 
 -- before the first move nothing is shown
 first-shows : (l : Lists) → Shows l (firstPage l) nothingDrawn
-unfolding inTurn
 first-shows l =
     record {
       sized = record { points = refl; starts = refl; sides = refl; fractions = refl };
       start = refl;
       count = refl;
       lines = refl;
-      points = refl;
-      sides = refl;
-      fractions = refl;
-      starts = refl;
+      fronts = none-held l;
     }
 
 -- both, from the first move to the last
@@ -105,36 +101,35 @@ zeroed-turn z w f wide l lent cs k s h e =
     let n : length (inTurn f cs) ≡ w * length cs = length-turn w f wide cs in
     rw (e, ← n) (zeroed-filled z (inTurn f cs) l lent s (rw n h))
 
--- what the walk in place leaves, where the page shows a drawing in which nothing is pending
+-- lists whose fronts hold these points and starts, zeroed past them
+zeroed-past : (l m : Lists) (cs : List Crossing) (ss : List ℕ) (count lines : ℕ) → Sized l m → Fronts m cs ss →
+    count ≡ length cs → lines ≡ length ss → zeroedPast count lines m ≡ listsWith cs ss l
+zeroed-past l m cs ss count lines z h n k =
+    let points =
+    zeroed-turn zero64 3 pointOf (λ c. refl) (m .points) (l .points) cs (3 * count) (z .points) (h .points)
+    (omega arith) in
+    let starts : zeroedFrom 0 lines (m .starts) ≡ filled 0 ss (l .starts) =
+    rw k (zeroed-filled 0 ss (m .starts) (l .starts) (z .starts) (h .starts)) in
+    let sides =
+    zeroed-turn 0 2 sideOf (λ c. refl) (m .sides) (l .sides) cs (2 * count) (z .sides) (h .sides) (omega arith) in
+    let fractions =
+    zeroed-turn zero64 1 fractionOf (λ c. refl) (m .fractions) (l .fractions) cs count (z .fractions) (h .fractions)
+    (omega arith) in
+    rw (points, starts, sides, fractions)
+
+-- what the walk in place leaves, where the page shows a drawing in which nothing is pending; nothing, if it was refused
 ended : (l : Lists) {x : Outcome Page} {y : Outcome Drawing} → Related (Shows l) (SizedPage l) x y → NonePending y →
     {r : Penned} {m : Lists} → afterwards r m ≡ pageAfter x
     → afterwards (statedTrace (answerOf r)) (zeroedPast (countIn r) (linesIn r) m) ≡ finished y l
 ended l (both-on {s = g} {t = d} h) e u =
     let all-drawn : all d ≡ d .drawn = rw e (append-nil (d .drawn)) in
     let n : g .pen .count ≡ length (d .drawn) = omega (arith, h .count, ap length e) in
-    let points =
-    zeroed-turn zero64 3 pointOf (λ c. refl) (g .lists .points) (l .points) (d .drawn) (3 * g .pen .count)
-    (h .sized .points) (rw all-drawn at (h .points)) (omega arith) in
-    let starts : zeroedFrom 0 (g .pen .lines) (g .lists .starts) ≡ filled 0 (d .starts) (l .starts) =
-    rw (h .lines) (zeroed-filled 0 (d .starts) (g .lists .starts) (l .starts) (h .sized .starts) (h .starts)) in
-    let sides =
-    zeroed-turn 0 2 sideOf (λ c. refl) (g .lists .sides) (l .sides) (d .drawn) (2 * g .pen .count)
-    (h .sized .sides) (rw all-drawn at (h .sides)) (omega arith) in
-    let fractions =
-    zeroed-turn zero64 1 fractionOf (λ c. refl) (g .lists .fractions) (l .fractions) (d .drawn) (g .pen .count)
-    (h .sized .fractions) (rw all-drawn at (h .fractions)) (omega arith) in
-    rw (same-answer u, same-lists u, points, starts, sides, fractions, n, h .lines)
+    let zeroed =
+    zeroed-past l (g .lists) (d .drawn) (d .starts) (g .pen .count) (g .pen .lines) (h .sized)
+    (rw all-drawn at (h .fronts)) n (h .lines) in
+    rw (same-answer u, same-lists u, zeroed, n, h .lines)
 ended l (both-off {s = g} h) e u =
-    let points =
-    zeroed-turn zero64 3 pointOf (λ c. refl) (g .lists .points) (l .points) [] 0 (h .points)
-    (unfold inTurn in refl) refl in
-    let starts = zeroed-filled 0 [] (g .lists .starts) (l .starts) (h .starts) refl in
-    let sides =
-    zeroed-turn 0 2 sideOf (λ c. refl) (g .lists .sides) (l .sides) [] 0 (h .sides) (unfold inTurn in refl) refl in
-    let fractions =
-    zeroed-turn zero64 1 fractionOf (λ c. refl) (g .lists .fractions) (l .fractions) [] 0 (h .fractions)
-    (unfold inTurn in refl) refl in
-    rw (same-answer u, same-lists u, points, starts, sides, fractions)
+    rw (same-answer u, same-lists u, zeroed-past l (g .lists) [] [] 0 0 h (none-held (g .lists)) refl refl)
 
 -- THE LAW: from what the inner walk ensures to what the open call promises
 pub trace-ends : (tolerance : Float) (l : Lists) (g : List Float) (k : Cells) (xs : List Sample) (p : Previous)
