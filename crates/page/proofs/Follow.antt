@@ -14,7 +14,7 @@ use Rattle.page.specs.declared.Penned.{Penned}
 use Rattle.page.specs.declared.Penned.the-variants.{Down, Stop}
 use Rattle.page.specs.Moves.{Move, Outcome, on, off, follow, move}
 use Rattle.page.specs.Page.{Lists, Page, page, pushPage, flushPage, onPage, pageAfter}
-use Rattle.page.proofs.Moves.{run-append, run-none, run-one}
+use Rattle.page.proofs.Moves.{run-append, run-none, run-one, Holding}
 
 module _ (x : Outcome Page) (k : Page → Outcome Page) {r : Penned} {l : Lists} (h : afterwards r l ≡ pageAfter x) where
   -- what follows an outcome that goes on
@@ -34,6 +34,17 @@ module _ (x : Outcome Page) (k : Page → Outcome Page) {r : Penned} {l : Lists}
       go : (y : Outcome Page) → afterwards r l ≡ pageAfter y → afterwards (Stop n) l ≡ pageAfter (follow y k)
       go (on g) u = let z : _≡_ {A = ℕ} 0 1 = cc (same-answer u) in absurd (omega arith)
       go (off m g) u = rw (← e) u
+
+-- what is said of the page of an outcome that goes on, of the lists and the pen that its function hands back
+pub down-holds : (P : Page → Type 0) (x : Outcome Page) {r : Penned} {l : Lists} {pen : Pen} →
+    afterwards r l ≡ pageAfter x → r ≡ Down pen → Holding P x → P (page l pen)
+down-holds P x {r} {l} {pen} u e h = go x u h
+  where
+    go : (y : Outcome Page) → afterwards r l ≡ pageAfter y → Holding P y → P (page l pen)
+    go (on g) u h =
+        let p : g .pen ≡ pen = cc (same-answer u) in
+        rw (← p, same-lists u) h
+    go (off k g) u h = let z : _≡_ {A = ℕ} 0 1 = cc (same-answer u) in absurd (omega arith)
 
 -- ---- moves on a page
 

@@ -19,7 +19,8 @@ use Rattle.crossing.specs.declared.Crossing.{Crossing}
 use Rattle.page.specs.declared.Penned.{Penned}
 use Rattle.page.specs.Moves.{Move, flush, Outcome, on, off, follow}
 use Rattle.page.specs.Page.{Lists, lists, Page, penAt, page, pushPage, flushPage, onPage, pageAfter}
-use Rattle.page.proofs.Moves.{run-append, run-one, Any, any-pushed, Related, both-on, both-off, run-related}
+use Rattle.page.proofs.Moves.{run-append, run-one, Holding, Related, both-on, both-off, run-related}
+use Rattle.page.proofs.Fits.{Sized, SizedPage, same-size}
 use Rattle.trace.specs.declared.curve.Previous.{Previous}
 use Rattle.trace.specs.Curve.{Sample, afterSample, visitOf, visitMoves, traceMoves}
 use Rattle.trace.specs.Drawing.{Drawing, drawing, nothingDrawn, Room, roomIn, pushSegmentPoint, flushSegment}
@@ -27,8 +28,7 @@ use Rattle.trace.specs.Drawing.{draw}
 use Rattle.trace.specs.Trace.{statedTrace, pointOf, sideOf, fractionOf, inTurn, listsWith, finished}
 use Rattle.trace.specs.Ended.{countIn, linesIn, answerOf}
 use Rattle.trace.proofs.Turns.{Holds, length-turn}
-use Rattle.trace.proofs.Shown.{Sized, SizedPage, all, Fronts, none-held, Shows, push-related, flush-related}
-use Rattle.trace.proofs.Keeps.{Holding}
+use Rattle.trace.proofs.Shown.{all, Fronts, none-held, Shows, push-related, flush-related}
 
 abbrev pub firstPage : Lists → Page
 firstPage l = page l (penAt 0 0 0)
@@ -37,7 +37,7 @@ firstPage l = page l (penAt 0 0 0)
 first-shows : (l : Lists) → Shows l (firstPage l) nothingDrawn
 first-shows l =
     record {
-      sized = record { points = refl; starts = refl; sides = refl; fractions = refl };
+      sized = same-size l;
       start = refl;
       count = refl;
       lines = refl;
@@ -48,12 +48,12 @@ first-shows l =
 moves-related : (tolerance : Float) (l : Lists) (ms : List (Move Crossing)) →
     Related (Shows l) (SizedPage l) (onPage tolerance ms (firstPage l)) (draw tolerance (roomIn l) ms nothingDrawn)
 moves-related tolerance l ms =
-    run-related Any (Shows l) (SizedPage l) (pushPage tolerance) flushPage (pushSegmentPoint tolerance (roomIn l))
+    run-related (Shows l) (SizedPage l) (pushPage tolerance) flushPage (pushSegmentPoint tolerance (roomIn l))
     (flushSegment (roomIn l))
     (λ s t r. r .sized)
-    (λ c good s t r. push-related l s t r tolerance c)
+    (λ c s t r. push-related l s t r tolerance c)
     (λ s t r. flush-related l s t r)
-    (any-pushed ms) (firstPage l) nothingDrawn (first-shows l)
+    ms (firstPage l) nothingDrawn (first-shows l)
 
 -- a trace ends with a flush, so nothing is pending
 abbrev NonePending : Outcome Drawing → Type 0

@@ -34,6 +34,7 @@ use Rattle.crossing.specs.Crossing.{stepIndex, blend, crossing, onU, onV, edgeP
 use Rattle.crossing.proofs.Edges.{cell-inside}
 use Rattle.page.specs.Moves.{Outcome, on, off}
 use Rattle.page.specs.Page.{Lists}
+use Rattle.page.proofs.Moves.{Holding}
 use Rattle.walk.proofs.Walked.{leg-inside}
 use Rattle.trace.specs.declared.curve.Previous.the-variants.{Nowhere}
 use Rattle.trace.specs.Curve.{samplesOf}
@@ -41,7 +42,6 @@ use Rattle.trace.specs.Drawing.{Drawing, roomIn}
 use Rattle.trace.specs.Trace.{pointOf, sideOf, fractionOf, drawingOf, finished, traceCheck, traceWithin}
 use Rattle.trace.specs.Demand.{EachPoint, pOf, qOf, tOf, Made, OnSide, Demand3}
 use Rattle.trace.proofs.Turns.{filled-at}
-use Rattle.trace.proofs.Keeps.{Holding}
 use Rattle.trace.proofs.Pushed.{GoodEdge, GoodEvents, trace-good}
 use Rattle.trace.proofs.Drawn.{GoodDrawing, drawn-good}
 

@@ -5,9 +5,9 @@ use Rattle.basics.specs.Lists.{Each}
 use Rattle.basics.proofs.Lists.{each-append}
 use Rattle.crossing.specs.declared.Crossing.{Crossing}
 use Rattle.page.specs.Moves.{Move}
-use Rattle.page.proofs.Moves.{AllPushed}
+use Rattle.page.proofs.Moves.{AllPushed, Holding}
 use Rattle.trace.specs.Drawing.{Drawing, nothingDrawn, Room, draw}
-use Rattle.trace.proofs.Keeps.{Holding, draw-keeps}
+use Rattle.trace.proofs.Keeps.{draw-keeps}
 
 -- the kept and the pending points of a drawing are good
 pub record GoodDrawing (Good : Crossing → Type 0) (d : Drawing) : Type 0 where

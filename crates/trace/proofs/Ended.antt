@@ -17,7 +17,8 @@ use Rattle.page.specs.declared.Penned.{Penned}
 use Rattle.page.specs.declared.Penned.the-variants.{Down, Stop}
 use Rattle.page.specs.Moves.{Outcome}
 use Rattle.page.specs.Page.{Lists, lists, Page, onPage, pageAfter}
-use Rattle.page.proofs.Fits.{fits-down, moves-fit}
+use Rattle.page.proofs.Follow.{down-holds}
+use Rattle.page.proofs.Fits.{Fitting, moves-fit}
 use Rattle.trace.specs.declared.curve.Previous.the-variants.{Nowhere}
 use Rattle.trace.specs.declared.flat.Trace.{Trace}
 use Rattle.trace.specs.declared.flat.Trace.the-variants.{Refused}
@@ -55,7 +56,7 @@ module _ (tolerance : Float) (g : List Float) (m n : ℕ) (pairs : List Float) (
             let fits =
             moves-fit tolerance (traceMoves g (cells m n) (samplesOf marks pairs) Nowhere) (firstPage l)
             (omega arith, omega arith) in
-            fits-down walk u e fits .1
+            down-holds Fitting walk u e fits .1
         go (Stop k) e = omega arith
 
     -- the lists that a walk left, zeroed past its counts

@@ -10,15 +10,10 @@ use lib.Ieee.{Float}
 use borrow.Author.Tests.{leb-true}
 use Rattle.refusal.specs.declared.Refusal.the-variants.{Full}
 use Rattle.crossing.specs.declared.Crossing.{Crossing}
-use Rattle.page.specs.Moves.{Move, Outcome, on, off}
-use Rattle.page.proofs.Moves.{AllPushed, run-keeps}
+use Rattle.page.specs.Moves.{Move, on, off}
+use Rattle.page.proofs.Moves.{AllPushed, Holding, run-keeps}
 use Rattle.trace.specs.Drawing.{Drawing, drawing, nothingDrawn, Room, closeToLast, pushSegmentPoint, flushSegment}
 use Rattle.trace.specs.Drawing.{draw}
-
--- P, of what was drawn where no refusal ended it
-abbrev pub Holding : (Drawing → Type 0) → Outcome Drawing → Type 0
-Holding P (on d) = P d
-Holding P (off k d) = Unit {0}
 
 module _ (P : Drawing → Type 0) (Good : Crossing → Type 0)
     (start : P nothingDrawn)
@@ -54,5 +49,5 @@ module _ (P : Drawing → Type 0) (Good : Crossing → Type 0)
 
     pub draw-keeps : {ms : List (Move Crossing)} → AllPushed Good ms → Holding P (draw tolerance room ms nothingDrawn)
     draw-keeps good =
-        run-keeps Good (Holding P) (pushSegmentPoint tolerance room) (flushSegment room)
-        (λ k d h. tt) push-keeps flush-keeps good nothingDrawn start
+        run-keeps Good P (pushSegmentPoint tolerance room) (flushSegment room) push-keeps flush-keeps good nothingDrawn
+        start

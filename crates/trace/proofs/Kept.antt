@@ -6,9 +6,9 @@ use lib.ListN.{length, length-append}
 use lib.Ieee.{Float}
 use Rattle.crossing.specs.declared.Crossing.{Crossing}
 use Rattle.page.specs.Moves.{Move}
-use Rattle.page.proofs.Moves.{Any, any-pushed}
+use Rattle.page.proofs.Moves.{Any, any-pushed, Holding}
 use Rattle.trace.specs.Drawing.{Drawing, nothingDrawn, Room, draw}
-use Rattle.trace.proofs.Keeps.{Holding, draw-keeps}
+use Rattle.trace.proofs.Keeps.{draw-keeps}
 
 -- no line has fewer than two points: neither between two starts, nor between the last start and the count of points
 abbrev pub TwoOrMore : List ℕ → ℕ → Type 0

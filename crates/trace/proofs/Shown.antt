@@ -10,7 +10,7 @@ use native.Mathlib.Nat.{add-zero}
 use native.Mathlib.Numerals.{add-one}
 use native.Mathlib.Omega.{arith}
 use lib.Dec.{ltb, leb}
-use lib.ListN.{length, take, getD, set, length-append, length-set}
+use lib.ListN.{length, take, getD, set, length-append}
 use lib.Seq.{take-suc-set, sets}
 use lib.Ieee.{Float, nan}
 use borrow.Author.Tests.{ltb-true, lt-ltb, le-ltb, leb-true, leb-false, le-leb, lt-leb}
@@ -20,23 +20,10 @@ use Rattle.crossing.specs.declared.Crossing.{Crossing}
 use Rattle.page.specs.Page.{Lists, pointRoom, writePoint, writeSide, Page, hasRoom, closeToPending, written, pushPage}
 use Rattle.page.specs.Page.{writeAt, writeStart, kept, dropped, flushPage}
 use Rattle.page.proofs.Moves.{Related, both-on, both-off, test-related}
+use Rattle.page.proofs.Fits.{SizedPage, same-room, written-sized, kept-sized, dropped-sized}
 use Rattle.trace.specs.Drawing.{Drawing, drawing, roomIn, closeToLast, pushSegmentPoint, flushSegment}
 use Rattle.trace.specs.Trace.{pointOf, sideOf, fractionOf, inTurn}
 use Rattle.trace.proofs.Turns.{Holds, holds-front, holds-more, last-at}
-
--- the lists have the lengths that they were lent with
-pub record Sized (l m : Lists) : Type 0 where
-  pub points : length (m .points) ≡ length (l .points)
-  pub starts : length (m .starts) ≡ length (l .starts)
-  pub sides : length (m .sides) ≡ length (l .sides)
-  pub fractions : length (m .fractions) ≡ length (l .fractions)
-
-abbrev pub SizedPage : Lists → Page → Type 0
-SizedPage l g = Sized l (g .lists)
-
--- so they have room for as many points
-same-room : (l m : Lists) → Sized l m → pointRoom m ≡ pointRoom l
-same-room l m z = rw (z .points, z .sides, z .fractions)
 
 -- the points that stand in the lists: the kept ones and after them the pending ones
 abbrev pub all : Drawing → List Crossing
@@ -105,7 +92,7 @@ module _ (l : Lists) (g : Page) (d : Drawing) (h : Shows l g d) where
   unfolding dropped
   dropped-shows =
       record {
-        sized = h .sized;
+        sized = dropped-sized l g (h .sized);
         start = h .start;
         count = h .start ∙ omega arith;
         lines = h .lines;
@@ -118,13 +105,7 @@ module _ (l : Lists) (g : Page) (d : Drawing) (h : Shows l g d) where
   unfolding kept
   kept-shows k =
       record {
-        sized =
-            record {
-              points = h .sized .points;
-              starts = simp length-set (h .sized .starts);
-              sides = h .sized .sides;
-              fractions = h .sized .fractions;
-            };
+        sized = kept-sized l g (h .sized);
         start = h .count ∙ sym (length-append (d .drawn) (d .segment));
         count = h .count ∙ sym (simp length-append (omega arith));
         lines = rw length-append (omega (arith, h .lines));
@@ -247,13 +228,7 @@ module _ (l : Lists) (g : Page) (d : Drawing) (h : Shows l g d) (tolerance : Flo
       let n : g .pen .count ≡ length (all d) = h .count ∙ sym (length-append (d .drawn) (d .segment)) in
       let room = ltb-true (g .pen .count) (pointRoom (g .lists)) r in
       record {
-        sized =
-            record {
-              points = simp length-set (h .sized .points);
-              starts = h .sized .starts;
-              sides = simp length-set (h .sized .sides);
-              fractions = simp length-set (h .sized .fractions);
-            };
+        sized = written-sized l c g (h .sized);
         start = h .start;
         count = rw length-append (omega (arith, h .count));
         lines = h .lines;

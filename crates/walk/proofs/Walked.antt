@@ -27,8 +27,9 @@ use Rattle.edges.proofs.Laws.{events-inside}
 use Rattle.page.specs.declared.Pen.{Pen}
 use Rattle.page.specs.declared.Penned.{Penned}
 use Rattle.page.specs.declared.Penned.the-variants.{Down, Stop}
-use Rattle.page.specs.Moves.{Outcome, on, off, follow}
+use Rattle.page.specs.Moves.{Outcome, follow}
 use Rattle.page.specs.Page.{Lists, Page, page, flushUnless, onPage, pageAfter}
+use Rattle.page.proofs.Moves.{follow-twice}
 use Rattle.page.proofs.Follow.{down, stops, page-append, page-none}
 use Rattle.walk.specs.declared.Decision.{Decision}
 use Rattle.walk.specs.Walk.{nextLambda, decide, movesOf, endMoves, eventsMoves, legMoves}
@@ -67,11 +68,6 @@ leg-inside k l hm hn e = rw e (events-inside k l (le-trans hm (lit≤ tt)) (le-t
 
 -- ---- what is left of a leg
 
-follow-follow : {S : Type 0} (x : Outcome S) (h k : S → Outcome S) →
-    follow (follow x h) k ≡ follow x (λ s. follow (h s) k)
-follow-follow (on s) h k = refl
-follow-follow (off r s) h k = refl
-
 module _ (tolerance : Float) (g : List Float) (k : Cells) (l : Leg) where
   -- the line's end where the leg leaves the grid
   abbrev ending : Page → Outcome Page
@@ -109,7 +105,8 @@ module _ (tolerance : Float) (g : List Float) (k : Cells) (l : Leg) where
         unfolding eventsMoves
         turn =
             let first : rest i ≡ v ∷ rest (i + 1) = rw ev (next-event ls cs count i s h t) in
-            rw (first, next-is ls cs count (i + 1) h s ex, ← ed, page-append tolerance) (follow-follow here _ ending)
+            rw (first, next-is ls cs count (i + 1) h s ex, ← ed, page-append tolerance)
+            (sym (follow-twice here _ ending (λ s. refl)))
 
         module _ {z : Outcome Page} (ez : z ≡ left (rest i) previous w) {r : Penned} {m : Lists}
             (u : afterwards r m ≡ pageAfter here) where

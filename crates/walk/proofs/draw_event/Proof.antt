@@ -3,7 +3,8 @@
 use denote.Ref.{now}
 use Rattle.float.specs.Consts.{eps}
 use Rattle.page.specs.Page.{Lists, lists, Page, page, pushPage}
-use Rattle.page.proofs.Fits.{push-fits, fits-down}
+use Rattle.page.proofs.Follow.{down-holds}
+use Rattle.page.proofs.Fits.{Fitting, push-fits}
 use Rattle.walk.proofs.Drawn.{draws-end, draws-stop, draws-point, draws-full}
 use borrow.Author.Needs.{needs}
 use Rattle.walk.proofs.draw_event.Statement.{statement}
@@ -38,7 +39,7 @@ flush-unless-requires : tie.Need-flush-unless-requires
 flush-unless-requires c κs =
     let p = pushed (c .before .before) in
     let s = started (pointed p .before .before) in
-    fits-down (pushPage eps _ (lent s)) (p .push-segment-point .ensures (now (s .args .starts)))
+    down-holds Fitting (pushPage eps _ (lent s)) (p .push-segment-point .ensures (now (s .args .starts)))
     (c .before .before .pushed .given .1) (push-fits eps _ (lent s) (s .pre)) .0
 
 returns : tie.Need-returns
