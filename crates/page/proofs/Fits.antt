@@ -1,6 +1,6 @@
 -- What every move keeps of a page, since each writes a point that there is room for, or a start, or only moves counts:
 -- `PenFits`, and the lengths of the lists.
-use Prim.Native.Nat.{_+_, _≤_}
+use Prim.Native.Nat.{_+_}
 use native.Mathlib.Omega.{arith}
 use mathlib.Core.Path.{_≡_, refl}
 use mathlib.Core.Bool.{Bool, true, false, cond}
