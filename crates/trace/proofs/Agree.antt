@@ -25,9 +25,9 @@ use Rattle.trace.specs.declared.curve.Previous.{Previous}
 use Rattle.trace.specs.Curve.{Sample, afterSample, visitOf, visitMoves, traceMoves}
 use Rattle.trace.specs.Drawing.{Drawing, drawing, nothingDrawn, Room, roomIn, pushSegmentPoint, flushSegment}
 use Rattle.trace.specs.Drawing.{draw}
-use Rattle.trace.specs.Trace.{statedTrace, pointOf, sideOf, fractionOf, inTurn, listsWith, finished}
+use Rattle.trace.specs.Trace.{statedTrace, pointOf, sideOf, fractionOf, listsWith, finished}
 use Rattle.trace.specs.Ended.{countIn, linesIn, answerOf}
-use Rattle.trace.proofs.Turns.{Holds, length-turn}
+use Rattle.trace.proofs.Turns.{zeroed-turn}
 use Rattle.trace.proofs.Shown.{all, Fronts, none-held, Shows, push-related, flush-related}
 
 abbrev pub firstPage : Lists → Page
@@ -93,27 +93,19 @@ zeroedPast count lines l =
     lists (zeroedFrom zero64 (3 * count) (l .points)) (zeroedFrom 0 lines (l .starts))
     (zeroedFrom 0 (2 * count) (l .sides)) (zeroedFrom zero64 count (l .fractions))
 
--- a list whose front holds these points, zeroed past them
-zeroed-turn : {A : Type 0} (z : A) (w : ℕ) (f : Crossing → List A) (wide : (c : Crossing) → length (f c) ≡ w)
-    (l lent : List A) (cs : List Crossing) (k : ℕ)
-    → length l ≡ length lent → Holds w f l cs → k ≡ w * length cs → zeroedFrom z k l ≡ filled z (inTurn f cs) lent
-zeroed-turn z w f wide l lent cs k s h e =
-    let n : length (inTurn f cs) ≡ w * length cs = length-turn w f wide cs in
-    rw (e, ← n) (zeroed-filled z (inTurn f cs) l lent s (rw n h))
-
 -- lists whose fronts hold these points and starts, zeroed past them
 zeroed-past : (l m : Lists) (cs : List Crossing) (ss : List ℕ) (count lines : ℕ) → Sized l m → Fronts m cs ss →
     count ≡ length cs → lines ≡ length ss → zeroedPast count lines m ≡ listsWith cs ss l
 zeroed-past l m cs ss count lines z h n k =
     let points =
-    zeroed-turn zero64 3 pointOf (λ c. refl) (m .points) (l .points) cs (3 * count) (z .points) (h .points)
+    zeroed-turn 3 pointOf (λ c. refl) zero64 (m .points) (l .points) cs (3 * count) (z .points) (h .points)
     (omega arith) in
     let starts : zeroedFrom 0 lines (m .starts) ≡ filled 0 ss (l .starts) =
     rw k (zeroed-filled 0 ss (m .starts) (l .starts) (z .starts) (h .starts)) in
     let sides =
-    zeroed-turn 0 2 sideOf (λ c. refl) (m .sides) (l .sides) cs (2 * count) (z .sides) (h .sides) (omega arith) in
+    zeroed-turn 2 sideOf (λ c. refl) 0 (m .sides) (l .sides) cs (2 * count) (z .sides) (h .sides) (omega arith) in
     let fractions =
-    zeroed-turn zero64 1 fractionOf (λ c. refl) (m .fractions) (l .fractions) cs count (z .fractions) (h .fractions)
+    zeroed-turn 1 fractionOf (λ c. refl) zero64 (m .fractions) (l .fractions) cs count (z .fractions) (h .fractions)
     (omega arith) in
     rw (points, starts, sides, fractions)
 

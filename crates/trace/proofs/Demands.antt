@@ -6,7 +6,7 @@ use mathlib.Core.List.{List}
 use Prim.Native.Nat.{ℕ, _+_, _*_, _≤_, _<_}
 use native.Mathlib.Nat.{add-zero}
 use native.Mathlib.Omega.{arith}
-use lib.ListN.{length, getD}
+use lib.ListN.{getD}
 use lib.Ieee.{Float, nan}
 use Rattle.basics.proofs.Lists.{each-at, each-implies}
 use Rattle.float.specs.Consts.{eps, zero64}
@@ -17,7 +17,7 @@ use Rattle.vector.specs.Vectors.{vector}
 use Rattle.grid.specs.Grid.{pointNumber, pointAt}
 use Rattle.grid.proofs.Laws.{accepted-known, point-below}
 use Rattle.surface.specs.Surface.{Shape, GridEdge, along-u, along-v, falls, rises, StepsAround, Meets}
-use Rattle.surface.specs.Found.{surfaceOf, CoveredGrid}
+use Rattle.surface.specs.Found.{surfaceOf}
 use Rattle.surface.proofs.Demand as surface
 use Rattle.surface.proofs.Joinings.{surface-meets}
 use Rattle.param.specs.declared.Leg.{Leg}
@@ -36,13 +36,14 @@ use Rattle.page.specs.Moves.{Outcome, on, off}
 use Rattle.page.specs.Page.{Lists}
 use Rattle.page.proofs.Moves.{Holding}
 use Rattle.walk.proofs.Walked.{leg-inside}
+use Rattle.walk.proofs.Pushed.{GoodEdge, GoodEvents}
 use Rattle.trace.specs.declared.curve.Previous.the-variants.{Nowhere}
 use Rattle.trace.specs.Curve.{samplesOf}
 use Rattle.trace.specs.Drawing.{Drawing, roomIn}
 use Rattle.trace.specs.Trace.{pointOf, sideOf, fractionOf, drawingOf, finished, traceCheck, traceWithin}
 use Rattle.trace.specs.Demand.{EachPoint, pOf, qOf, tOf, Made, OnSide, Demand3}
 use Rattle.trace.proofs.Turns.{filled-at}
-use Rattle.trace.proofs.Pushed.{GoodEdge, GoodEvents, trace-good}
+use Rattle.trace.proofs.Pushed.{trace-good}
 use Rattle.trace.proofs.Drawn.{GoodDrawing, drawn-good}
 
 noCrossing : Crossing

@@ -14,7 +14,7 @@ use Rattle.lent.specs.Lent.{afterwards}
 use Rattle.param.specs.declared.ParamPoint.{ParamPoint}
 use Rattle.param.specs.declared.Cells.{Cells}
 use Rattle.param.specs.declared.Leg.{Leg}
-use Rattle.param.specs.Param.{param, leg}
+use Rattle.param.specs.Param.{leg}
 use Rattle.page.specs.declared.Pen.{Pen}
 use Rattle.page.specs.declared.Penned.{Penned}
 use Rattle.page.specs.declared.Penned.the-variants.{Down, Stop}
@@ -26,7 +26,8 @@ use Rattle.trace.specs.declared.curve.Previous.{Previous}
 use Rattle.trace.specs.declared.curve.Previous.the-variants.{At, Nowhere}
 use Rattle.trace.specs.declared.curve.Visit.{Visit}
 use Rattle.trace.specs.declared.curve.Visit.the-variants.{Break, Along, First}
-use Rattle.trace.specs.Curve.{Sample, sampleAt, sample, samplesOf, afterSample, visitOf, visitMoves, traceMoves}
+use Rattle.trace.specs.Curve.{Sample, sampleAt, sample, samplesOf, paramAt, afterSample, visitOf, visitMoves}
+use Rattle.trace.specs.Curve.{traceMoves}
 
 -- ---- one sample
 
@@ -71,7 +72,7 @@ samples-length (k ∷ ks) (u ∷ []) h = absurd (omega arith)
 samples-length (k ∷ ks) (u ∷ (v ∷ ps)) h = ap suc (samples-length ks ps (omega arith))
 
 samples-at : (ks : List ℕ) (ps : List Float) (i : ℕ) (z : Sample) → length ps ≡ 2 * length ks → i < length ks →
-    getD (samplesOf ks ps) i z ≡ sample (getD ks i 0) (getD ps (2 * i) nan) (getD ps (2 * i + 1) nan)
+    getD (samplesOf ks ps) i z ≡ sampleAt (getD ks i 0) (paramAt ps i)
 unfolding samplesOf
 samples-at [] ps i z h t = absurd (omega arith)
 samples-at (k ∷ ks) [] i z h t = absurd (omega arith)
@@ -95,7 +96,7 @@ module _ (tolerance : Float) (g : List Float) (k : Cells) (ks : List ℕ) (ps : 
         rw (drop-of-length-le (samplesOf ks ps) past) (page-one tolerance flush w)
 
     module _ (p : Previous) (w : Page) (t : i < length ks) {b : ParamPoint} {v : Visit}
-        (eb : b ≡ param (getD ps (2 * i) nan) (getD ps (2 * i + 1) nan)) (ev : v ≡ visitOf p (sampleAt (getD ks i 0) b))
+        (eb : b ≡ paramAt ps i) (ev : v ≡ visitOf p (sampleAt (getD ks i 0) b))
       where
         abbrev here : Outcome Page
         here = onPage tolerance (visitMoves g k v) w

@@ -32,7 +32,7 @@ use Rattle.page.specs.Page.{Lists, Page, page, flushUnless, onPage, pageAfter}
 use Rattle.page.proofs.Moves.{follow-twice}
 use Rattle.page.proofs.Follow.{down, stops, page-append, page-none}
 use Rattle.walk.specs.declared.Decision.{Decision}
-use Rattle.walk.specs.Walk.{nextLambda, decide, movesOf, endMoves, eventsMoves, legMoves}
+use Rattle.walk.specs.Walk.{nextLambda, decide, movesOf, endMoves, eventsMoves, legMoves, lambdaOrOne}
 use Rattle.walk.proofs.Drawn.{end-run}
 
 -- ---- events as the two scratch lists hold them
@@ -53,7 +53,7 @@ module _ (ls : List Float) (cs : List ℕ) (count i : ℕ) (h : count ≤ length
       ≤ i = omega (arith, events-length ls cs count s h) in drop-of-length-le (eventsIn ls cs count) past
 
   -- the lambda at i, or 1 past the last
-  next-is : {x : Float} → x ≡ cond (ltb i count) (getD ls i nan) one64 → nextLambda (drop i (eventsIn ls cs count)) ≡ x
+  next-is : {x : Float} → x ≡ lambdaOrOne ls count i → nextLambda (drop i (eventsIn ls cs count)) ≡ x
   next-is e = go (ltb i count) refl e
     where
       go : {x : Float} (t : Bool) → ltb i count ≡ t → x ≡ cond t (getD ls i nan) one64 →
@@ -95,7 +95,7 @@ module _ (tolerance : Float) (g : List Float) (k : Cells) (l : Leg) where
 
     module _ (t : i < count) (previous : Float) (w : Page) {v : EdgeEvent} {x : Float} {d : Decision}
         (ev : v ≡ eventOf (getD ls i nan) (getD cs i 0))
-        (ex : x ≡ cond (ltb (i + 1) count) (getD ls (i + 1) nan) one64) (ed : d ≡ decide g k l previous v x)
+        (ex : x ≡ lambdaOrOne ls count (i + 1)) (ed : d ≡ decide g k l previous v x)
       where
         -- the event at i
         abbrev here : Outcome Page

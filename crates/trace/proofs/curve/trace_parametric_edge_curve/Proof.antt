@@ -70,7 +70,7 @@ returns c =
     let s = started l in
     trace-stops eps (now (s .args .grid)) (s .args .cells) (now (s .args .marks)) (now (s .args .pairs)) (l .loop .i)
     (s .pre .1 .0) _ _ (looped v .loop-test .taken)
-    (v .before .point-of .ensures) (v .visit-of .ensures) (l .loop .inv .5) (t .trace-sample .ensures)
+    (v .before .param-at .ensures) (v .visit-of .ensures) (l .loop .inv .5) (t .trace-sample .ensures)
     (c .before .refusal .given .1)
 
 add-i : tie.Need-add-i Inv-loop μ-loop
@@ -95,7 +95,7 @@ loop-again c =
       down-holds Fitting (onPage eps ms (held l)) (t .trace-sample .ensures) (c .before .before .traced .given .1)
           (moves-fit eps ms (held l) (l .loop .inv .4)),
       trace-goes eps (now (a .grid)) (a .cells) (now (a .marks)) (now (a .pairs)) (l .loop .i) (s .pre .1 .0) _ _
-          (looped v .loop-test .taken) (v .before .point-of .ensures)
+          (looped v .loop-test .taken) (v .before .param-at .ensures)
           (v .visit-of .ensures) (l .loop .inv .5) (t .trace-sample .ensures) (c .before .before .traced .given .1)
           (c .after-sample .ensures),
     )
