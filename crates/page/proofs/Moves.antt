@@ -6,7 +6,8 @@ use mathlib.Core.List.{List, [], _∷_, _++_}
 use Rattle.refusal.specs.declared.Refusal.{Refusal}
 use Rattle.page.specs.Moves.{Move, push, flush, stop, Outcome, on, off, follow, move, run}
 
-follow-twice : {S : Type 0} (x : Outcome S) (h k : S → Outcome S) {l : S → Outcome S} →
+-- what follows an outcome, in two parts
+pub follow-twice : {S : Type 0} (x : Outcome S) (h k : S → Outcome S) {l : S → Outcome S} →
     ((s : S) → l s ≡ follow (h s) k) → follow x l ≡ follow (follow x h) k
 follow-twice (on s) h k e = e s
 follow-twice (off r s) h k e = refl
@@ -63,22 +64,27 @@ any-pushed (stop k ∷ ms) = stopping (any-pushed ms)
 
 -- ---- what a run keeps
 
--- THE LAW: what is said of an outcome, where it stays true after a good push, after a flush and at a refusal
-module _ {A S : Type 0} (P : A → Type 0) (K : Outcome S → Type 0) (p : A → S → Outcome S) (f : S → Outcome S)
-    (stops : (k : Refusal) (s : S) → K (on s) → K (off k s))
-    (pushes : (c : A) → P c → (s : S) → K (on s) → K (p c s))
-    (flushes : (s : S) → K (on s) → K (f s))
-  where
-    follow-keeps : (x : Outcome S) (k : S → Outcome S) → K x → ((s : S) → K (on s) → K (k s)) → K (follow x k)
-    follow-keeps (on s) k h e = e s h
-    follow-keeps (off r s) k h e = h
+-- P of the state of an outcome that goes on
+abbrev pub Holding : {S : Type 0} → (S → Type 0) → Outcome S → Type 0
+Holding P (on s) = P s
+Holding P (off k s) = Unit {0}
 
-    pub run-keeps : {ms : List (Move A)} → AllPushed P ms → (s : S) → K (on s) → K (run p f ms s)
+-- THE LAW: what is said of a state, where it stays true after a good push and after a flush
+module _ {A S : Type 0} (Good : A → Type 0) (P : S → Type 0) (p : A → S → Outcome S) (f : S → Outcome S)
+    (pushes : (c : A) → Good c → (s : S) → P s → Holding P (p c s))
+    (flushes : (s : S) → P s → Holding P (f s))
+  where
+    follow-keeps : (x : Outcome S) (k : S → Outcome S) → Holding P x → ((s : S) → P s → Holding P (k s)) →
+        Holding P (follow x k)
+    follow-keeps (on s) k h e = e s h
+    follow-keeps (off r s) k h e = tt
+
+    pub run-keeps : {ms : List (Move A)} → AllPushed Good ms → (s : S) → P s → Holding P (run p f ms s)
     unfolding run
     run-keeps none s h = h
     run-keeps (pushing {c} {ms} good a) s h = follow-keeps (p c s) (run p f ms) (pushes c good s h) (run-keeps a)
     run-keeps (flushing {ms} a) s h = follow-keeps (f s) (run p f ms) (flushes s h) (run-keeps a)
-    run-keeps (stopping {k} a) s h = stops k s h
+    run-keeps (stopping a) s h = tt
 
 -- ---- two states side by side
 
@@ -101,17 +107,15 @@ module _ {S T : Type 0} {R : S → T → Type 0} {Q : S → Type 0} where
   test-related true false e p q = absurd (true≢false e)
   test-related false true e p q = absurd (true≢false (sym e))
 
-module _ {A S T : Type 0} (P : A → Type 0) (R : S → T → Type 0) (Q : S → Type 0) (p : A → S → Outcome S)
-    (f : S → Outcome S) (p′ : A → T → Outcome T) (f′ : T → Outcome T)
+module _ {A S T : Type 0} (R : S → T → Type 0) (Q : S → Type 0) (p : A → S → Outcome S) (f : S → Outcome S)
+    (p′ : A → T → Outcome T) (f′ : T → Outcome T)
     (ends : (s : S) (t : T) → R s t → Q s)
-    (pushes : (c : A) → P c → (s : S) (t : T) → R s t → Related R Q (p c s) (p′ c t))
+    (pushes : (c : A) (s : S) (t : T) → R s t → Related R Q (p c s) (p′ c t))
     (flushes : (s : S) (t : T) → R s t → Related R Q (f s) (f′ t))
   where
-    pub run-related : {ms : List (Move A)} → AllPushed P ms → (s : S) (t : T) → R s t →
-        Related R Q (run p f ms s) (run p′ f′ ms t)
+    pub run-related : (ms : List (Move A)) (s : S) (t : T) → R s t → Related R Q (run p f ms s) (run p′ f′ ms t)
     unfolding run
-    run-related none s t r = both-on r
-    run-related (pushing {c} {ms} good a) s t r =
-        follow-related (run p f ms) (run p′ f′ ms) (pushes c good s t r) (run-related a)
-    run-related (flushing {ms} a) s t r = follow-related (run p f ms) (run p′ f′ ms) (flushes s t r) (run-related a)
-    run-related (stopping a) s t r = both-off (ends s t r)
+    run-related [] s t r = both-on r
+    run-related (push c ∷ ms) s t r = follow-related (run p f ms) (run p′ f′ ms) (pushes c s t r) (run-related ms)
+    run-related (flush ∷ ms) s t r = follow-related (run p f ms) (run p′ f′ ms) (flushes s t r) (run-related ms)
+    run-related (stop k ∷ ms) s t r = both-off (ends s t r)

@@ -9,7 +9,6 @@ use lib.Dec.{ltb, leb}
 use lib.ListN.{length, set}
 use lib.Ieee.{Float}
 use Rattle.refusal.specs.declared.Refusal.the-variants.{Full}
-use Rattle.float.specs.Consts.{eps}
 use Rattle.lent.specs.Lent.{Afterwards, afterwards}
 use Rattle.vector.specs.Vectors.{allClose}
 use Rattle.grid.specs.Grid.{pointAt}
@@ -48,9 +47,13 @@ writeSide l i c = set (set l (2 * i) (c .p)) (2 * i + 1) (c .q)
 abbrev pub writeAt : ℕ → Crossing → Lists → Lists
 writeAt i c l = lists (writePoint (l .points) i c) (l .starts) (writeSide (l .sides) i c) (set (l .fractions) i (c .t))
 
+-- the same lists but the starts
+abbrev pub withStarts : List ℕ → Lists → Lists
+withStarts s l = lists (l .points) s (l .sides) (l .fractions)
+
 -- a start at its place
 abbrev pub writeStart : ℕ → ℕ → Lists → Lists
-writeStart i s l = lists (l .points) (set (l .starts) i s) (l .sides) (l .fractions)
+writeStart i s l = withStarts (set (l .starts) i s) l
 
 -- ---- for inner contracts: the lists, and where the pen stands in them
 
@@ -100,9 +103,13 @@ flushPage g =
     (cond (ltb (g .pen .lines) (length (g .lists .starts))) (on (kept g)) (off Full g))
     (on (dropped g))
 
--- moves in order, on a page, where close means by EPS
-abbrev pub onPage : List (Move Crossing) → Page → Outcome Page
-onPage = run (pushPage eps) flushPage
+-- Rules 7.1, `flush_unless`: the pending line is flushed unless the leg is inside the grid, where it goes on
+abbrev pub flushUnless : Bool → Page → Outcome Page
+flushUnless inside g = cond inside (on g) (flushPage g)
+
+-- moves in order, on a page, where close means by a tolerance
+abbrev pub onPage : Float → List (Move Crossing) → Page → Outcome Page
+onPage tolerance = run (pushPage tolerance) flushPage
 
 -- ---- what a function says of it: its answer, and the lists afterwards
 

@@ -1,16 +1,14 @@
 // The lent lists as the walk fills them (Rules 7.3, 7.4): points in place, pending ones after the kept ones.
 use crossing::Crossing;
 use refusal::Refusal;
-ghost use mathlib.Core.Bool.{cond};
 ghost use mathlib.Core.Path.{_≡_};
 ghost use mathlib.Core.List.{List};
 ghost use Prim.Native.Nat.{ℕ, _+_, _*_, _≤_};
 ghost use lib.ListN.{length};
-ghost use lib.Ieee.{Float};
 ghost use Rattle.float.specs.Consts.{eps};
 ghost use Rattle.lent.specs.Lent.{afterwards};
-ghost use Rattle.page.specs.Moves.{on};
-ghost use Rattle.page.specs.Page.{lists, writeAt, page, pushPage, flushPage, pageAfter, PenFits};
+ghost use Rattle.page.specs.Page.{Lists, lists, writeAt, withStarts, page, pushPage, flushPage, flushUnless};
+ghost use Rattle.page.specs.Page.{pageAfter, PenFits};
 
 // The points written so far, where the pending line starts among them, and the lines kept.
 pub struct Pen {
@@ -86,9 +84,8 @@ pub fn push_segment_point(
 // The pending line is kept, or goes if it has fewer than two points. The lists that it leaves alone are any.
 pub fn flush_segment(starts: &mut [usize], pen: Pen) -> Penned
     requires { ⌜ pen .start ≤ pen .count ⌝ }
-    ensures { λ r. ⌜ ((points : List Float) (sides : List ℕ) (fractions : List Float) →
-        afterwards r (lists points (now (starts .exit)) sides fractions)
-        ≡ pageAfter (flushPage (page (lists points (now (starts .entry)) sides fractions) pen))) ⌝ }
+    ensures { λ r. ⌜ ((l : Lists) → afterwards r (withStarts (now (starts .exit)) l)
+        ≡ pageAfter (flushPage (page (withStarts (now (starts .entry)) l) pen))) ⌝ }
 {
     let count = pen.count;
     let start = pen.start;
@@ -114,11 +111,8 @@ pub fn flush_segment(starts: &mut [usize], pen: Pen) -> Penned
 // The same, unless the leg is inside the grid: there the line goes on.
 pub fn flush_unless(inside: bool, starts: &mut [usize], pen: Pen) -> Penned
     requires { ⌜ pen .start ≤ pen .count ⌝ }
-    ensures { λ r. ⌜ ((points : List Float) (sides : List ℕ) (fractions : List Float) →
-        afterwards r (lists points (now (starts .exit)) sides fractions)
-        ≡ pageAfter (cond inside
-        (on (page (lists points (now (starts .entry)) sides fractions) pen))
-        (flushPage (page (lists points (now (starts .entry)) sides fractions) pen)))) ⌝ }
+    ensures { λ r. ⌜ ((l : Lists) → afterwards r (withStarts (now (starts .exit)) l)
+        ≡ pageAfter (flushUnless inside (page (withStarts (now (starts .entry)) l) pen))) ⌝ }
 {
     if inside {
         return Penned::Down(pen);

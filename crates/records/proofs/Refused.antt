@@ -16,10 +16,10 @@ use Rattle.grid.specs.Grid.{stepsFit, lengthFits, gridCheck}
 use Rattle.trace.specs.declared.flat.Trace.the-variants.{Refused}
 use Rattle.lent.specs.Lent.{afterwards}
 use Rattle.page.specs.Page.{Lists}
-use Rattle.trace.specs.Trace.{statedTrace, traceCheck, traceFlat}
+use Rattle.trace.specs.Trace.{statedTrace, traceCheck, traceWithin}
 use Rattle.trace.proofs.Ended.{refused-before}
 
-module _ (g : List Float) (m n : ℕ) (pairs : List Float) (marks : List ℕ) (l : Lists) {b : Bool}
+module _ (tolerance : Float) (g : List Float) (m n : ℕ) (pairs : List Float) (marks : List ℕ) (l : Lists) {b : Bool}
     (e : b ≡ stepsFit m n) where
   wrong-steps : b ≡ false → traceCheck g m n pairs marks ≡ Failed Steps
   unfolding traceCheck gridCheck
@@ -36,9 +36,10 @@ module _ (g : List Float) (m n : ℕ) (pairs : List Float) (marks : List ℕ) (l
       go true false x y = refl
       go false c x y = refl
 
-  pub steps-refused : b ≡ false → afterwards (statedTrace (Refused Steps)) l ≡ traceFlat g m n pairs marks l
-  steps-refused f = refused-before g m n pairs marks l (sym (wrong-steps f)) refl
+  pub steps-refused : b ≡ false →
+      afterwards (statedTrace (Refused Steps)) l ≡ traceWithin tolerance g m n pairs marks l
+  steps-refused f = refused-before tolerance g m n pairs marks l (sym (wrong-steps f)) refl
 
   pub length-refused : b ≡ true → 65537 < length marks →
-      afterwards (statedTrace (Refused Length)) l ≡ traceFlat g m n pairs marks l
-  length-refused t h = refused-before g m n pairs marks l (sym (too-many t h)) refl
+      afterwards (statedTrace (Refused Length)) l ≡ traceWithin tolerance g m n pairs marks l
+  length-refused t h = refused-before tolerance g m n pairs marks l (sym (too-many t h)) refl

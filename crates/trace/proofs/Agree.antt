@@ -1,7 +1,7 @@
 -- The lists filled in place and the moves drawn agree: the page shows the drawing from the first move to the last,
 -- since each push and each flush leaves it so. A trace ends with a flush, so nothing is pending, and the lists,
 -- zeroed past the counts, are those of `finished`.
-use mathlib.Core.Path.{_≡_, refl, ap, _∙_}
+use mathlib.Core.Path.{_≡_, refl, ap}
 use mathlib.Core.Bool.{Bool, true, false, cond}
 use mathlib.Core.List.{List, [], _∷_, _++_, append-nil}
 use Prim.Native.Nat.{ℕ, _*_}
@@ -9,7 +9,7 @@ use native.Mathlib.Omega.{arith}
 use lib.Dec.{ltb, leb}
 use lib.ListN.{length}
 use lib.Ieee.{Float}
-use Rattle.float.specs.Consts.{eps, zero64}
+use Rattle.float.specs.Consts.{zero64}
 use Rattle.refusal.specs.declared.Refusal.the-variants.{Full}
 use Rattle.lent.specs.Lent.{filled, zeroedFrom, afterwards}
 use Rattle.lent.proofs.Laws.{zeroed-filled}
@@ -19,45 +19,41 @@ use Rattle.crossing.specs.declared.Crossing.{Crossing}
 use Rattle.page.specs.declared.Penned.{Penned}
 use Rattle.page.specs.Moves.{Move, flush, Outcome, on, off, follow}
 use Rattle.page.specs.Page.{Lists, lists, Page, penAt, page, pushPage, flushPage, onPage, pageAfter}
-use Rattle.page.proofs.Moves.{run-append, run-one, Any, any-pushed, Related, both-on, both-off, run-related}
+use Rattle.page.proofs.Moves.{run-append, run-one, Holding, Related, both-on, both-off, run-related}
+use Rattle.page.proofs.Fits.{Sized, SizedPage, same-size}
 use Rattle.trace.specs.declared.curve.Previous.{Previous}
 use Rattle.trace.specs.Curve.{Sample, afterSample, visitOf, visitMoves, traceMoves}
 use Rattle.trace.specs.Drawing.{Drawing, drawing, nothingDrawn, Room, roomIn, pushSegmentPoint, flushSegment}
 use Rattle.trace.specs.Drawing.{draw}
-use Rattle.trace.specs.Trace.{statedTrace, pointOf, sideOf, fractionOf, inTurn, finished}
+use Rattle.trace.specs.Trace.{statedTrace, pointOf, sideOf, fractionOf, listsWith, finished}
 use Rattle.trace.specs.Ended.{countIn, linesIn, answerOf}
-use Rattle.trace.proofs.Turns.{Holds, length-turn}
-use Rattle.trace.proofs.Shown.{Sized, SizedPage, all, Shows, push-related, flush-related}
-use Rattle.trace.proofs.Keeps.{Holding}
+use Rattle.trace.proofs.Turns.{zeroed-turn}
+use Rattle.trace.proofs.Shown.{all, Fronts, none-held, Shows, push-related, flush-related}
 
 abbrev pub firstPage : Lists → Page
 firstPage l = page l (penAt 0 0 0)
 
 -- before the first move nothing is shown
 first-shows : (l : Lists) → Shows l (firstPage l) nothingDrawn
-unfolding inTurn
 first-shows l =
     record {
-      sized = record { points = refl; starts = refl; sides = refl; fractions = refl };
+      sized = same-size l;
       start = refl;
       count = refl;
       lines = refl;
-      points = refl;
-      sides = refl;
-      fractions = refl;
-      starts = refl;
+      fronts = none-held l;
     }
 
 -- both, from the first move to the last
-moves-related : (l : Lists) (ms : List (Move Crossing)) →
-    Related (Shows l) (SizedPage l) (onPage ms (firstPage l)) (draw (roomIn l) ms nothingDrawn)
-moves-related l ms =
-    run-related Any (Shows l) (SizedPage l) (pushPage eps) flushPage (pushSegmentPoint eps (roomIn l))
+moves-related : (tolerance : Float) (l : Lists) (ms : List (Move Crossing)) →
+    Related (Shows l) (SizedPage l) (onPage tolerance ms (firstPage l)) (draw tolerance (roomIn l) ms nothingDrawn)
+moves-related tolerance l ms =
+    run-related (Shows l) (SizedPage l) (pushPage tolerance) flushPage (pushSegmentPoint tolerance (roomIn l))
     (flushSegment (roomIn l))
     (λ s t r. r .sized)
-    (λ c good s t r. push-related l s t r eps c)
+    (λ c s t r. push-related l s t r tolerance c)
     (λ s t r. flush-related l s t r)
-    (any-pushed ms) (firstPage l) nothingDrawn (first-shows l)
+    ms (firstPage l) nothingDrawn (first-shows l)
 
 -- a trace ends with a flush, so nothing is pending
 abbrev NonePending : Outcome Drawing → Type 0
@@ -79,15 +75,17 @@ follow-ends : (x : Outcome Drawing) (k : Drawing → Outcome Drawing) → ((d : 
 follow-ends (on d) k h = h d
 follow-ends (off r d) k h = tt
 
-trace-flushed : (room : Room) (g : List Float) (k : Cells) (xs : List Sample) (p : Previous) (d : Drawing) →
-    NonePending (draw room (traceMoves g k xs p) d)
-unfolding traceMoves
-trace-flushed room g k [] p d = rw (run-one (pushSegmentPoint eps room) (flushSegment room) flush d) (flush-ends room d)
-trace-flushed room g k (x ∷ xs) p d =
-    rw (run-append (pushSegmentPoint eps room) (flushSegment room) (visitMoves g k (visitOf p x))
-    (traceMoves g k xs (afterSample x)) d)
-    (follow-ends (draw room (visitMoves g k (visitOf p x)) d) (draw room (traceMoves g k xs (afterSample x)))
-    (trace-flushed room g k xs (afterSample x)))
+module _ (tolerance : Float) (room : Room) (g : List Float) (k : Cells) where
+  trace-flushed : (xs : List Sample) (p : Previous) (d : Drawing) →
+      NonePending (draw tolerance room (traceMoves g k xs p) d)
+  unfolding traceMoves
+  trace-flushed [] p d =
+      rw (run-one (pushSegmentPoint tolerance room) (flushSegment room) flush d) (flush-ends room d)
+  trace-flushed (x ∷ xs) p d =
+      let first = visitMoves g k (visitOf p x) in
+      let others = traceMoves g k xs (afterSample x) in
+      rw (run-append (pushSegmentPoint tolerance room) (flushSegment room) first others d)
+      (follow-ends (draw tolerance room first d) (draw tolerance room others) (trace-flushed xs (afterSample x)))
 
 -- what the open call is left to do: zero each list past its count
 abbrev pub zeroedPast : ℕ → ℕ → Lists → Lists
@@ -95,49 +93,41 @@ zeroedPast count lines l =
     lists (zeroedFrom zero64 (3 * count) (l .points)) (zeroedFrom 0 lines (l .starts))
     (zeroedFrom 0 (2 * count) (l .sides)) (zeroedFrom zero64 count (l .fractions))
 
--- a list whose front holds these points, zeroed past them
-zeroed-turn : {A : Type 0} (z : A) (w : ℕ) (f : Crossing → List A) (wide : (c : Crossing) → length (f c) ≡ w)
-    (l lent : List A) (cs : List Crossing) (k : ℕ)
-    → length l ≡ length lent → Holds w f l cs → k ≡ w * length cs → zeroedFrom z k l ≡ filled z (inTurn f cs) lent
-zeroed-turn z w f wide l lent cs k s h e =
-    let n : length (inTurn f cs) ≡ w * length cs = length-turn w f wide cs in
-    rw (e, ← n) (zeroed-filled z (inTurn f cs) l lent s (rw n h))
+-- lists whose fronts hold these points and starts, zeroed past them
+zeroed-past : (l m : Lists) (cs : List Crossing) (ss : List ℕ) (count lines : ℕ) → Sized l m → Fronts m cs ss →
+    count ≡ length cs → lines ≡ length ss → zeroedPast count lines m ≡ listsWith cs ss l
+zeroed-past l m cs ss count lines z h n k =
+    let points =
+    zeroed-turn 3 pointOf (λ c. refl) zero64 (m .points) (l .points) cs (3 * count) (z .points) (h .points)
+    (omega arith) in
+    let starts : zeroedFrom 0 lines (m .starts) ≡ filled 0 ss (l .starts) =
+    rw k (zeroed-filled 0 ss (m .starts) (l .starts) (z .starts) (h .starts)) in
+    let sides =
+    zeroed-turn 2 sideOf (λ c. refl) 0 (m .sides) (l .sides) cs (2 * count) (z .sides) (h .sides) (omega arith) in
+    let fractions =
+    zeroed-turn 1 fractionOf (λ c. refl) zero64 (m .fractions) (l .fractions) cs count (z .fractions) (h .fractions)
+    (omega arith) in
+    rw (points, starts, sides, fractions)
 
--- what the walk in place leaves, where the page shows a drawing in which nothing is pending
+-- what the walk in place leaves, where the page shows a drawing in which nothing is pending; nothing, if it was refused
 ended : (l : Lists) {x : Outcome Page} {y : Outcome Drawing} → Related (Shows l) (SizedPage l) x y → NonePending y →
     {r : Penned} {m : Lists} → afterwards r m ≡ pageAfter x
     → afterwards (statedTrace (answerOf r)) (zeroedPast (countIn r) (linesIn r) m) ≡ finished y l
 ended l (both-on {s = g} {t = d} h) e u =
     let all-drawn : all d ≡ d .drawn = rw e (append-nil (d .drawn)) in
     let n : g .pen .count ≡ length (d .drawn) = omega (arith, h .count, ap length e) in
-    let points =
-    zeroed-turn zero64 3 pointOf (λ c. refl) (g .lists .points) (l .points) (d .drawn) (3 * g .pen .count)
-    (h .sized .points) (rw all-drawn at (h .points)) (omega arith) in
-    let starts : zeroedFrom 0 (g .pen .lines) (g .lists .starts) ≡ filled 0 (d .starts) (l .starts) =
-    rw (h .lines) (zeroed-filled 0 (d .starts) (g .lists .starts) (l .starts) (h .sized .starts) (h .starts)) in
-    let sides =
-    zeroed-turn 0 2 sideOf (λ c. refl) (g .lists .sides) (l .sides) (d .drawn) (2 * g .pen .count)
-    (h .sized .sides) (rw all-drawn at (h .sides)) (omega arith) in
-    let fractions =
-    zeroed-turn zero64 1 fractionOf (λ c. refl) (g .lists .fractions) (l .fractions) (d .drawn) (g .pen .count)
-    (h .sized .fractions) (rw all-drawn at (h .fractions)) (omega arith) in
-    rw (same-answer u, same-lists u, points, starts, sides, fractions, n, h .lines)
+    let zeroed =
+    zeroed-past l (g .lists) (d .drawn) (d .starts) (g .pen .count) (g .pen .lines) (h .sized)
+    (rw all-drawn at (h .fronts)) n (h .lines) in
+    rw (same-answer u, same-lists u, zeroed, n, h .lines)
 ended l (both-off {s = g} h) e u =
-    let points =
-    zeroed-turn zero64 3 pointOf (λ c. refl) (g .lists .points) (l .points) [] 0 (h .points)
-    (unfold inTurn in refl) refl in
-    let starts = zeroed-filled 0 [] (g .lists .starts) (l .starts) (h .starts) refl in
-    let sides =
-    zeroed-turn 0 2 sideOf (λ c. refl) (g .lists .sides) (l .sides) [] 0 (h .sides) (unfold inTurn in refl) refl in
-    let fractions =
-    zeroed-turn zero64 1 fractionOf (λ c. refl) (g .lists .fractions) (l .fractions) [] 0 (h .fractions)
-    (unfold inTurn in refl) refl in
-    rw (same-answer u, same-lists u, points, starts, sides, fractions)
+    rw (same-answer u, same-lists u, zeroed-past l (g .lists) [] [] 0 0 h (none-held (g .lists)) refl refl)
 
 -- THE LAW: from what the inner walk ensures to what the open call promises
-pub trace-ends : (l : Lists) (g : List Float) (k : Cells) (xs : List Sample) (p : Previous) {r : Penned} {m : Lists}
-    → afterwards r m ≡ pageAfter (onPage (traceMoves g k xs p) (firstPage l))
+pub trace-ends : (tolerance : Float) (l : Lists) (g : List Float) (k : Cells) (xs : List Sample) (p : Previous)
+    {r : Penned} {m : Lists} → afterwards r m ≡ pageAfter (onPage tolerance (traceMoves g k xs p) (firstPage l))
     → afterwards (statedTrace (answerOf r)) (zeroedPast (countIn r) (linesIn r) m)
-    ≡ finished (draw (roomIn l) (traceMoves g k xs p) nothingDrawn) l
-trace-ends l g k xs p u =
-    ended l (moves-related l (traceMoves g k xs p)) (trace-flushed (roomIn l) g k xs p nothingDrawn) u
+    ≡ finished (draw tolerance (roomIn l) (traceMoves g k xs p) nothingDrawn) l
+trace-ends tolerance l g k xs p u =
+    ended l (moves-related tolerance l (traceMoves g k xs p))
+    (trace-flushed tolerance (roomIn l) g k xs p nothingDrawn) u

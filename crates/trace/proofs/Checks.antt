@@ -16,11 +16,10 @@ use Rattle.refusal.specs.declared.Check.the-variants.{Passed, Failed}
 use Rattle.refusal.specs.declared.Refusal.{Refusal}
 use Rattle.refusal.specs.declared.Refusal.the-variants.{Length, Mark, Sample}
 use Rattle.refusal.specs.Refusals.{unless, andThen}
-use Rattle.float.specs.Sign.{atMost}
 use Rattle.grid.specs.Grid.{gridCheck}
 use Rattle.refusal.proofs.Laws.{unless-passed, then-passed}
 use Rattle.grid.proofs.Laws.{Shaped, grid-passed}
-use Rattle.trace.specs.Trace.{samplesLengthFits, marksFit, maxSample, pairsFit, traceCheck}
+use Rattle.trace.specs.Trace.{samplesLengthFits, checkLengths, marksFit, sampleFits, pairsFit, traceCheck}
 
 -- ---- the marks
 
@@ -52,9 +51,12 @@ marks-end ks i h = rw (drop-of-length-le ks h)
 -- ---- the pairs
 
 module _ (ps : List Float) (ks : List ℕ) (i : ℕ) (h : i < length ks) (e : length ps ≡ 2 * length ks) where
+  -- sample i fits
+  abbrev fits : Bool
+  fits = sampleFits (getD ks i 0) (getD ps (2 * i) nan) (getD ps (2 * i + 1) nan)
+
   pair-here : pairsFit (drop (2 * i) ps) (drop i ks)
-      ≡ ((eqb (getD ks i 0) 0 || (atMost (getD ps (2 * i) nan) maxSample
-      && atMost (getD ps (2 * i + 1) nan) maxSample)) && pairsFit (drop (2 * (i + 1)) ps) (drop (i + 1) ks))
+      ≡ (fits && pairsFit (drop (2 * (i + 1)) ps) (drop (i + 1) ks))
   unfolding pairsFit
   pair-here =
       let a : 2 * i < length ps = omega arith in
@@ -63,9 +65,7 @@ module _ (ps : List Float) (ks : List ℕ) (i : ℕ) (h : i < length ks) (e : le
       let o : 2 * i + 1 ≡ suc (2 * i) = omega arith in
       rw (q, o, add-one, drop-cons ks i 0, drop-cons ps (2 * i) nan, drop-cons ps (suc (2 * i)) nan)
 
-  module _ {r : Bool} (er : r
-      ≡ (eqb (getD ks i 0) 0 || (atMost (getD ps (2 * i) nan) maxSample
-      && atMost (getD ps (2 * i + 1) nan) maxSample))) where
+  module _ {r : Bool} (er : r ≡ fits) where
     pub pair-fits : r ≡ true → pairsFit (drop (2 * i) ps) (drop i ks)
         ≡ pairsFit (drop (2 * (i + 1)) ps) (drop (i + 1) ks)
     pair-fits t = rw (pair-here, ← er, t)
@@ -80,7 +80,7 @@ pairs-end ps ks i h = rw (drop-of-length-le ks h)
 -- ---- all tests in order
 
 module _ (pairs : List Float) (marks : List ℕ) where
-  pub marks-long : 65537 < length marks → Failed Length ≡ unless (samplesLengthFits pairs marks) Length Passed
+  pub marks-long : 65537 < length marks → Failed Length ≡ checkLengths pairs marks
   marks-long h = go (eqb (length pairs) (2 * length marks))
     where
       go : (a : Bool) → Failed Length ≡ unless (a && leb (length marks) 65537) Length Passed
@@ -88,26 +88,26 @@ module _ (pairs : List Float) (marks : List ℕ) where
       go false = refl
 
   pub pairs-other : (length pairs ≡ 2 * length marks → ⊥) →
-      Failed Length ≡ unless (samplesLengthFits pairs marks) Length Passed
+      Failed Length ≡ checkLengths pairs marks
   pairs-other h = rw (ne-eqb (length pairs) (2 * length marks) h)
 
   pub lengths-fit : length marks ≤ 65537 → length pairs ≡ 2 * length marks →
-      Passed ≡ unless (samplesLengthFits pairs marks) Length Passed
+      Passed ≡ checkLengths pairs marks
   lengths-fit short twice = rw (eq-eqb (length pairs) (2 * length marks) twice, le-leb (length marks) 65537 short)
 
   -- lengths that fit, by the grid's tests with theirs between
   passed-lengths : (g : List Float) (m n : ℕ) →
-      gridCheck g m n (unless (samplesLengthFits pairs marks) Length Passed) ≡ Passed →
+      gridCheck g m n (checkLengths pairs marks) ≡ Passed →
       (length pairs ≡ 2 * length marks) × (length marks ≤ 65537)
   passed-lengths g m n h =
-      let own = grid-passed g m n (unless (samplesLengthFits pairs marks) Length Passed) h .own in
+      let own = grid-passed g m n (checkLengths pairs marks) h .own in
       let l =
       and-both (eqb (length pairs) (2 * length marks)) (leb (length marks) 65537)
       (unless-passed (samplesLengthFits pairs marks) Length Passed own .0) in
       (eqb-true (length pairs) (2 * length marks) (l .0), leb-true (length marks) 65537 (l .1))
 
 module _ (g : List Float) (m n : ℕ) (pairs : List Float) (marks : List ℕ) where
-  module _ {lengths c : Check} (el : lengths ≡ unless (samplesLengthFits pairs marks) Length Passed)
+  module _ {lengths c : Check} (el : lengths ≡ checkLengths pairs marks)
       (ec : c ≡ gridCheck g m n lengths) where
     check-is : traceCheck g m n pairs marks
         ≡ andThen c (unless (marksFit marks) Mark (unless (pairsFit pairs marks) Sample Passed))
@@ -137,7 +137,7 @@ module _ (g : List Float) (m n : ℕ) (pairs : List Float) (marks : List ℕ) wh
       Shaped g m n × (length pairs ≡ 2 * length marks) × (length marks ≤ 65537)
   unfolding traceCheck
   checked h =
-      let lengths = unless (samplesLengthFits pairs marks) Length Passed in
+      let lengths = checkLengths pairs marks in
       let p =
       then-passed (gridCheck g m n lengths)
       (unless (marksFit marks) Mark (unless (pairsFit pairs marks) Sample Passed)) h .0 in

@@ -1,15 +1,15 @@
 -- Demand 3, whole. The sides and the flipped pairs are the surface's theorem. A traced point was made from the ends
 -- of a grid edge (each event's side is one, and Drawn.antt has that no other point is drawn), and the surface's
 -- theorem says that J takes the ends of a grid edge to the ends of a side.
-use mathlib.Core.Path.{_≡_, refl, _∙_}
+use mathlib.Core.Path.{_≡_, refl}
 use mathlib.Core.List.{List}
 use Prim.Native.Nat.{ℕ, _+_, _*_, _≤_, _<_}
 use native.Mathlib.Nat.{add-zero}
 use native.Mathlib.Omega.{arith}
-use lib.ListN.{length, getD}
+use lib.ListN.{getD}
 use lib.Ieee.{Float, nan}
 use Rattle.basics.proofs.Lists.{each-at, each-implies}
-use Rattle.float.specs.Consts.{zero64}
+use Rattle.float.specs.Consts.{eps, zero64}
 use Rattle.refusal.specs.declared.Check.{Check}
 use Rattle.refusal.specs.declared.Check.the-variants.{Passed, Failed}
 use Rattle.lent.specs.Lent.{ifPassed}
@@ -17,7 +17,7 @@ use Rattle.vector.specs.Vectors.{vector}
 use Rattle.grid.specs.Grid.{pointNumber, pointAt}
 use Rattle.grid.proofs.Laws.{accepted-known, point-below}
 use Rattle.surface.specs.Surface.{Shape, GridEdge, along-u, along-v, falls, rises, StepsAround, Meets}
-use Rattle.surface.specs.Found.{surfaceOf, CoveredGrid}
+use Rattle.surface.specs.Found.{surfaceOf}
 use Rattle.surface.proofs.Demand as surface
 use Rattle.surface.proofs.Joinings.{surface-meets}
 use Rattle.param.specs.declared.Leg.{Leg}
@@ -34,15 +34,16 @@ use Rattle.crossing.specs.Crossing.{stepIndex, blend, crossing, onU, onV, edgeP
 use Rattle.crossing.proofs.Edges.{cell-inside}
 use Rattle.page.specs.Moves.{Outcome, on, off}
 use Rattle.page.specs.Page.{Lists}
+use Rattle.page.proofs.Moves.{Holding}
 use Rattle.walk.proofs.Walked.{leg-inside}
+use Rattle.walk.proofs.Pushed.{GoodEdge, GoodEvents}
 use Rattle.trace.specs.declared.curve.Previous.the-variants.{Nowhere}
 use Rattle.trace.specs.Curve.{samplesOf}
 use Rattle.trace.specs.Drawing.{Drawing, roomIn}
-use Rattle.trace.specs.Trace.{pointOf, sideOf, fractionOf, drawingOf, finished, traceCheck, traceFlat}
+use Rattle.trace.specs.Trace.{pointOf, sideOf, fractionOf, drawingOf, finished, traceCheck, traceWithin}
 use Rattle.trace.specs.Demand.{EachPoint, pOf, qOf, tOf, Made, OnSide, Demand3}
 use Rattle.trace.proofs.Turns.{filled-at}
-use Rattle.trace.proofs.Keeps.{Holding}
-use Rattle.trace.proofs.Pushed.{GoodEdge, GoodEvents, trace-good}
+use Rattle.trace.proofs.Pushed.{trace-good}
 use Rattle.trace.proofs.Drawn.{GoodDrawing, drawn-good}
 
 noCrossing : Crossing
@@ -103,10 +104,10 @@ module _ (g : List Float) (m n : ℕ) (hm : m ≤ 255) (hn : n ≤ 255) where
   -- ---- the points of a trace
 
   -- every point that a trace draws was made from the ends of a grid edge
-  from-edges : (pairs : List Float) (marks : List ℕ) (l : Lists) →
-      Holding (GoodDrawing (FromEdge g m n)) (drawingOf g m n pairs marks (roomIn l))
-  from-edges pairs marks l =
-      drawn-good (FromEdge g m n) (roomIn l)
+  from-edges : (tolerance : Float) (pairs : List Float) (marks : List ℕ) (l : Lists) →
+      Holding (GoodDrawing (FromEdge g m n)) (drawingOf tolerance g m n pairs marks (roomIn l))
+  from-edges tolerance pairs marks l =
+      drawn-good (FromEdge g m n) tolerance (roomIn l)
       (trace-good g (cells m n) (FromEdge g m n) good-events (samplesOf marks pairs) Nowhere)
 
   -- what is said of a crossing is said of each point of the lists
@@ -135,13 +136,16 @@ module _ (g : List Float) (m n : ℕ) (hm : m ≤ 255) (hn : n ≤ 255) where
           of-point (getD cs i noCrossing) (each-at (FromEdge g m n) cs i noCrossing (good .drawn) h)
           (finished (on d) l .lists) i p q t (rw (x, y, z))
 
-      pub each-point : (pairs : List Float) (marks : List ℕ) (l : Lists) → EachPoint P (traceFlat g m n pairs marks l)
-      unfolding traceFlat
-      each-point pairs marks l = go (traceCheck g m n pairs marks)
+      pub each-point : (tolerance : Float) (pairs : List Float) (marks : List ℕ) (l : Lists) →
+          EachPoint P (traceWithin tolerance g m n pairs marks l)
+      unfolding traceWithin
+      each-point tolerance pairs marks l = go (traceCheck g m n pairs marks)
         where
-          go : (k : Check) → EachPoint P (ifPassed k l (finished (drawingOf g m n pairs marks (roomIn l)) l))
+          go : (k : Check) →
+              EachPoint P (ifPassed k l (finished (drawingOf tolerance g m n pairs marks (roomIn l)) l))
           go (Failed k) = λ i h. absurd (omega arith)
-          go Passed = finished-each l (drawingOf g m n pairs marks (roomIn l)) (from-edges pairs marks l)
+          go Passed =
+              finished-each l (drawingOf tolerance g m n pairs marks (roomIn l)) (from-edges tolerance pairs marks l)
 
   -- the ends of a grid edge are grid points
   end-below : {u v u′ v′ : ℕ} → GridEdge s u v u′ v′ →
@@ -153,8 +157,8 @@ module _ (g : List Float) (m n : ℕ) (hm : m ≤ 255) (hn : n ≤ 255) where
   end-below (rises {u} {v} h k e) =
       (point-below m n u v (omega arith) (omega arith), point-below m n (u + 1) (v + 1) (omega arith) (omega arith))
 
-  pub points-made : (pairs : List Float) (marks : List ℕ) (l : Lists) →
-      EachPoint (Made g m n) (traceFlat g m n pairs marks l)
+  pub points-made : (tolerance : Float) (pairs : List Float) (marks : List ℕ) (l : Lists) →
+      EachPoint (Made g m n) (traceWithin tolerance g m n pairs marks l)
   points-made =
       each-point (Made g m n)
       (λ c from l i p q t x.
@@ -166,8 +170,8 @@ module _ (g : List Float) (m n : ℕ) (hm : m ≤ 255) (hn : n ≤ 255) where
         blended = rw (x, p, q, t) (from .blended);
       })
 
-  pub points-on-sides : Meets s → StepsAround 2 s → (pairs : List Float) (marks : List ℕ) (l : Lists) →
-      EachPoint (OnSide s) (traceFlat g m n pairs marks l)
+  pub points-on-sides : Meets s → StepsAround 2 s → (tolerance : Float) (pairs : List Float) (marks : List ℕ)
+      (l : Lists) → EachPoint (OnSide s) (traceWithin tolerance g m n pairs marks l)
   points-on-sides meets around =
       each-point (OnSide s) (λ c from l i p q t x. rw (p, q) (surface.traced s meets around (c .p) (c .q) (from .edge)))
 
@@ -176,9 +180,12 @@ pub demand3 : (g : List Float) (m n : ℕ) → Demand3 g m n
 demand3 g m n accepted =
     let steps = accepted-known g m n accepted .steps in
     record {
-      made = points-made g m n (steps .m-most) (steps .n-most);
+      made = points-made g m n (steps .m-most) (steps .n-most) eps;
       covered =
           λ covered.
           let meets = surface-meets g m n accepted covered in
-          record { surface = meets; points = points-on-sides g m n (steps .m-most) (steps .n-most) meets };
+          record {
+            surface = meets;
+            points = λ around. points-on-sides g m n (steps .m-most) (steps .n-most) meets around eps;
+          };
     }

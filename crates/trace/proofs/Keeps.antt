@@ -3,22 +3,17 @@
 use mathlib.Core.Path.{_≡_, refl}
 use mathlib.Core.Bool.{Bool, true, false, cond}
 use mathlib.Core.List.{List, [], _∷_, _++_}
-use Prim.Native.Nat.{ℕ, _+_, _≤_}
+use Prim.Native.Nat.{_+_, _≤_}
 use lib.Dec.{ltb, leb}
 use lib.ListN.{length}
+use lib.Ieee.{Float}
 use borrow.Author.Tests.{leb-true}
-use Rattle.float.specs.Consts.{eps}
 use Rattle.refusal.specs.declared.Refusal.the-variants.{Full}
 use Rattle.crossing.specs.declared.Crossing.{Crossing}
-use Rattle.page.specs.Moves.{Move, Outcome, on, off}
-use Rattle.page.proofs.Moves.{AllPushed, run-keeps}
+use Rattle.page.specs.Moves.{Move, on, off}
+use Rattle.page.proofs.Moves.{AllPushed, Holding, run-keeps}
 use Rattle.trace.specs.Drawing.{Drawing, drawing, nothingDrawn, Room, closeToLast, pushSegmentPoint, flushSegment}
 use Rattle.trace.specs.Drawing.{draw}
-
--- P, of what was drawn where no refusal ended it
-abbrev pub Holding : (Drawing → Type 0) → Outcome Drawing → Type 0
-Holding P (on d) = P d
-Holding P (off k d) = Unit {0}
 
 module _ (P : Drawing → Type 0) (Good : Crossing → Type 0)
     (start : P nothingDrawn)
@@ -27,12 +22,12 @@ module _ (P : Drawing → Type 0) (Good : Crossing → Type 0)
     (line : (d : Drawing) → P d → 2 ≤ length (d .segment) →
     P (drawing (d .drawn ++ d .segment) (d .starts ++ (length (d .drawn) ∷ [])) []))
     (dropped : (d : Drawing) → P d → P (drawing (d .drawn) (d .starts) []))
-    (room : Room)
+    (tolerance : Float) (room : Room)
   where
-    push-keeps : (c : Crossing) → Good c → (d : Drawing) → P d → Holding P (pushSegmentPoint eps room c d)
+    push-keeps : (c : Crossing) → Good c → (d : Drawing) → P d → Holding P (pushSegmentPoint tolerance room c d)
     unfolding pushSegmentPoint
     push-keeps c good d h =
-        go (closeToLast eps (d .segment) c) (ltb (length (d .drawn) + length (d .segment)) (room .points))
+        go (closeToLast tolerance (d .segment) c) (ltb (length (d .drawn) + length (d .segment)) (room .points))
       where
         go : (a b : Bool) → Holding P (cond a (on d)
             (cond b (on (drawing (d .drawn) (d .starts) (d .segment ++ (c ∷ [])))) (off Full d)))
@@ -52,7 +47,7 @@ module _ (P : Drawing → Type 0) (Good : Crossing → Type 0)
         go true false e = tt
         go false b e = dropped d h
 
-    pub draw-keeps : {ms : List (Move Crossing)} → AllPushed Good ms → Holding P (draw room ms nothingDrawn)
+    pub draw-keeps : {ms : List (Move Crossing)} → AllPushed Good ms → Holding P (draw tolerance room ms nothingDrawn)
     draw-keeps good =
-        run-keeps Good (Holding P) (pushSegmentPoint eps room) (flushSegment room)
-        (λ k d h. tt) push-keeps flush-keeps good nothingDrawn start
+        run-keeps Good P (pushSegmentPoint tolerance room) (flushSegment room) push-keeps flush-keeps good nothingDrawn
+        start

@@ -14,7 +14,7 @@ use Rattle.lent.specs.Lent.{afterwards}
 use Rattle.param.specs.declared.ParamPoint.{ParamPoint}
 use Rattle.param.specs.declared.Cells.{Cells}
 use Rattle.param.specs.declared.Leg.{Leg}
-use Rattle.param.specs.Param.{param, leg}
+use Rattle.param.specs.Param.{leg}
 use Rattle.page.specs.declared.Pen.{Pen}
 use Rattle.page.specs.declared.Penned.{Penned}
 use Rattle.page.specs.declared.Penned.the-variants.{Down, Stop}
@@ -26,7 +26,8 @@ use Rattle.trace.specs.declared.curve.Previous.{Previous}
 use Rattle.trace.specs.declared.curve.Previous.the-variants.{At, Nowhere}
 use Rattle.trace.specs.declared.curve.Visit.{Visit}
 use Rattle.trace.specs.declared.curve.Visit.the-variants.{Break, Along, First}
-use Rattle.trace.specs.Curve.{Sample, sampleAt, sample, samplesOf, afterSample, visitOf, visitMoves, traceMoves}
+use Rattle.trace.specs.Curve.{Sample, sampleAt, sample, samplesOf, paramAt, afterSample, visitOf, visitMoves}
+use Rattle.trace.specs.Curve.{traceMoves}
 
 -- ---- one sample
 
@@ -47,18 +48,19 @@ module _ (p : Previous) (k : ℕ) (b : ParamPoint) where
   visit-first e q = simp (ne-eqb k 0 e) (rw q)
 
 -- what is done for a sample, by what it is
-module _ (g : List Float) (k : Cells) (w : Page) {v : Visit} where
+module _ (tolerance : Float) (g : List Float) (k : Cells) (w : Page) {v : Visit} where
   pub sample-break : v ≡ Break → {r : Penned} {l : Lists} → afterwards r l ≡ pageAfter (flushPage w) →
-      afterwards r l ≡ pageAfter (onPage (visitMoves g k v) w)
-  sample-break e u = rw (e, page-one flush w) u
+      afterwards r l ≡ pageAfter (onPage tolerance (visitMoves g k v) w)
+  sample-break e u = rw (e, page-one tolerance flush w) u
 
   pub sample-leg : {l : Leg} → v ≡ Along l → {r : Penned} {m : Lists} →
-      afterwards r m ≡ pageAfter (onPage (legMoves g k l) w) →
-      afterwards r m ≡ pageAfter (onPage (visitMoves g k v) w)
+      afterwards r m ≡ pageAfter (onPage tolerance (legMoves g k l) w) →
+      afterwards r m ≡ pageAfter (onPage tolerance (visitMoves g k v) w)
   sample-leg e u = rw e u
 
-  pub sample-first : v ≡ First → afterwards (Down (w .pen)) (w .lists) ≡ pageAfter (onPage (visitMoves g k v) w)
-  sample-first e = rw (e, page-none w)
+  pub sample-first : v ≡ First →
+      afterwards (Down (w .pen)) (w .lists) ≡ pageAfter (onPage tolerance (visitMoves g k v) w)
+  sample-first e = rw (e, page-none tolerance w)
 
 -- ---- the list of samples
 
@@ -70,7 +72,7 @@ samples-length (k ∷ ks) (u ∷ []) h = absurd (omega arith)
 samples-length (k ∷ ks) (u ∷ (v ∷ ps)) h = ap suc (samples-length ks ps (omega arith))
 
 samples-at : (ks : List ℕ) (ps : List Float) (i : ℕ) (z : Sample) → length ps ≡ 2 * length ks → i < length ks →
-    getD (samplesOf ks ps) i z ≡ sample (getD ks i 0) (getD ps (2 * i) nan) (getD ps (2 * i + 1) nan)
+    getD (samplesOf ks ps) i z ≡ sampleAt (getD ks i 0) (paramAt ps i)
 unfolding samplesOf
 samples-at [] ps i z h t = absurd (omega arith)
 samples-at (k ∷ ks) [] i z h t = absurd (omega arith)
@@ -81,23 +83,23 @@ samples-at (k ∷ ks) (u ∷ (v ∷ ps)) (suc i) z h t =
     let q : 2 * suc i + 1 ≡ suc (suc (2 * i + 1)) = omega arith in
     rw (q, e) (samples-at ks ps i z (omega arith) (omega arith))
 
-module _ (g : List Float) (k : Cells) (ks : List ℕ) (ps : List Float) where
+module _ (tolerance : Float) (g : List Float) (k : Cells) (ks : List ℕ) (ps : List Float) where
   -- what is left of the trace: the samples from i on, with p before them
   abbrev left : ℕ → Previous → Page → Outcome Page
-  left i p = onPage (traceMoves g k (drop i (samplesOf ks ps)) p)
+  left i p = onPage tolerance (traceMoves g k (drop i (samplesOf ks ps)) p)
 
   module _ (i : ℕ) (h : length ps ≡ 2 * length ks) where
     pub trace-flushes : (p : Previous) (w : Page) → length ks ≤ i → left i p w ≡ flushPage w
     unfolding traceMoves
     trace-flushes p w t =
         let past : length (samplesOf ks ps) ≤ i = omega (arith, samples-length ks ps h) in
-        rw (drop-of-length-le (samplesOf ks ps) past) (page-one flush w)
+        rw (drop-of-length-le (samplesOf ks ps) past) (page-one tolerance flush w)
 
     module _ (p : Previous) (w : Page) (t : i < length ks) {b : ParamPoint} {v : Visit}
-        (eb : b ≡ param (getD ps (2 * i) nan) (getD ps (2 * i + 1) nan)) (ev : v ≡ visitOf p (sampleAt (getD ks i 0) b))
+        (eb : b ≡ paramAt ps i) (ev : v ≡ visitOf p (sampleAt (getD ks i 0) b))
       where
         abbrev here : Outcome Page
-        here = onPage (visitMoves g k v) w
+        here = onPage tolerance (visitMoves g k v) w
 
         abbrev after : Previous
         after = afterSample (sampleAt (getD ks i 0) b)
@@ -109,7 +111,7 @@ module _ (g : List Float) (k : Cells) (ks : List ℕ) (ps : List Float) where
             let there : i < length (samplesOf ks ps) = omega (arith, samples-length ks ps h) in
             let first : drop i (samplesOf ks ps) ≡ sampleAt (getD ks i 0) b ∷ drop (i + 1) (samplesOf ks ps) =
             rw (add-one i, drop-cons (samplesOf ks ps) i z there, samples-at ks ps i z h t, eb) in
-            rw (first, ev) (page-append _ _ w)
+            rw (first, ev) (page-append tolerance _ _ w)
 
         module _ {z : Outcome Page} (ez : z ≡ left i p w) {r : Penned} {l : Lists}
             (u : afterwards r l ≡ pageAfter here) where

@@ -3,45 +3,53 @@
 -- the count where the drawing moves its pending points.
 use mathlib.Core.Path.{_≡_, refl, sym, ap, _∙_}
 use mathlib.Core.Logic.{_⊎_, inl, inr}
-use mathlib.Core.Bool.{Bool, true, false, _&&_}
+use mathlib.Core.Bool.{Bool, true, false}
 use mathlib.Core.List.{List, [], _∷_, _++_, append-assoc, append-nil}
-use Prim.Native.Nat.{ℕ, suc, _+_, _-_, _*_, _/_, _≤_, _<_, min}
+use Prim.Native.Nat.{ℕ, suc, _+_, _-_, _*_, _≤_, _<_}
 use native.Mathlib.Nat.{add-zero}
 use native.Mathlib.Numerals.{add-one}
 use native.Mathlib.Omega.{arith}
 use lib.Dec.{ltb, leb}
-use lib.ListN.{length, take, getD, set, length-append, length-set}
+use lib.ListN.{length, take, getD, set, length-append}
 use lib.Seq.{take-suc-set, sets}
 use lib.Ieee.{Float, nan}
-use borrow.Author.Tests.{ltb-true, ltb-false, lt-ltb, le-ltb, leb-true, leb-false, le-leb, lt-leb}
-use Rattle.basics.proofs.Tests.{and-both}
+use borrow.Author.Tests.{ltb-true, lt-ltb, le-ltb, leb-true, leb-false, le-leb, lt-leb}
 use Rattle.vector.specs.Vectors.{allClose}
 use Rattle.grid.specs.Grid.{pointAt}
 use Rattle.crossing.specs.declared.Crossing.{Crossing}
 use Rattle.page.specs.Page.{Lists, pointRoom, writePoint, writeSide, Page, hasRoom, closeToPending, written, pushPage}
-use Rattle.page.specs.Page.{kept, dropped, flushPage}
+use Rattle.page.specs.Page.{writeAt, writeStart, kept, dropped, flushPage}
 use Rattle.page.proofs.Moves.{Related, both-on, both-off, test-related}
+use Rattle.page.proofs.Fits.{SizedPage, same-room, written-sized, kept-sized, dropped-sized}
 use Rattle.trace.specs.Drawing.{Drawing, drawing, roomIn, closeToLast, pushSegmentPoint, flushSegment}
-use Rattle.trace.specs.Trace.{pointOf, sideOf, fractionOf}
+use Rattle.trace.specs.Trace.{pointOf, sideOf, fractionOf, inTurn}
 use Rattle.trace.proofs.Turns.{Holds, holds-front, holds-more, last-at}
-
--- the lists have the lengths that they were lent with
-pub record Sized (l m : Lists) : Type 0 where
-  pub points : length (m .points) ≡ length (l .points)
-  pub starts : length (m .starts) ≡ length (l .starts)
-  pub sides : length (m .sides) ≡ length (l .sides)
-  pub fractions : length (m .fractions) ≡ length (l .fractions)
-
-abbrev pub SizedPage : Lists → Page → Type 0
-SizedPage l g = Sized l (g .lists)
-
--- so they have room for as many points
-same-room : (l m : Lists) → Sized l m → pointRoom m ≡ pointRoom l
-same-room l m z = rw (z .points, z .sides, z .fractions)
 
 -- the points that stand in the lists: the kept ones and after them the pending ones
 abbrev pub all : Drawing → List Crossing
 all d = d .drawn ++ d .segment
+
+-- the front of each list holds these points, or these starts
+pub record Fronts (l : Lists) (cs : List Crossing) (ss : List ℕ) : Type 0 where
+  pub points : Holds 3 pointOf (l .points) cs
+  pub starts : take (length ss) (l .starts) ≡ ss
+  pub sides : Holds 2 sideOf (l .sides) cs
+  pub fractions : Holds 1 fractionOf (l .fractions) cs
+
+-- nothing, in any lists
+pub none-held : (l : Lists) → Fronts l [] []
+unfolding inTurn
+none-held l = record { points = refl; starts = refl; sides = refl; fractions = refl }
+
+-- the first of them
+first-held : (l : Lists) (cs ds : List Crossing) (ss : List ℕ) → Fronts l (cs ++ ds) ss → Fronts l cs ss
+first-held l cs ds ss h =
+    record {
+      points = holds-front 3 pointOf (λ c. refl) (l .points) cs ds (h .points);
+      starts = h .starts;
+      sides = holds-front 2 sideOf (λ c. refl) (l .sides) cs ds (h .sides);
+      fractions = holds-front 1 fractionOf (λ c. refl) (l .fractions) cs ds (h .fractions);
+    }
 
 -- the page shows the drawing
 pub record Shows (l : Lists) (g : Page) (d : Drawing) : Type 0 where
@@ -49,10 +57,7 @@ pub record Shows (l : Lists) (g : Page) (d : Drawing) : Type 0 where
   pub start : g .pen .start ≡ length (d .drawn)
   pub count : g .pen .count ≡ length (d .drawn) + length (d .segment)
   pub lines : g .pen .lines ≡ length (d .starts)
-  pub points : Holds 3 pointOf (g .lists .points) (all d)
-  pub sides : Holds 2 sideOf (g .lists .sides) (all d)
-  pub fractions : Holds 1 fractionOf (g .lists .fractions) (all d)
-  pub starts : take (length (d .starts)) (g .lists .starts) ≡ d .starts
+  pub fronts : Fronts (g .lists) (all d) (d .starts)
 
 -- ---- flush
 
@@ -71,29 +76,27 @@ start-more ss l x {i} {y} h p q k =
     let j : length ss < length l = omega arith in
     rw (p, q, length-append, add-one, take-suc-set l (length ss) x, h)
 
+start-held : (l : Lists) (cs : List Crossing) (ss : List ℕ) (x : ℕ) {i y : ℕ} → Fronts l cs ss → i ≡ length ss →
+    y ≡ x → i < length (l .starts) → Fronts (writeStart i y l) cs (ss ++ (x ∷ []))
+start-held l cs ss x h p q k =
+    record {
+      points = h .points;
+      starts = start-more ss (l .starts) x (h .starts) p q k;
+      sides = h .sides;
+      fractions = h .fractions;
+    }
+
 module _ (l : Lists) (g : Page) (d : Drawing) (h : Shows l g d) where
   -- the pending points stand past the count
   dropped-shows : Shows l (dropped g) (drawing (d .drawn) (d .starts) [])
   unfolding dropped
   dropped-shows =
       record {
-        sized =
-            record {
-              points = h .sized .points;
-              starts = h .sized .starts;
-              sides = h .sized .sides;
-              fractions = h .sized .fractions;
-            };
+        sized = dropped-sized l g (h .sized);
         start = h .start;
         count = h .start ∙ omega arith;
         lines = h .lines;
-        points =
-            rw append-nil (holds-front 3 pointOf (λ c. refl) (g .lists .points) (d .drawn) (d .segment) (h .points));
-        sides = rw append-nil (holds-front 2 sideOf (λ c. refl) (g .lists .sides) (d .drawn) (d .segment) (h .sides));
-        fractions =
-            rw append-nil (holds-front 1 fractionOf (λ c. refl) (g .lists .fractions) (d .drawn) (d .segment)
-            (h .fractions));
-        starts = h .starts;
+        fronts = rw append-nil (first-held (g .lists) (d .drawn) (d .segment) (d .starts) (h .fronts));
       }
 
   -- the pending points are kept where they stand
@@ -102,20 +105,13 @@ module _ (l : Lists) (g : Page) (d : Drawing) (h : Shows l g d) where
   unfolding kept
   kept-shows k =
       record {
-        sized =
-            record {
-              points = h .sized .points;
-              starts = simp length-set (h .sized .starts);
-              sides = h .sized .sides;
-              fractions = h .sized .fractions;
-            };
+        sized = kept-sized l g (h .sized);
         start = h .count ∙ sym (length-append (d .drawn) (d .segment));
         count = h .count ∙ sym (simp length-append (omega arith));
         lines = rw length-append (omega (arith, h .lines));
-        points = rw append-nil (h .points);
-        sides = rw append-nil (h .sides);
-        fractions = rw append-nil (h .fractions);
-        starts = start-more (d .starts) (g .lists .starts) (length (d .drawn)) (h .starts) (h .lines) (h .start) k;
+        fronts =
+            rw append-nil (start-held (g .lists) (all d) (d .starts) (length (d .drawn)) (h .fronts) (h .lines)
+            (h .start) k);
       }
 
   pub flush-related : Related (Shows l) (SizedPage l) (flushPage g) (flushSegment (roomIn l) d)
@@ -179,6 +175,22 @@ write-side l c {i} {k} e =
 write-fraction : (l : List Float) (c : Crossing) {i k : ℕ} → i ≡ k → set l i (c .t) ≡ sets l (1 * k) (fractionOf c)
 write-fraction l c {i} {k} e = let e0 : i ≡ 1 * k = omega arith in rw e0
 
+-- one point more, written at its places
+point-held : (l : Lists) (cs : List Crossing) (c : Crossing) (ss : List ℕ) {i : ℕ} → Fronts l cs ss → i ≡ length cs →
+    i < pointRoom l → Fronts (writeAt i c l) (cs ++ (c ∷ [])) ss
+point-held l cs c ss {i} h n r =
+    record {
+      points =
+          rw (write-point (l .points) c n)
+          (holds-more 3 pointOf (λ c. refl) (l .points) cs c (omega arith) (h .points));
+      starts = h .starts;
+      sides =
+          rw (write-side (l .sides) c n) (holds-more 2 sideOf (λ c. refl) (l .sides) cs c (omega arith) (h .sides));
+      fractions =
+          rw (write-fraction (l .fractions) c n)
+          (holds-more 1 fractionOf (λ c. refl) (l .fractions) cs c (omega arith) (h .fractions));
+    }
+
 module _ (l : Lists) (g : Page) (d : Drawing) (h : Shows l g d) (tolerance : Float) (c : Crossing) where
   -- closeness to the last pending point, by the list and by the drawing
   close-same : closeToPending tolerance c g ≡ closeToLast tolerance (d .segment) c
@@ -196,7 +208,7 @@ module _ (l : Lists) (g : Page) (d : Drawing) (h : Shows l g d) (tolerance : Flo
           let some : g .pen .start < g .pen .count = omega (arith, h .count, h .start) in
           let at : g .pen .count - 1 ≡ length (d .drawn ++ ys) = omega (arith, h .count, length-append (d .drawn) ys) in
           let last : Holds 3 pointOf (g .lists .points) ((d .drawn ++ ys) ++ (y ∷ [])) =
-          rw append-assoc (rw (w .2) at (h .points)) in
+          rw append-assoc (rw (w .2) at (h .fronts .points)) in
           rw (
             lt-ltb (g .pen .start) (g .pen .count) some,
             at,
@@ -216,26 +228,11 @@ module _ (l : Lists) (g : Page) (d : Drawing) (h : Shows l g d) (tolerance : Flo
       let n : g .pen .count ≡ length (all d) = h .count ∙ sym (length-append (d .drawn) (d .segment)) in
       let room = ltb-true (g .pen .count) (pointRoom (g .lists)) r in
       record {
-        sized =
-            record {
-              points = simp length-set (h .sized .points);
-              starts = h .sized .starts;
-              sides = simp length-set (h .sized .sides);
-              fractions = simp length-set (h .sized .fractions);
-            };
+        sized = written-sized l c g (h .sized);
         start = h .start;
         count = rw length-append (omega (arith, h .count));
         lines = h .lines;
-        points =
-            rw (← append-assoc, write-point (g .lists .points) c n)
-            (holds-more 3 pointOf (λ c. refl) (g .lists .points) (all d) c (omega arith) (h .points));
-        sides =
-            rw (← append-assoc, write-side (g .lists .sides) c n)
-            (holds-more 2 sideOf (λ c. refl) (g .lists .sides) (all d) c (omega arith) (h .sides));
-        fractions =
-            rw (← append-assoc, write-fraction (g .lists .fractions) c n)
-            (holds-more 1 fractionOf (λ c. refl) (g .lists .fractions) (all d) c (omega arith) (h .fractions));
-        starts = h .starts;
+        fronts = rw (← append-assoc) (point-held (g .lists) (all d) c (d .starts) (h .fronts) n room);
       }
 
   pub push-related : Related (Shows l) (SizedPage l) (pushPage tolerance c g)

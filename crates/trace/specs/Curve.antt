@@ -2,9 +2,10 @@
 -- Original: `trace_parametric_edge_curve`.
 use mathlib.Core.Bool.{cond}
 use mathlib.Core.List.{List, [], _∷_, _++_}
-use Prim.Native.Nat.{ℕ}
+use Prim.Native.Nat.{ℕ, _+_, _*_}
 use lib.Dec.{eqb}
-use lib.Ieee.{Float}
+use lib.ListN.{getD}
+use lib.Ieee.{Float, nan}
 use Rattle.param.specs.declared.ParamPoint.{ParamPoint}
 use Rattle.param.specs.declared.Cells.{Cells}
 use Rattle.param.specs.Param.{param, leg}
@@ -34,6 +35,10 @@ samplesOf [] ps = []
 samplesOf (k ∷ ks) [] = []
 samplesOf (k ∷ ks) (u ∷ []) = []
 samplesOf (k ∷ ks) (u ∷ (v ∷ ps)) = sample k u v ∷ samplesOf ks ps
+
+-- the pair of sample i in such a flat list
+abbrev pub paramAt : List Float → ℕ → ParamPoint
+paramAt ps i = param (getD ps (2 * i) nan) (getD ps (2 * i + 1) nan)
 
 -- ---- Rules 7.1
 

@@ -6,7 +6,6 @@ use Prim.Native.Nat.{ℕ, _+_}
 use lib.Dec.{ltb, leb}
 use lib.ListN.{length}
 use lib.Ieee.{Float}
-use Rattle.float.specs.Consts.{eps}
 use Rattle.refusal.specs.declared.Refusal.the-variants.{Full}
 use Rattle.vector.specs.Vectors.{allClose}
 use Rattle.crossing.specs.declared.Crossing.{Crossing}
@@ -57,6 +56,6 @@ flushSegment room d =
     (off Full d))
     (on (drawing (d .drawn) (d .starts) []))
 
--- moves in order, from a drawing on, where close means by EPS
-abbrev pub draw : Room → List (Move Crossing) → Drawing → Outcome Drawing
-draw room = run (pushSegmentPoint eps room) (flushSegment room)
+-- moves in order, from a drawing on, where close means by a tolerance
+abbrev pub draw : Float → Room → List (Move Crossing) → Drawing → Outcome Drawing
+draw tolerance room = run (pushSegmentPoint tolerance room) (flushSegment room)

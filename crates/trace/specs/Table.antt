@@ -16,13 +16,13 @@ use Rattle.page.specs.Page.{Lists, lists}
 use Rattle.walk.specs.Walk.{beforeInside, afterInside, decide, eventsMoves, legMoves}
 use Rattle.trace.specs.Curve.{samplesOf, traceMoves}
 use Rattle.trace.specs.Drawing.{pushSegmentPoint, flushSegment}
-use Rattle.trace.specs.Trace.{marksFit, pairsFit, traceCheck, inTurn, traceFlat}
+use Rattle.trace.specs.Trace.{marksFit, pairsFit, traceCheck, inTurn, traceWithin, traceFlat}
 
 -- `unfolding computed` opens every definition that a closed result needs
 unfoldable pub computed : Bool
 unfolding
     crossing.computed larger allClose coordinatesFit gridCheck samplesOf beforeInside afterInside decide eventsMoves
-    legMoves traceMoves run pushSegmentPoint flushSegment marksFit pairsFit traceCheck inTurn traceFlat
+    legMoves traceMoves run pushSegmentPoint flushSegment marksFit pairsFit traceCheck inTurn traceWithin
 computed = true
 
 -- a unit square as a grid of M = N = 1, and the trace of two samples in lists with room for two points and one line

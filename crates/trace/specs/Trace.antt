@@ -5,7 +5,7 @@ use Prim.Native.Nat.{ℕ, _*_}
 use lib.Dec.{eqb, leb}
 use lib.ListN.{length}
 use lib.Ieee.{Float, binary64, ofBits}
-use Rattle.float.specs.Consts.{zero64}
+use Rattle.float.specs.Consts.{eps, zero64}
 use Rattle.float.specs.Sign.{atMost}
 use Rattle.refusal.specs.declared.Check.{Check}
 use Rattle.refusal.specs.declared.Check.the-variants.{Passed}
@@ -29,6 +29,10 @@ use Rattle.trace.specs.Drawing.{Drawing, Room, roomIn, nothingDrawn, dra
 abbrev pub samplesLengthFits : List Float → List ℕ → Bool
 samplesLengthFits pairs marks = eqb (length pairs) (2 * length marks) && leb (length marks) 65537
 
+-- refusal 2 of the samples
+abbrev pub checkLengths : List Float → List ℕ → Check
+checkLengths pairs marks = unless (samplesLengthFits pairs marks) Length Passed
+
 -- 9: every mark is 0 or 1
 unfoldable pub marksFit : List ℕ → Bool
 marksFit [] = true
@@ -38,18 +42,22 @@ marksFit (k ∷ ks) = (eqb k 0 || eqb k 1) && marksFit ks
 abbrev pub maxSample : Float
 maxSample = ofBits binary64 0x4130000000000000
 
--- 10: both coordinates of every point are finite and at most that in magnitude; those of a break are not looked at
+-- a break, whose coordinates are not looked at, or a point, both of whose are finite and at most that in magnitude
+abbrev pub sampleFits : ℕ → Float → Float → Bool
+sampleFits k u v = eqb k 0 || (atMost u maxSample && atMost v maxSample)
+
+-- 10: every sample fits
 -- (lists whose lengths do not belong together are refused before, by 2)
 unfoldable pub pairsFit : List Float → List ℕ → Bool
 pairsFit ps [] = true
 pairsFit [] (k ∷ ks) = true
 pairsFit (u ∷ []) (k ∷ ks) = true
-pairsFit (u ∷ (v ∷ ps)) (k ∷ ks) = (eqb k 0 || (atMost u maxSample && atMost v maxSample)) && pairsFit ps ks
+pairsFit (u ∷ (v ∷ ps)) (k ∷ ks) = sampleFits k u v && pairsFit ps ks
 
 -- refusals 1, 2 (grid, then samples), 4, 9 and 10, in this order
 unfoldable pub traceCheck : List Float → ℕ → ℕ → List Float → List ℕ → Check
 traceCheck g m n pairs marks =
-    andThen (gridCheck g m n (unless (samplesLengthFits pairs marks) Length Passed))
+    andThen (gridCheck g m n (checkLengths pairs marks))
     (unless (marksFit marks) Mark
     (unless (pairsFit pairs marks) Sample Passed))
 
@@ -72,10 +80,10 @@ sideOf c = c .p ∷ c .q ∷ []
 abbrev pub fractionOf : Crossing → List Float
 fractionOf c = c .t ∷ []
 
--- what points put there, one after another
-unfoldable pub inTurn : {A : Type 0} → (Crossing → List A) → List Crossing → List A
+-- what elements put there, one after another
+unfoldable pub inTurn : {A B : Type 0} → (B → List A) → List B → List A
 inTurn f [] = []
-inTurn f (c ∷ cs) = f c ++ inTurn f cs
+inTurn f (b ∷ bs) = f b ++ inTurn f bs
 
 -- the lists after these points and starts: every place past them is zero
 abbrev pub listsWith : List Crossing → List ℕ → Lists → Lists
@@ -87,9 +95,10 @@ listsWith cs ss l =
 
 -- ---- the call
 
--- the moves of all samples, with nothing before the first, drawn
-abbrev pub drawingOf : List Float → ℕ → ℕ → List Float → List ℕ → Room → Outcome Drawing
-drawingOf g m n pairs marks room = draw room (traceMoves g (cells m n) (samplesOf marks pairs) Nowhere) nothingDrawn
+-- the moves of all samples, with nothing before the first, drawn, where close means by a tolerance
+abbrev pub drawingOf : Float → List Float → ℕ → ℕ → List Float → List ℕ → Room → Outcome Drawing
+drawingOf tolerance g m n pairs marks room =
+    draw tolerance room (traceMoves g (cells m n) (samplesOf marks pairs) Nowhere) nothingDrawn
 
 -- Rules 8.2, 8.3: the counts and the lists; 11 and 12 leave every place zero
 abbrev pub finished : Outcome Drawing → Lists → Afterwards (Answer Counts) Lists
@@ -97,7 +106,12 @@ finished (on d) l =
     afterwards (ok (counts (length (d .drawn)) (length (d .starts)))) (listsWith (d .drawn) (d .starts) l)
 finished (off k d) l = afterwards (refused (numberOf k)) (listsWith [] [] l)
 
--- the open call: refusals 1 to 10 leave the lists as they were
-unfoldable pub traceFlat : List Float → ℕ → ℕ → List Float → List ℕ → Lists → Afterwards (Answer Counts) Lists
-traceFlat g m n pairs marks l =
-    ifPassed (traceCheck g m n pairs marks) l (finished (drawingOf g m n pairs marks (roomIn l)) l)
+-- the trace: refusals 1 to 10 leave the lists as they were
+unfoldable pub traceWithin : Float → List Float → ℕ → ℕ → List Float → List ℕ → Lists →
+    Afterwards (Answer Counts) Lists
+traceWithin tolerance g m n pairs marks l =
+    ifPassed (traceCheck g m n pairs marks) l (finished (drawingOf tolerance g m n pairs marks (roomIn l)) l)
+
+-- the open call: close means by EPS
+abbrev pub traceFlat : List Float → ℕ → ℕ → List Float → List ℕ → Lists → Afterwards (Answer Counts) Lists
+traceFlat = traceWithin eps

@@ -8,13 +8,13 @@ use param::ParamPoint;
 use walk::append_edge_crossings;
 ghost use Prim.Native.Nat.{_+_, _*_, _≤_};
 ghost use mathlib.Core.Path.{_≡_};
-ghost use lib.ListN.{length, getD};
-ghost use lib.Ieee.{nan};
+ghost use lib.ListN.{length};
+ghost use Rattle.float.specs.Consts.{eps};
 ghost use Rattle.lent.specs.Lent.{afterwards};
-ghost use Rattle.param.specs.Param.{param};
 ghost use Rattle.crossing.specs.Crossing.{GridFits};
 ghost use Rattle.page.specs.Page.{lists, penAt, page, onPage, pageAfter, PenFits};
-ghost use Rattle.trace.specs.Curve.{sampleAt, samplesOf, afterSample, visitOf, visitMoves, traceMoves};
+ghost use Rattle.trace.specs.Curve.{sampleAt, samplesOf, paramAt, afterSample, visitOf, visitMoves};
+ghost use Rattle.trace.specs.Curve.{traceMoves};
 
 // The most candidates of a leg: 2 ends, 256 U and 256 V lines, 509 diagonals.
 const MAX_EVENTS: usize = 1023;
@@ -33,9 +33,9 @@ pub enum Visit {
 }
 
 // The pair of sample i.
-fn point_of(pairs: &[f64], i: usize) -> ParamPoint
+fn param_at(pairs: &[f64], i: usize) -> ParamPoint
     requires { ⌜ 2 * i + 2 ≤ length (now pairs) ⌝ }
-    ensures { λ r. ⌜ r ≡ param (getD (now (pairs .entry)) (2 * i) nan) (getD (now (pairs .entry)) (2 * i + 1) nan) ⌝ }
+    ensures { λ r. ⌜ r ≡ paramAt (now (pairs .entry)) i ⌝ }
 {
     ParamPoint {
         u: pairs[2 * i],
@@ -84,7 +84,7 @@ fn trace_sample(
     requires { ⌜ PenFits (now points) pen ⌝ }
     ensures { λ r. ⌜ afterwards r
         (lists (now (points .exit)) (now (starts .exit)) (now (sides .exit)) (now (fractions .exit)))
-        ≡ pageAfter (onPage (visitMoves (now (grid .entry)) cells visit)
+        ≡ pageAfter (onPage eps (visitMoves (now (grid .entry)) cells visit)
         (page (lists (now (points .entry)) (now (starts .entry)) (now (sides .entry)) (now (fractions .entry)))
         pen)) ⌝ }
 {
@@ -122,7 +122,7 @@ pub fn trace_parametric_edge_curve(
     requires { ⌜ (length (now pairs) ≡ 2 * length (now marks)) × (length (now marks) ≤ 65537) ⌝ }
     ensures { λ r. ⌜ afterwards r
         (lists (now (points .exit)) (now (starts .exit)) (now (sides .exit)) (now (fractions .exit)))
-        ≡ pageAfter (onPage (traceMoves (now (grid .entry)) cells
+        ≡ pageAfter (onPage eps (traceMoves (now (grid .entry)) cells
         (samplesOf (now (marks .entry)) (now (pairs .entry))) Previous.Nowhere)
         (page (lists (now (points .entry)) (now (starts .entry)) (now (sides .entry)) (now (fractions .entry)))
         (penAt 0 0 0))) ⌝ }
@@ -138,7 +138,7 @@ pub fn trace_parametric_edge_curve(
     let mut i: usize = 0;
     while i < marks.len() {
         let mark = marks[i];
-        let point = point_of(pairs, i);
+        let point = param_at(pairs, i);
         let visit = visit_of(previous, mark, point);
         match trace_sample(
             &mut lambdas,

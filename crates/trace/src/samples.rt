@@ -2,15 +2,9 @@
 use refusal::Check;
 use refusal::Refusal;
 ghost use mathlib.Core.Path.{_≡_};
-ghost use mathlib.Core.Bool.{_&&_, _||_};
 ghost use Prim.Native.Nat.{_*_};
-ghost use lib.Dec.{eqb};
 ghost use lib.ListN.{length};
-ghost use Rattle.refusal.specs.declared.Check.the-variants.{Passed};
-ghost use Rattle.refusal.specs.declared.Refusal.the-variants.{Length};
-ghost use Rattle.refusal.specs.Refusals.{unless};
-ghost use Rattle.float.specs.Sign.{atMost};
-ghost use Rattle.trace.specs.Trace.{samplesLengthFits, marksFit, maxSample, pairsFit, traceCheck};
+ghost use Rattle.trace.specs.Trace.{checkLengths, marksFit, sampleFits, pairsFit, traceCheck};
 
 // A trace takes at most this many marks.
 pub const MAX_MARKS: usize = 65537;
@@ -35,7 +29,7 @@ fn marks_fit(marks: &[u8]) -> bool
 
 // A break, or a pair whose coordinates are finite and at most 1,048,576 in magnitude.
 fn sample_fits(mark: u8, u: f64, v: f64) -> bool
-    ensures { λ r. ⌜ r ≡ (eqb mark 0 || (atMost u maxSample && atMost v maxSample)) ⌝ }
+    ensures { λ r. ⌜ r ≡ sampleFits mark u v ⌝ }
 {
     (mark == 0) | (float::sign::at_most(u, MAX_SAMPLE) & float::sign::at_most(v, MAX_SAMPLE))
 }
@@ -57,7 +51,7 @@ fn pairs_fit(pairs: &[f64], marks: &[u8]) -> bool
 
 // Refusal 2 of the samples.
 fn check_lengths(pairs: &[f64], marks: &[u8]) -> Check
-    ensures { λ r. ⌜ r ≡ unless (samplesLengthFits (now (pairs .entry)) (now (marks .entry))) Length Passed ⌝ }
+    ensures { λ r. ⌜ r ≡ checkLengths (now (pairs .entry)) (now (marks .entry)) ⌝ }
 {
     if MAX_MARKS < marks.len() {
         return Check::Failed(Refusal::Length);

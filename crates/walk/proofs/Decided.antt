@@ -1,6 +1,6 @@
 -- What is decided of one event, by the tests of the code and from what its calls gave: each way through it is one case.
-use mathlib.Core.Path.{_≡_, refl}
-use mathlib.Core.Bool.{Bool, true, false, _||_, cond}
+use mathlib.Core.Path.{_≡_}
+use mathlib.Core.Bool.{Bool, true, false, _||_}
 use mathlib.Core.List.{List}
 use lib.Ieee.{Float, binary64, lt, add}
 use Rattle.float.specs.Consts.{eps}
@@ -14,7 +14,6 @@ use Rattle.crossing.specs.declared.EdgePoint.{EdgePoint}
 use Rattle.crossing.specs.declared.EdgePoint.the-variants.{On, NoStep}
 use Rattle.crossing.specs.Crossing.{edgePoint}
 use Rattle.walk.specs.declared.EventPoint.the-variants.{Push, Pass, Stop}
-use Rattle.walk.specs.declared.Decision.{Decision}
 use Rattle.walk.specs.Walk.{middle, beforeInside, afterInside, pushOf, decide}
 
 -- ---- inside before and after

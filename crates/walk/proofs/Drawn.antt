@@ -1,63 +1,65 @@
 -- What is decided of one event, done to the lists: a push and what follows it, by what the calls gave.
-use mathlib.Core.Path.{_≡_, refl, sym, ap, _∙_}
-use mathlib.Core.Bool.{Bool, true, false, cond}
+use mathlib.Core.Path.{_≡_, _∙_}
+use mathlib.Core.Bool.{Bool, true, false}
+use lib.Ieee.{Float}
 use Rattle.refusal.specs.declared.Refusal.{Refusal}
 use Rattle.refusal.specs.declared.Refusal.the-variants as refusals
-use Rattle.float.specs.Consts.{eps}
 use Rattle.lent.specs.Lent.{afterwards}
 use Rattle.crossing.specs.declared.Crossing.{Crossing}
 use Rattle.page.specs.declared.Pen.{Pen}
 use Rattle.page.specs.declared.Penned.{Penned}
 use Rattle.page.specs.declared.Penned.the-variants as penned
-use Rattle.page.specs.Moves.{push, flush, stop, Outcome, on, off, follow}
-use Rattle.page.specs.Page.{Lists, Page, page, pushPage, flushPage, onPage, pageAfter}
+use Rattle.page.specs.Moves.{push, flush, stop, Outcome, off, follow}
+use Rattle.page.specs.Page.{Lists, Page, page, pushPage, flushUnless, onPage, pageAfter}
 use Rattle.page.proofs.Follow.{down, stops, page-append, page-none, page-one}
 use Rattle.walk.specs.declared.EventPoint.the-variants.{Push, Pass, Stop}
 use Rattle.walk.specs.declared.Decision.{Decision}
 use Rattle.walk.specs.Walk.{pointMoves, endMoves, movesOf}
 
 -- the line's end
-pub end-run : (inside : Bool) (w : Page) → onPage (endMoves inside) w ≡ cond inside (on w) (flushPage w)
-end-run true w = page-none w
-end-run false w = page-one flush w
+pub end-run : (tolerance : Float) (inside : Bool) (w : Page) →
+    onPage tolerance (endMoves inside) w ≡ flushUnless inside w
+end-run tolerance true w = page-none tolerance w
+end-run tolerance false w = page-one tolerance flush w
 
-module _ (d : Decision) (w : Page) where
+module _ (tolerance : Float) (d : Decision) (w : Page) where
   abbrev done : Outcome Page
-  done = onPage (movesOf d) w
+  done = onPage tolerance (movesOf d) w
 
-  parted : done ≡ follow (onPage (pointMoves (d .point)) w) (onPage (endMoves (d .inside)))
-  parted = page-append (pointMoves (d .point)) (endMoves (d .inside)) w
+  parted : done ≡ follow (onPage tolerance (pointMoves (d .point)) w) (onPage tolerance (endMoves (d .inside)))
+  parted = page-append tolerance (pointMoves (d .point)) (endMoves (d .inside)) w
 
   -- no point
   pub draws-end : d .point ≡ Pass → {r : Penned} {l : Lists} →
-      afterwards r l ≡ pageAfter (cond (d .inside) (on w) (flushPage w)) → afterwards r l ≡ pageAfter done
+      afterwards r l ≡ pageAfter (flushUnless (d .inside) w) → afterwards r l ≡ pageAfter done
   draws-end e u =
-      let is : done ≡ cond (d .inside) (on w) (flushPage w) = parted ∙ rw (e, page-none w) (end-run (d .inside) w) in
+      let is : done ≡ flushUnless (d .inside) w =
+      parted ∙ rw (e, page-none tolerance w) (end-run tolerance (d .inside) w) in
       rw is u
 
   -- no answer for its point
   pub draws-stop : d .point ≡ Stop → afterwards (penned.Stop refusals.NoStep) (w .lists) ≡ pageAfter done
   draws-stop e =
-      let is : done ≡ off refusals.NoStep w = parted ∙ rw (e, page-one (stop refusals.NoStep) w) in
+      let is : done ≡ off refusals.NoStep w = parted ∙ rw (e, page-one tolerance (stop refusals.NoStep) w) in
       rw is
 
   module _ {c : Crossing} (e : d .point ≡ Push c) {r : Penned} {l : Lists}
-      (u : afterwards r l ≡ pageAfter (pushPage eps c w)) where
+      (u : afterwards r l ≡ pageAfter (pushPage tolerance c w)) where
     abbrev ending : Page → Outcome Page
-    ending = onPage (endMoves (d .inside))
+    ending = onPage tolerance (endMoves (d .inside))
 
-    after-push : done ≡ follow (pushPage eps c w) ending
-    after-push = parted ∙ rw (e, page-one (push c) w)
+    after-push : done ≡ follow (pushPage tolerance c w) ending
+    after-push = parted ∙ rw (e, page-one tolerance (push c) w)
 
     -- the point is pushed
     pub draws-point : {pen : Pen} → r ≡ penned.Down pen → {r′ : Penned} {l′ : Lists} →
-        afterwards r′ l′ ≡ pageAfter (cond (d .inside) (on (page l pen)) (flushPage (page l pen))) →
+        afterwards r′ l′ ≡ pageAfter (flushUnless (d .inside) (page l pen)) →
         afterwards r′ l′ ≡ pageAfter done
     draws-point {pen} er v =
-        let is : done ≡ cond (d .inside) (on (page l pen)) (flushPage (page l pen)) =
-        after-push ∙ down (pushPage eps c w) ending u pen er ∙ end-run (d .inside) (page l pen) in
+        let is : done ≡ flushUnless (d .inside) (page l pen) =
+        after-push ∙ down (pushPage tolerance c w) ending u pen er ∙ end-run tolerance (d .inside) (page l pen) in
         rw is v
 
     -- it is refused
     pub draws-full : {k : Refusal} → r ≡ penned.Stop k → afterwards (penned.Stop k) l ≡ pageAfter done
-    draws-full {k} er = rw after-push (stops (pushPage eps c w) ending u k er)
+    draws-full {k} er = rw after-push (stops (pushPage tolerance c w) ending u k er)

@@ -2,3 +2,4 @@
 pub mod Decided
 pub mod Drawn
 pub mod Walked
+pub mod Pushed

@@ -27,11 +27,12 @@ use Rattle.edges.proofs.Laws.{events-inside}
 use Rattle.page.specs.declared.Pen.{Pen}
 use Rattle.page.specs.declared.Penned.{Penned}
 use Rattle.page.specs.declared.Penned.the-variants.{Down, Stop}
-use Rattle.page.specs.Moves.{Outcome, on, off, follow}
-use Rattle.page.specs.Page.{Lists, Page, page, flushPage, onPage, pageAfter}
+use Rattle.page.specs.Moves.{Outcome, follow}
+use Rattle.page.specs.Page.{Lists, Page, page, flushUnless, onPage, pageAfter}
+use Rattle.page.proofs.Moves.{follow-twice}
 use Rattle.page.proofs.Follow.{down, stops, page-append, page-none}
 use Rattle.walk.specs.declared.Decision.{Decision}
-use Rattle.walk.specs.Walk.{nextLambda, decide, movesOf, endMoves, eventsMoves, legMoves}
+use Rattle.walk.specs.Walk.{nextLambda, decide, movesOf, endMoves, eventsMoves, legMoves, lambdaOrOne}
 use Rattle.walk.proofs.Drawn.{end-run}
 
 -- ---- events as the two scratch lists hold them
@@ -52,7 +53,7 @@ module _ (ls : List Float) (cs : List ℕ) (count i : ℕ) (h : count ≤ length
       ≤ i = omega (arith, events-length ls cs count s h) in drop-of-length-le (eventsIn ls cs count) past
 
   -- the lambda at i, or 1 past the last
-  next-is : {x : Float} → x ≡ cond (ltb i count) (getD ls i nan) one64 → nextLambda (drop i (eventsIn ls cs count)) ≡ x
+  next-is : {x : Float} → x ≡ lambdaOrOne ls count i → nextLambda (drop i (eventsIn ls cs count)) ≡ x
   next-is e = go (ltb i count) refl e
     where
       go : {x : Float} (t : Bool) → ltb i count ≡ t → x ≡ cond t (getD ls i nan) one64 →
@@ -67,24 +68,19 @@ leg-inside k l hm hn e = rw e (events-inside k l (le-trans hm (lit≤ tt)) (le-t
 
 -- ---- what is left of a leg
 
-follow-follow : {S : Type 0} (x : Outcome S) (h k : S → Outcome S) →
-    follow (follow x h) k ≡ follow x (λ s. follow (h s) k)
-follow-follow (on s) h k = refl
-follow-follow (off r s) h k = refl
-
-module _ (g : List Float) (k : Cells) (l : Leg) where
+module _ (tolerance : Float) (g : List Float) (k : Cells) (l : Leg) where
   -- the line's end where the leg leaves the grid
   abbrev ending : Page → Outcome Page
-  ending = onPage (endMoves (paramInBounds k (l .b)))
+  ending = onPage tolerance (endMoves (paramInBounds k (l .b)))
 
   -- the events es, after one at `previous`, and the end
   abbrev pub left : List EdgeEvent → Float → Page → Outcome Page
-  left es previous w = follow (onPage (eventsMoves g k l previous es) w) ending
+  left es previous w = follow (onPage tolerance (eventsMoves g k l previous es) w) ending
 
   pub leg-starts : (w : Page) {es : List EdgeEvent} → es ≡ sortedEdgeEvents k l →
-      onPage (legMoves g k l) w ≡ left es zero64 w
+      onPage tolerance (legMoves g k l) w ≡ left es zero64 w
   unfolding legMoves
-  leg-starts w e = rw e (page-append _ _ w)
+  leg-starts w e = rw e (page-append tolerance _ _ w)
 
   module _ (ls : List Float) (cs : List ℕ) (count i : ℕ) (h : count ≤ length ls) (s : length ls ≡ length cs) where
     -- the events from i on
@@ -92,23 +88,25 @@ module _ (g : List Float) (k : Cells) (l : Leg) where
     rest j = drop j (eventsIn ls cs count)
 
     pub leg-ends : (previous : Float) (w : Page) → count ≤ i →
-        left (rest i) previous w ≡ cond (paramInBounds k (l .b)) (on w) (flushPage w)
+        left (rest i) previous w ≡ flushUnless (paramInBounds k (l .b)) w
     unfolding eventsMoves
-    leg-ends previous w t = rw (ended ls cs count i h s t, page-none w) (end-run (paramInBounds k (l .b)) w)
+    leg-ends previous w t =
+        rw (ended ls cs count i h s t, page-none tolerance w) (end-run tolerance (paramInBounds k (l .b)) w)
 
     module _ (t : i < count) (previous : Float) (w : Page) {v : EdgeEvent} {x : Float} {d : Decision}
         (ev : v ≡ eventOf (getD ls i nan) (getD cs i 0))
-        (ex : x ≡ cond (ltb (i + 1) count) (getD ls (i + 1) nan) one64) (ed : d ≡ decide g k l previous v x)
+        (ex : x ≡ lambdaOrOne ls count (i + 1)) (ed : d ≡ decide g k l previous v x)
       where
         -- the event at i
         abbrev here : Outcome Page
-        here = onPage (movesOf d) w
+        here = onPage tolerance (movesOf d) w
 
         turn : left (rest i) previous w ≡ follow here (left (rest (i + 1)) (v .lambda))
         unfolding eventsMoves
         turn =
             let first : rest i ≡ v ∷ rest (i + 1) = rw ev (next-event ls cs count i s h t) in
-            rw (first, next-is ls cs count (i + 1) h s ex, ← ed, page-append) (follow-follow here _ ending)
+            rw (first, next-is ls cs count (i + 1) h s ex, ← ed, page-append tolerance)
+            (sym (follow-twice here _ ending (λ s. refl)))
 
         module _ {z : Outcome Page} (ez : z ≡ left (rest i) previous w) {r : Penned} {m : Lists}
             (u : afterwards r m ≡ pageAfter here) where

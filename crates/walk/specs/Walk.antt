@@ -2,7 +2,10 @@
 -- Original: `append_edge_crossings`.
 use mathlib.Core.Bool.{Bool, _||_, cond}
 use mathlib.Core.List.{List, [], _∷_, _++_}
-use lib.Ieee.{Float, binary64, lt, add, mul}
+use Prim.Native.Nat.{ℕ}
+use lib.Dec.{ltb}
+use lib.ListN.{getD}
+use lib.Ieee.{Float, binary64, nan, lt, add, mul}
 use Rattle.refusal.specs.declared.Refusal.the-variants as refusals
 use Rattle.float.specs.Consts.{eps, zero64, one64, half64}
 use Rattle.param.specs.declared.Cells.{Cells}
@@ -84,3 +87,9 @@ eventsMoves g k l previous (e ∷ es) =
 -- of a leg: those of its events, from 0 on, and a flush if b is not within EPS of the grid
 unfoldable pub legMoves : List Float → Cells → Leg → List (Move Crossing)
 legMoves g k l = eventsMoves g k l zero64 (sortedEdgeEvents k l) ++ endMoves (paramInBounds k (l .b))
+
+-- ---- for inner contracts
+
+-- `nextLambda` of the events from i on, where their lambdas are the first `count` of a list
+abbrev pub lambdaOrOne : List Float → ℕ → ℕ → Float
+lambdaOrOne lambdas count i = cond (ltb i count) (getD lambdas i nan) one64

@@ -14,18 +14,15 @@ use param::Cells;
 use param::Leg;
 use param::param_in_bounds;
 use refusal::Refusal;
-ghost use mathlib.Core.Bool.{cond};
 ghost use Prim.Native.Nat.{_≤_};
 ghost use mathlib.Core.Path.{_≡_};
-ghost use lib.Dec.{ltb};
-ghost use lib.ListN.{length, getD};
-ghost use lib.Ieee.{nan};
-ghost use Rattle.float.specs.Consts.{one64};
+ghost use lib.ListN.{length};
+ghost use Rattle.float.specs.Consts.{eps};
 ghost use Rattle.lent.specs.Lent.{afterwards};
 ghost use Rattle.edges.specs.Events.{Inside};
 ghost use Rattle.crossing.specs.Crossing.{GridFits};
 ghost use Rattle.page.specs.Page.{lists, page, onPage, pageAfter, PenFits};
-ghost use Rattle.walk.specs.Walk.{beforeInside, afterInside, decide, movesOf, legMoves};
+ghost use Rattle.walk.specs.Walk.{beforeInside, afterInside, decide, movesOf, legMoves, lambdaOrOne};
 
 // What becomes of an event's point: it is pushed, there is none to push, or refusal 11 ends the walk.
 pub enum EventPoint {
@@ -109,7 +106,7 @@ fn draw_event(
     requires { ⌜ PenFits (now points) pen ⌝ }
     ensures { λ r. ⌜ afterwards r
         (lists (now (points .exit)) (now (starts .exit)) (now (sides .exit)) (now (fractions .exit)))
-        ≡ pageAfter (onPage (movesOf decision)
+        ≡ pageAfter (onPage eps (movesOf decision)
         (page (lists (now (points .entry)) (now (starts .entry)) (now (sides .entry)) (now (fractions .entry)))
         pen)) ⌝ }
 {
@@ -128,7 +125,7 @@ fn draw_event(
 // The lambda of event i of `count`, or 1 past the last.
 fn lambda_or_one(lambdas: &[f64], count: usize, i: usize) -> f64
     requires { ⌜ count ≤ length (now lambdas) ⌝ }
-    ensures { λ r. ⌜ r ≡ cond (ltb i count) (getD (now (lambdas .entry)) i nan) one64 ⌝ }
+    ensures { λ r. ⌜ r ≡ lambdaOrOne (now (lambdas .entry)) count i ⌝ }
 {
     if i < count {
         return lambdas[i];
@@ -154,7 +151,7 @@ pub fn append_edge_crossings(
     requires { ⌜ PenFits (now points) pen ⌝ }
     ensures { λ r. ⌜ afterwards r
         (lists (now (points .exit)) (now (starts .exit)) (now (sides .exit)) (now (fractions .exit)))
-        ≡ pageAfter (onPage (legMoves (now (grid .entry)) cells leg)
+        ≡ pageAfter (onPage eps (legMoves (now (grid .entry)) cells leg)
         (page (lists (now (points .entry)) (now (starts .entry)) (now (sides .entry)) (now (fractions .entry)))
         pen)) ⌝ }
 {

@@ -8,10 +8,10 @@ abbrev outside : tie.After-flush-segment → tie.Else1
 outside f = f .before .before
 
 returns : tie.Need-returns
-returns c p d f = simp (c .if1 .taken)
+returns c l = simp (c .if1 .taken)
 
 returns-2 : tie.Need-returns-2
-returns-2 c p d f = rw (outside (c .before .before) .if1 .left) (c .before .before .flush-segment .ensures p d f)
+returns-2 c l = rw (outside (c .before .before) .if1 .left) (c .before .before .flush-segment .ensures l)
 
 pub flush-unless-spec : {M : Type 1} → statement M
 flush-unless-spec = tie.close (tie.spec returns (λ c κs. search needs) (λ c. search needs) returns-2)

@@ -19,11 +19,11 @@ traced c = c .before .before .before .before .before .before .before .before
 
 returns : tie.Need-returns
 returns c ss e _ =
-    length-refused _ _ _ _ _ _ (c .before .steps-fit .ensures) (c .if2 .taken)
+    length-refused _ _ _ _ _ _ _ (c .before .steps-fit .ensures) (c .if2 .taken)
     (rw (marks-count ss, e) (c .before .before .if1 .taken))
 
 returns-2 : tie.Need-returns-2
-returns-2 c ss _ _ = steps-refused _ _ _ _ _ _ (c .before .steps-fit .ensures) (c .if2 .left)
+returns-2 c ss _ _ = steps-refused _ _ _ _ _ _ _ (c .before .steps-fit .ensures) (c .if2 .left)
 
 returns-3 : tie.Need-returns-3
 returns-3 c ss e h =

@@ -5,10 +5,11 @@ use mathlib.Core.Path.{_≡_, _∙_}
 use native.Mathlib.Omega.{arith}
 use denote.Ref.{now}
 use lib.ListN.{length, drop}
-use Rattle.float.specs.Consts.{zero64}
+use Rattle.float.specs.Consts.{eps, zero64}
 use Rattle.edges.specs.Scratch.{eventsIn}
-use Rattle.page.specs.Page.{lists, page, onPage, PenFits}
-use Rattle.page.proofs.Fits.{fits-down, moves-fit}
+use Rattle.page.specs.Page.{lists, Page, page, onPage, PenFits}
+use Rattle.page.proofs.Follow.{down-holds}
+use Rattle.page.proofs.Fits.{Fitting, moves-fit, Sized, SizedPage, moves-sized}
 use Rattle.walk.specs.Walk.{movesOf, legMoves}
 use Rattle.walk.proofs.Walked.{left, event-inside, leg-inside, leg-starts, leg-ends, turn-goes, turn-stops}
 use borrow.Author.Needs.{needs}
@@ -18,11 +19,11 @@ use Rattle.walk.proofs.append_edge_crossings.Tie as tie
 abbrev Inv-loop : tie.InvT-loop
 Inv-loop lambdas codes grid cells leg points₀ starts₀ sides₀ fractions₀ count pen₀ previous₀ i₀ points starts sides
     fractions pen previous i =
-    (i ≤ count) × (length points ≡ length points₀) × (length starts ≡ length starts₀) × (length sides ≡ length sides₀)
-    × (length fractions ≡ length fractions₀)
+    (i ≤ count) × Sized (lists points₀ starts₀ sides₀ fractions₀) (lists points starts sides fractions)
     × PenFits points pen
-    × (left grid cells leg (eventsIn lambdas codes count) zero64 (page (lists points₀ starts₀ sides₀ fractions₀) pen₀)
-    ≡ left grid cells leg (drop i (eventsIn lambdas codes count)) previous
+    × (left eps grid cells leg (eventsIn lambdas codes count) zero64
+    (page (lists points₀ starts₀ sides₀ fractions₀) pen₀)
+    ≡ left eps grid cells leg (drop i (eventsIn lambdas codes count)) previous
     (page (lists points starts sides fractions) pen))
 
 abbrev μ-loop : tie.MeasureT-loop
@@ -47,6 +48,14 @@ decided d = d .before .before .before .before .before
 abbrev looping : tie.After-draw-event Inv-loop μ-loop → tie.At-loop Inv-loop μ-loop
 looping d = looped (decided d) .before
 
+-- the lists and the pen as they were lent, and as they stand at the loop
+abbrev lent : tie.Start Inv-loop μ-loop → Page
+lent s =
+    let a = s .args in page (lists (now (a .points)) (now (a .starts)) (now (a .sides)) (now (a .fractions))) (a .pen)
+
+abbrev held : tie.At-loop Inv-loop μ-loop → Page
+held l = let o = l .loop in page (lists (o .points) (o .starts) (o .sides) (o .fractions)) (o .pen)
+
 -- where the scratch lists stand, from the loop
 abbrev lambdas-kept : tie.At-loop Inv-loop μ-loop → tie.After-lambdas Inv-loop μ-loop
 lambdas-kept l = l .before .before .before .before
@@ -60,19 +69,6 @@ refused c = c .before .before .before .before .before .before .before .before .b
 
 abbrev went-on : tie.After-known-told Inv-loop μ-loop → tie.After-draw-event Inv-loop μ-loop
 went-on c = c .before .before .before .before .before .before .before .before .before .before .before
-
--- the lists after it
-abbrev points-kept : tie.After-known-told Inv-loop μ-loop → tie.After-points Inv-loop μ-loop
-points-kept c = c .before .before .before .before .before .before .before .before .before .before
-
-abbrev starts-kept : tie.After-known-told Inv-loop μ-loop → tie.After-starts Inv-loop μ-loop
-starts-kept c = c .before .before .before .before .before .before .before .before
-
-abbrev sides-kept : tie.After-known-told Inv-loop μ-loop → tie.After-sides Inv-loop μ-loop
-sides-kept c = c .before .before .before .before .before .before
-
-abbrev fractions-kept : tie.After-known-told Inv-loop μ-loop → tie.After-fractions Inv-loop μ-loop
-fractions-kept c = c .before .before .before .before
 
 -- the events stand in the two scratch lists
 below : (l : tie.At-loop Inv-loop μ-loop) → let o = sorted l .sorted-edge-events in o .result ≤ length (o .last .0)
@@ -91,15 +87,13 @@ alike l =
 
 -- the whole leg is what is left of it before the first event
 whole : (l : tie.At-loop Inv-loop μ-loop) → let a = started l .args in
-    let w = page (lists (now (a .points)) (now (a .starts)) (now (a .sides)) (now (a .fractions))) (a .pen) in
+    let w = lent (started l) in
     let o = sorted l .sorted-edge-events in
-    onPage (legMoves (now (a .grid)) (a .cells) (a .leg)) w
-    ≡ left (now (a .grid)) (a .cells) (a .leg) (eventsIn (o .last .0) (o .last .1 .0) (o .result)) zero64 w
+    onPage eps (legMoves (now (a .grid)) (a .cells) (a .leg)) w
+    ≡ left eps (now (a .grid)) (a .cells) (a .leg) (eventsIn (o .last .0) (o .last .1 .0) (o .result)) zero64 w
 whole l =
     let a = started l .args in
-    leg-starts (now (a .grid)) (a .cells) (a .leg)
-    (page (lists (now (a .points)) (now (a .starts)) (now (a .sides)) (now (a .fractions))) (a .pen))
-    (sorted l .sorted-edge-events .ensures .1)
+    leg-starts eps (now (a .grid)) (a .cells) (a .leg) (lent (started l)) (sorted l .sorted-edge-events .ensures .1)
 
 decide-requires : tie.Need-decide-requires Inv-loop μ-loop
 decide-requires c κs =
@@ -127,10 +121,10 @@ returns c =
     let l = looping d in
     let a = started l .args in
     let o = sorted l .sorted-edge-events in
-    turn-stops (now (a .grid)) (a .cells) (a .leg) (o .last .0) (o .last .1 .0) (o .result) (l .loop .i) (below l)
+    turn-stops eps (now (a .grid)) (a .cells) (a .leg) (o .last .0) (o .last .1 .0) (o .result) (l .loop .i) (below l)
     (alike l) (looped e .loop-test .taken) _ _
     (e .before .before .before .event-at .ensures) (e .before .lambda-or-one .ensures) (e .decide .ensures)
-    (whole l ∙ l .loop .inv .6) (d .draw-event .ensures) (c .before .refusal .given .1)
+    (whole l ∙ l .loop .inv .3) (d .draw-event .ensures) (c .before .refusal .given .1)
 
 add-i : tie.Need-add-i Inv-loop μ-loop
 add-i c =
@@ -144,26 +138,21 @@ loop-again c =
     let l = looping d in
     let a = started l .args in
     let o = sorted l .sorted-edge-events in
-    let w = page (lists (l .loop .points) (l .loop .starts) (l .loop .sides) (l .loop .fractions)) (l .loop .pen) in (
+    let ms = movesOf (e .decide .result) in
+    let first = lent (started l) .lists in (
       omega (arith, looped e .loop-test .taken),
-      omega (
-        arith,
-        points-kept c .points .given,
-        l .loop .inv .1,
-      ),
-      omega (arith, starts-kept c .starts .given, l .loop .inv .2),
-      omega (arith, sides-kept c .sides .given, l .loop .inv .3),
-      omega (arith, fractions-kept c .fractions .given, l .loop .inv .4),
-      fits-down (onPage (movesOf (e .decide .result)) w) (d .draw-event .ensures) (c .before .drawn .given .1)
-          (moves-fit (movesOf (e .decide .result)) w (l .loop .inv .5)),
-      turn-goes (now (a .grid)) (a .cells) (a .leg) (o .last .0) (o .last .1 .0) (o .result) (l .loop .i) (below l)
+      down-holds (SizedPage first) (onPage eps ms (held l)) (d .draw-event .ensures) (c .before .drawn .given .1)
+          (moves-sized first eps ms (held l) (l .loop .inv .1)),
+      down-holds Fitting (onPage eps ms (held l)) (d .draw-event .ensures) (c .before .drawn .given .1)
+          (moves-fit eps ms (held l) (l .loop .inv .2)),
+      turn-goes eps (now (a .grid)) (a .cells) (a .leg) (o .last .0) (o .last .1 .0) (o .result) (l .loop .i) (below l)
           (alike l) (looped e .loop-test .taken) _ _
           (e .before .before .before .event-at .ensures) (e .before .lambda-or-one .ensures) (e .decide .ensures)
-          (l .loop .inv .6) (d .draw-event .ensures) (c .before .drawn .given .1),
+          (l .loop .inv .3) (d .draw-event .ensures) (c .before .drawn .given .1),
     )
 
 flush-unless-requires : tie.Need-flush-unless-requires Inv-loop μ-loop
-flush-unless-requires c κs = c .before .before .before .loop .inv .5 .0
+flush-unless-requires c κs = c .before .before .before .loop .inv .2 .0
 
 returns-2 : tie.Need-returns-2 Inv-loop μ-loop
 returns-2 c =
@@ -173,11 +162,11 @@ returns-2 c =
     let a = started l .args in
     let o = sorted l .sorted-edge-events in
     rw (
-      whole l ∙ l .loop .inv .6 ∙ leg-ends (now (a .grid)) (a .cells) (a .leg) (o .last .0) (o .last .1 .0)
+      whole l ∙ l .loop .inv .3 ∙ leg-ends eps (now (a .grid)) (a .cells) (a .leg) (o .last .0) (o .last .1 .0)
           (o .result) (l .loop .i) (below l) (alike l) _ _ (b .before .loop-test .left),
       ← b .param-in-bounds .ensures,
     )
-    (f .flush-unless .ensures _ _ _)
+    (f .flush-unless .ensures (held l .lists))
 
 pub append-edge-crossings-spec : {M : Type 1} → statement M
 append-edge-crossings-spec =

@@ -5,8 +5,10 @@ use mathlib.Core.Path.{_≡_, _∙_}
 use native.Mathlib.Omega.{arith}
 use denote.Ref.{now}
 use lib.ListN.{length, drop}
-use Rattle.page.specs.Page.{lists, penAt, page, onPage, PenFits}
-use Rattle.page.proofs.Fits.{fits-down, moves-fit}
+use Rattle.float.specs.Consts.{eps}
+use Rattle.page.specs.Page.{Lists, lists, penAt, Page, page, onPage, PenFits}
+use Rattle.page.proofs.Follow.{down-holds}
+use Rattle.page.proofs.Fits.{Fitting, moves-fit, Sized, SizedPage, moves-sized}
 use Rattle.trace.specs.declared.curve.Previous.the-variants.{Nowhere}
 use Rattle.trace.specs.Curve.{samplesOf, visitMoves, traceMoves}
 use Rattle.trace.proofs.Sampled.{trace-goes, trace-stops, trace-flushes}
@@ -17,12 +19,11 @@ use Rattle.trace.proofs.curve.trace_parametric_edge_curve.Tie as tie
 abbrev Inv-loop : tie.InvT-loop
 Inv-loop grid cells pairs marks points₀ starts₀ sides₀ fractions₀ lambdas₀ codes₀ pen₀ previous₀ i₀ points starts
     sides fractions lambdas codes pen previous i =
-    (i ≤ length marks) × (length points ≡ length points₀) × (length starts ≡ length starts₀)
-    × (length sides ≡ length sides₀) × (length fractions ≡ length fractions₀)
-    × (length lambdas ≡ 1023) × (length codes ≡ 1023) × PenFits points pen
-    × (onPage (traceMoves grid cells (samplesOf marks pairs) Nowhere)
+    (i ≤ length marks) × (length lambdas ≡ 1023) × (length codes ≡ 1023)
+    × Sized (lists points₀ starts₀ sides₀ fractions₀) (lists points starts sides fractions) × PenFits points pen
+    × (onPage eps (traceMoves grid cells (samplesOf marks pairs) Nowhere)
     (page (lists points₀ starts₀ sides₀ fractions₀) (penAt 0 0 0))
-    ≡ onPage (traceMoves grid cells (drop i (samplesOf marks pairs)) previous)
+    ≡ onPage eps (traceMoves grid cells (drop i (samplesOf marks pairs)) previous)
     (page (lists points starts sides fractions) pen))
 
 abbrev μ-loop : tie.MeasureT-loop
@@ -41,6 +42,13 @@ visited t = t .before .before .before .before .before .before
 abbrev looped : tie.After-visit-of Inv-loop μ-loop → tie.In-loop Inv-loop μ-loop
 looped v = v .before .before .before
 
+-- the lists as they were lent; and they and the pen as they stand at the loop
+abbrev lent : tie.Start Inv-loop μ-loop → Lists
+lent s = let a = s .args in lists (now (a .points)) (now (a .starts)) (now (a .sides)) (now (a .fractions))
+
+abbrev held : tie.At-loop Inv-loop μ-loop → Page
+held l = let o = l .loop in page (lists (o .points) (o .starts) (o .sides) (o .fractions)) (o .pen)
+
 -- the place where a sample is refused, and where the trace goes on after it
 abbrev refused : tie.After-known-told2 Inv-loop μ-loop → tie.After-trace-sample Inv-loop μ-loop
 refused c = c .before .before .before .before .before .before .before .before .before .before .before .before .before
@@ -49,23 +57,10 @@ abbrev went-on : tie.After-after-sample Inv-loop μ-loop → tie.After-trace-sam
 went-on c =
     c .before .before .before .before .before .before .before .before .before .before .before .before .before .before
 
--- the lists after it
-abbrev points-kept : tie.After-after-sample Inv-loop μ-loop → tie.After-points Inv-loop μ-loop
-points-kept c = c .before .before .before .before .before .before .before .before .before .before .before
-
-abbrev starts-kept : tie.After-after-sample Inv-loop μ-loop → tie.After-starts Inv-loop μ-loop
-starts-kept c = c .before .before .before .before .before .before .before .before .before
-
-abbrev sides-kept : tie.After-after-sample Inv-loop μ-loop → tie.After-sides Inv-loop μ-loop
-sides-kept c = c .before .before .before .before .before .before .before
-
-abbrev fractions-kept : tie.After-after-sample Inv-loop μ-loop → tie.After-fractions Inv-loop μ-loop
-fractions-kept c = c .before .before .before .before .before
-
 trace-sample-requires : tie.Need-trace-sample-requires Inv-loop μ-loop
 trace-sample-requires c κs =
     let l = looped (visited c) .before in
-    ((search needs, search needs), (started l .pre .0, l .loop .inv .7))
+    ((search needs, search needs), (started l .pre .0, l .loop .inv .4))
 
 returns : tie.Need-returns Inv-loop μ-loop
 returns c =
@@ -73,9 +68,9 @@ returns c =
     let v = visited (t .before) in
     let l = looped v .before in
     let s = started l in
-    trace-stops (now (s .args .grid)) (s .args .cells) (now (s .args .marks)) (now (s .args .pairs)) (l .loop .i)
+    trace-stops eps (now (s .args .grid)) (s .args .cells) (now (s .args .marks)) (now (s .args .pairs)) (l .loop .i)
     (s .pre .1 .0) _ _ (looped v .loop-test .taken)
-    (v .before .point-of .ensures) (v .visit-of .ensures) (l .loop .inv .8) (t .trace-sample .ensures)
+    (v .before .param-at .ensures) (v .visit-of .ensures) (l .loop .inv .5) (t .trace-sample .ensures)
     (c .before .refusal .given .1)
 
 add-i : tie.Need-add-i Inv-loop μ-loop
@@ -91,28 +86,22 @@ loop-again c =
     let s = started l in
     let a = s .args in
     let ms = visitMoves (now (a .grid)) (a .cells) (v .visit-of .result) in
-    let w = page (lists (l .loop .points) (l .loop .starts) (l .loop .sides) (l .loop .fractions)) (l .loop .pen) in (
+    let first = lent s in (
       omega (arith, looped v .loop-test .taken),
-      omega (arith, points-kept c .points .given, l .loop .inv .1),
-      omega (
-        arith,
-        starts-kept c .starts .given,
-        l .loop .inv .2,
-      ),
-      omega (arith, sides-kept c .sides .given, l .loop .inv .3),
-      omega (arith, fractions-kept c .fractions .given, l .loop .inv .4),
       search needs,
       search needs,
-      fits-down (onPage ms w) (t .trace-sample .ensures) (c .before .before .traced .given .1)
-          (moves-fit ms w (l .loop .inv .7)),
-      trace-goes (now (a .grid)) (a .cells) (now (a .marks)) (now (a .pairs)) (l .loop .i) (s .pre .1 .0) _ _
-          (looped v .loop-test .taken) (v .before .point-of .ensures)
-          (v .visit-of .ensures) (l .loop .inv .8) (t .trace-sample .ensures) (c .before .before .traced .given .1)
+      down-holds (SizedPage first) (onPage eps ms (held l)) (t .trace-sample .ensures)
+          (c .before .before .traced .given .1) (moves-sized first eps ms (held l) (l .loop .inv .3)),
+      down-holds Fitting (onPage eps ms (held l)) (t .trace-sample .ensures) (c .before .before .traced .given .1)
+          (moves-fit eps ms (held l) (l .loop .inv .4)),
+      trace-goes eps (now (a .grid)) (a .cells) (now (a .marks)) (now (a .pairs)) (l .loop .i) (s .pre .1 .0) _ _
+          (looped v .loop-test .taken) (v .before .param-at .ensures)
+          (v .visit-of .ensures) (l .loop .inv .5) (t .trace-sample .ensures) (c .before .before .traced .given .1)
           (c .after-sample .ensures),
     )
 
 flush-segment-requires : tie.Need-flush-segment-requires Inv-loop μ-loop
-flush-segment-requires c κs = c .before .before .loop .inv .7 .0
+flush-segment-requires c κs = c .before .before .loop .inv .4 .0
 
 returns-2 : tie.Need-returns-2 Inv-loop μ-loop
 returns-2 c =
@@ -121,9 +110,9 @@ returns-2 c =
     let l = e .before in
     let s = started l in
     let a = s .args in
-    rw (l .loop .inv .8 ∙ trace-flushes (now (a .grid)) (a .cells) (now (a .marks)) (now (a .pairs)) (l .loop .i)
+    rw (l .loop .inv .5 ∙ trace-flushes eps (now (a .grid)) (a .cells) (now (a .marks)) (now (a .pairs)) (l .loop .i)
     (s .pre .1 .0) _ _ (e .loop-test .left))
-    (f .flush-segment .ensures _ _ _)
+    (f .flush-segment .ensures (held l .lists))
 
 pub trace-parametric-edge-curve-spec : {M : Type 1} → statement M
 trace-parametric-edge-curve-spec =

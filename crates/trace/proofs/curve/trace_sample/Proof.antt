@@ -1,5 +1,6 @@
 -- `trace::curve::trace_sample` meets its contract: proofs/Sampled.antt has what is done by what the sample is.
 use denote.Ref.{now}
+use Rattle.float.specs.Consts.{eps}
 use Rattle.page.specs.Page.{lists, Page, page}
 use Rattle.trace.proofs.Sampled.{sample-break, sample-leg, sample-first}
 use borrow.Author.Needs.{needs}
@@ -25,16 +26,17 @@ returns : tie.Need-returns
 returns c =
     let f = c .before .before in
     let e = f .before .before in
-    sample-break _ _ (lent (started (e .before .before))) (e .enum-told .given .1) (f .flush-segment .ensures _ _ _)
+    let w = lent (started (e .before .before)) in
+    sample-break eps _ _ w (e .enum-told .given .1) (f .flush-segment .ensures (w .lists))
 
 returns-2 : tie.Need-returns-2
 returns-2 c =
     let t = walked c in
     let v = visited t in
-    sample-leg _ _ (lent (started (v .before .before))) (v .visit .given .1) (t .append-edge-crossings .ensures)
+    sample-leg eps _ _ (lent (started (v .before .before))) (v .visit .given .1) (t .append-edge-crossings .ensures)
 
 returns-3 : tie.Need-returns-3
-returns-3 c = sample-first _ _ (lent (started (c .before .before))) (c .enum-told2 .given .1)
+returns-3 c = sample-first eps _ _ (lent (started (c .before .before))) (c .enum-told2 .given .1)
 
 pub trace-sample-spec : {M : Type 1} → statement M
 trace-sample-spec =

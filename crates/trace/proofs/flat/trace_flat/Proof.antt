@@ -4,6 +4,7 @@ use Prim.Native.Nat.{_*_, _<_}
 use native.Mathlib.Omega.{arith}
 use denote.Ref.{now}
 use lib.ListN.{length}
+use Rattle.float.specs.Consts.{eps}
 use Rattle.page.specs.Page.{Lists, lists}
 use Rattle.trace.proofs.Demands.{demand3}
 use Rattle.trace.proofs.Ended.{passes, refused-before, counted, zeroed}
@@ -57,7 +58,7 @@ fits c =
     omega (
       arith,
       c .count-in .ensures,
-      counted (now (a .grid)) (a .m) (a .n) (now (a .pairs)) (now (a .marks)) (lent s)
+      counted eps (now (a .grid)) (a .m) (a .n) (now (a .pairs)) (now (a .marks)) (lent s)
           (t .trace-parametric-edge-curve .ensures),
       points-kept c .points .given,
       lent-short s,
@@ -67,7 +68,7 @@ returns : tie.Need-returns
 returns c =
     let k = c .before .before .before in
     let a = started k .args in (
-      refused-before (now (a .grid)) (a .m) (a .n) (now (a .pairs)) (now (a .marks)) (lent (started k))
+      refused-before eps (now (a .grid)) (a .m) (a .n) (now (a .pairs)) (now (a .marks)) (lent (started k))
           (k .check-trace .ensures) (c .before .refusal .given .1),
       demand3 _ _ _,
     )
@@ -96,7 +97,7 @@ returns-2 c =
     let e = told (t .before) in
     let k = checked e in
     let a = started k .args in (
-      zeroed (now (a .grid)) (a .m) (a .n) (now (a .pairs)) (now (a .marks)) (lent (started k))
+      zeroed eps (now (a .grid)) (a .m) (a .n) (now (a .pairs)) (now (a .marks)) (lent (started k))
           (t .trace-parametric-edge-curve .ensures) (k .check-trace .ensures) (e .enum-told .given .1)
           (c .answer-of .ensures) (n .count-in .ensures) (s .before .lines-in .ensures) (p .zero-floats .ensures)
           (s .zero-numbers .ensures) (d .zero-numbers2 .ensures) (f .zero-floats2 .ensures),
