@@ -9,7 +9,7 @@ use Rattle.float.specs.Consts.{zero64}
 use Rattle.param.specs.declared.ParamPoint.{ParamPoint}
 use Rattle.param.specs.declared.Cells.{Cells}
 use Rattle.param.specs.declared.Leg.{Leg}
-use Rattle.param.specs.Param.{onLeg, paramInBounds}
+use Rattle.param.specs.Param.{legAt, paramInBounds}
 use Rattle.edges.specs.declared.event.ParamEdge.{ParamEdge}
 use Rattle.edges.specs.declared.event.EdgeEvent.{EdgeEvent}
 use Rattle.edges.specs.Events.{sortedEdgeEvents}
@@ -45,7 +45,7 @@ module _ (g : List Float) (k : Cells) (Good : Crossing → Type 0) where
   unfolding decide eventsMoves
   events-good l previous [] good = none
   events-good l previous (e ∷ es) good =
-      let x = onLeg l (e .lambda) in
+      let x = legAt l (e .lambda) in
       let before = beforeInside k l previous (e .lambda) in
       let after = afterInside k l (e .lambda) (nextLambda es) in
       both (both (point-good (before || after) (edgePoint g k (e .edge) x) (good .0 x)) (end-good after))
