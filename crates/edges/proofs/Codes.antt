@@ -19,7 +19,7 @@ inside-codable k (Diagonal u v) hm hn h = (omega arith, omega arith)
 
 pub code-back : (e : ParamEdge) → Codable e → edgeOf (codeOf e) ≡ e
 unfolding codeOf edgeOf
-code-back (U u) h = simp (lt-ltb u 256 h)
+code-back (U u) h = let t : u < 256 = omega arith in simp (lt-ltb u 256 t)
 code-back («V» v) h =
     let t : 256 ≤ 256 + v = omega arith in
     let s : 256 + v < 512 = omega arith in

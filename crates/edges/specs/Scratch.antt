@@ -15,11 +15,11 @@ use Rattle.edges.specs.declared.event.ParamEdge.the-variants.{U, «V», 
 use Rattle.edges.specs.declared.event.EdgeEvent.{EdgeEvent}
 use Rattle.edges.specs.Events.{event, precedes}
 
--- a side that has a code: its indices are below 256
+-- a side that has a code: one of a grid of 255 steps
 abbrev pub Codable : ParamEdge → Type 0
-Codable (U u) = u < 256
-Codable («V» v) = v < 256
-Codable (Diagonal u v) = (u < 256) × (v < 256)
+Codable (U u) = u ≤ 255
+Codable («V» v) = v ≤ 255
+Codable (Diagonal u v) = (u < 255) × (v < 255)
 
 -- such a side as one number, and back
 unfoldable pub codeOf : ParamEdge → ℕ

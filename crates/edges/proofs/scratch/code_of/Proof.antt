@@ -1,6 +1,6 @@
--- `edges::scratch::code_of` meets its contract: indices are below 256, so that nothing wraps.
+-- `edges::scratch::code_of` meets its contract: indices are at most 255, so that nothing wraps.
 use mathlib.Core.Path.{ap, sym}
-use Prim.Native.Nat.{_<_}
+use Prim.Native.Nat.{_≤_, _<_}
 use native.Mathlib.Omega.{arith}
 use Rattle.edges.specs.Scratch.{codeOf}
 use borrow.Author.Needs.{needs}
@@ -8,13 +8,13 @@ use Rattle.edges.proofs.scratch.code_of.Statement.{statement}
 use Rattle.edges.proofs.scratch.code_of.Tie as tie
 
 -- the bound on the side, for each kind
-u-below : (c : tie.After-known-told) → c .before .edge .given .0 .0 < 256
-u-below c = rw (c .before .edge .given .1) at (c .before .before .before .pre)
+u-most : (c : tie.After-known-told) → c .before .edge .given .0 .0 ≤ 255
+u-most c = rw (c .before .edge .given .1) at (c .before .before .before .pre)
 
-v-below : (c : tie.After-known-told2) → c .before .edge2 .given .0 .0 < 256
-v-below c = rw (c .before .edge2 .given .1) at (c .before .before .before .pre)
+v-most : (c : tie.After-known-told2) → c .before .edge2 .given .0 .0 ≤ 255
+v-most c = rw (c .before .edge2 .given .1) at (c .before .before .before .pre)
 
-cell-below : (c : tie.After-known-told3) → let cell = c .before .edge3 .given .0 in (cell .0 < 256) × (cell .1 .0 < 256)
+cell-below : (c : tie.After-known-told3) → let cell = c .before .edge3 .given .0 in (cell .0 < 255) × (cell .1 .0 < 255)
 cell-below c = rw (c .before .edge3 .given .1) at (c .before .before .before .pre)
 
 returns : tie.Need-returns
@@ -34,10 +34,10 @@ code-of-spec =
     tie.close
     (tie.spec
     (λ c. search needs)
-    (λ c. omega (arith, u-below c))
+    (λ c. omega (arith, u-most c))
     (λ c. search needs)
-    (λ c. omega (arith, v-below c))
-    (λ c. omega (arith, v-below c))
+    (λ c. omega (arith, v-most c))
+    (λ c. omega (arith, v-most c))
     (λ c. search needs)
     (λ c. omega (arith, cell-below c))
     (λ c. omega (arith, cell-below c))
