@@ -1,8 +1,8 @@
 // The samples of a trace, as pairs and marks, and the refusals before the walk (Rules 11).
 use refusal::Check;
 use refusal::Refusal;
-ghost use mathlib.Core.Path.{_≡_};
 ghost use Prim.Native.Nat.{_*_};
+ghost use mathlib.Core.Path.{_≡_};
 ghost use lib.ListN.{length};
 ghost use Rattle.trace.specs.Trace.{checkLengths, marksFit, sampleFits, pairsFit, traceCheck};
 
