@@ -1,13 +1,14 @@
 -- Elements one after another in a list, w places each: the front of the list is unmoved by a drop, and grows by one
 -- element with a write. Over the width w and the type of the elements.
-use mathlib.Core.Path.{_≡_, refl, sym, ap, _∙_}
+use mathlib.Core.Path.{_≡_, refl, sym, _∙_}
 use mathlib.Core.List.{List, [], _∷_, _++_, append-assoc, append-nil}
 use Prim.Native.Nat.{ℕ, zero, suc, _+_, _*_, _≤_, _<_}
 use native.Mathlib.Nat.{mul-suc, mul-zero, mul-le-mul-left}
 use native.Mathlib.Numerals.{add-one}
 use native.Mathlib.Omega.{arith}
-use lib.ListN.{length, take, drop, getD, length-append, length-take, List·getD-append}
-use lib.Seq.{take-at, take-take, sets, sets-eq, getD-take, getD-append-add}
+use lib.ListN.{length, take, getD, length-append, List·getD-append}
+use lib.Seq.{take-at, take-take, sets, getD-take, getD-append-add}
+use Rattle.basics.proofs.Lists.{take-sets}
 use Rattle.lent.specs.Lent.{filled, zeroedFrom}
 use Rattle.lent.proofs.Laws.{zeroed-filled}
 use Rattle.trace.specs.Trace.{inTurn}
@@ -22,16 +23,6 @@ turn-append f (c ∷ cs) ds = rw (turn-append f cs ds, append-assoc)
 turn-one : {A B : Type 0} (f : B → List A) (c : B) → inTurn f (c ∷ []) ≡ f c
 unfolding inTurn
 turn-one f c = append-nil (f c)
-
--- `sets` from a place on, and no further
-take-sets : {A : Type 0} (vs l : List A) (i : ℕ) → i + length vs ≤ length l →
-    take (i + length vs) (sets l i vs) ≡ take i l ++ vs
-take-sets vs l i h =
-    ap (take (i + length vs)) (sets-eq vs l i h)
-    ∙ take-at (take i l ++ vs) (drop (i + length vs) l) (i + length vs) front
-  where
-    front : length (take i l ++ vs) ≡ i + length vs
-    front = simp (length-append, length-take) (omega arith)
 
 -- the list's front holds these, w places each
 abbrev pub Holds : {A B : Type 0} → ℕ → (B → List A) → List A → List B → Type 0
