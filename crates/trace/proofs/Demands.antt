@@ -26,6 +26,7 @@ use Rattle.edges.specs.Events.{sortedEdgeEvents, Inside, OnGrid}
 use Rattle.edges.specs.declared.event.ParamEdge.{ParamEdge}
 use Rattle.edges.specs.declared.event.ParamEdge.the-variants.{U, «V», Diagonal}
 use Rattle.edges.specs.declared.event.EdgeEvent.{EdgeEvent}
+use Rattle.edges.proofs.Laws.{leg-inside}
 use Rattle.crossing.specs.declared.StepIndex.{StepIndex}
 use Rattle.crossing.specs.declared.StepIndex.the-variants.{At, Nothing}
 use Rattle.crossing.specs.declared.Crossing.{Crossing}
@@ -35,7 +36,6 @@ use Rattle.crossing.proofs.Edges.{cell-inside}
 use Rattle.page.specs.Moves.{Outcome, on, off}
 use Rattle.page.specs.Page.{Lists}
 use Rattle.page.proofs.Moves.{Holding}
-use Rattle.walk.proofs.Walked.{leg-inside}
 use Rattle.walk.proofs.Pushed.{GoodEdge, GoodEvents}
 use Rattle.trace.specs.declared.curve.Previous.the-variants.{Nowhere}
 use Rattle.trace.specs.Curve.{samplesOf}

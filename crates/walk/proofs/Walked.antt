@@ -4,14 +4,10 @@ use mathlib.Core.Path.{_≡_, refl, sym, ap, _∙_}
 use mathlib.Core.Bool.{Bool, true, false, cond}
 use mathlib.Core.List.{List, [], _∷_}
 use Prim.Native.Nat.{ℕ, _+_, _≤_, _<_}
-use native.Mathlib.Nat.{le-trans}
-use native.Mathlib.Omega.{arith}
-use lib.Dec.{ltb, lit≤}
-use lib.ListN.{length, drop, getD, drop-of-length-le}
+use lib.Dec.{ltb}
+use lib.ListN.{length, drop, getD}
 use lib.Ieee.{Float, nan}
 use borrow.Author.Tests.{ltb-true, ltb-false}
-use Rattle.basics.specs.Lists.{Each}
-use Rattle.basics.proofs.Lists.{each-at}
 use Rattle.refusal.specs.declared.Refusal.{Refusal}
 use Rattle.lent.specs.Lent.{afterwards}
 use Rattle.float.specs.Consts.{zero64, one64}
@@ -19,11 +15,9 @@ use Rattle.param.specs.declared.Cells.{Cells}
 use Rattle.param.specs.declared.Leg.{Leg}
 use Rattle.param.specs.Param.{paramInBounds}
 use Rattle.edges.specs.declared.event.EdgeEvent.{EdgeEvent}
-use Rattle.edges.specs.Events.{OnGrid, sortedEdgeEvents}
+use Rattle.edges.specs.Events.{sortedEdgeEvents}
 use Rattle.edges.specs.Scratch.{eventOf, eventsIn}
-use Rattle.edges.proofs.Places.{event-in, events-length}
-use Rattle.edges.proofs.Kept.{next-event}
-use Rattle.edges.proofs.Laws.{events-inside}
+use Rattle.edges.proofs.Kept.{next-event, none-left}
 use Rattle.page.specs.declared.Pen.{Pen}
 use Rattle.page.specs.declared.Penned.{Penned}
 use Rattle.page.specs.declared.Penned.the-variants.{Down, Stop}
@@ -38,20 +32,6 @@ use Rattle.walk.proofs.Drawn.{end-run}
 -- ---- events as the two scratch lists hold them
 
 module _ (ls : List Float) (cs : List ℕ) (count i : ℕ) (h : count ≤ length ls) (s : length ls ≡ length cs) where
-  -- the event at i is on the grid
-  pub event-inside : (k : Cells) {v : EdgeEvent} → Each (OnGrid k) (eventsIn ls cs count) → i < count →
-      v ≡ eventOf (getD ls i nan) (getD cs i 0) → OnGrid k v
-  event-inside k o t ev =
-      let d = eventOf nan 0 in
-      rw (ev ∙ event-in ls cs count i d s h t)
-      (each-at (OnGrid k) (eventsIn ls cs count) i d o (omega (arith, events-length ls cs count s h)))
-
-  -- no event is left past the last
-  ended : count ≤ i → drop i (eventsIn ls cs count) ≡ []
-  ended t =
-      let past : length (eventsIn ls cs count)
-      ≤ i = omega (arith, events-length ls cs count s h) in drop-of-length-le (eventsIn ls cs count) past
-
   -- the lambda at i, or 1 past the last
   next-is : {x : Float} → x ≡ lambdaOrOne ls count i → nextLambda (drop i (eventsIn ls cs count)) ≡ x
   next-is e = go (ltb i count) refl e
@@ -59,12 +39,7 @@ module _ (ls : List Float) (cs : List ℕ) (count i : ℕ) (h : count ≤ length
       go : {x : Float} (t : Bool) → ltb i count ≡ t → x ≡ cond t (getD ls i nan) one64 →
           nextLambda (drop i (eventsIn ls cs count)) ≡ x
       go true p q = ap nextLambda (next-event ls cs count i s h (ltb-true i count p)) ∙ sym q
-      go false p q = ap nextLambda (ended (ltb-false i count p)) ∙ sym q
-
--- every event of a leg is on the grid
-pub leg-inside : (k : Cells) (l : Leg) {es : List EdgeEvent} → k .m ≤ 255 → k .n ≤ 255 → es ≡ sortedEdgeEvents k l →
-    Each (OnGrid k) es
-leg-inside k l hm hn e = rw e (events-inside k l (le-trans hm (lit≤ tt)) (le-trans hn (lit≤ tt)))
+      go false p q = ap nextLambda (none-left ls cs count i s h (ltb-false i count p)) ∙ sym q
 
 -- ---- what is left of a leg
 
@@ -91,7 +66,7 @@ module _ (tolerance : Float) (g : List Float) (k : Cells) (l : Leg) where
         left (rest i) previous w ≡ flushUnless (paramInBounds k (l .b)) w
     unfolding eventsMoves
     leg-ends previous w t =
-        rw (ended ls cs count i h s t, page-none tolerance w) (end-run tolerance (paramInBounds k (l .b)) w)
+        rw (none-left ls cs count i s h t, page-none tolerance w) (end-run tolerance (paramInBounds k (l .b)) w)
 
     module _ (t : i < count) (previous : Float) (w : Page) {v : EdgeEvent} {x : Float} {d : Decision}
         (ev : v ≡ eventOf (getD ls i nan) (getD cs i 0))

@@ -7,11 +7,12 @@ use denote.Ref.{now}
 use lib.ListN.{length, drop}
 use Rattle.float.specs.Consts.{eps, zero64}
 use Rattle.edges.specs.Scratch.{eventsIn}
+use Rattle.edges.proofs.Laws.{leg-inside, event-inside}
 use Rattle.page.specs.Page.{lists, Page, page, onPage, PenFits}
 use Rattle.page.proofs.Follow.{down-holds}
 use Rattle.page.proofs.Fits.{Fitting, moves-fit, Sized, SizedPage, moves-sized}
 use Rattle.walk.specs.Walk.{movesOf, legMoves}
-use Rattle.walk.proofs.Walked.{left, event-inside, leg-inside, leg-starts, leg-ends, turn-goes, turn-stops}
+use Rattle.walk.proofs.Walked.{left, leg-starts, leg-ends, turn-goes, turn-stops}
 use borrow.Author.Needs.{needs}
 use Rattle.walk.proofs.append_edge_crossings.Statement.{statement}
 use Rattle.walk.proofs.append_edge_crossings.Tie as tie
@@ -103,7 +104,7 @@ decide-requires c κs =
     let s = started l in
     let o = sorted l .sorted-edge-events in (
       s .pre .1 .0,
-      event-inside (o .last .0) (o .last .1 .0) (o .result) (l .loop .i) (below l) (alike l) (s .args .cells)
+      event-inside (o .last .0) (o .last .1 .0) (o .result) (l .loop .i) (alike l) (below l) (s .args .cells)
           (leg-inside (s .args .cells) (s .args .leg) (s .pre .1 .0 .0) (s .pre .1 .0 .1) (o .ensures .1))
           (n .loop-test .taken) (e .event-at .ensures),
     )
