@@ -33,33 +33,26 @@ fn to_c(a: Vector) -> Components
 pub extern "C" fn mt_vector_add(ax: f64, ay: f64, az: f64, bx: f64, by: f64, bz: f64) -> Components
     ensures { λ r. ⌜ r ≡ components (plus (vector ax ay az) (vector bx by bz)) ⌝ }
 {
-    let a = from_c(ax, ay, az);
-    let b = from_c(bx, by, bz);
-    to_c(a.add(b))
+    to_c(from_c(ax, ay, az).add(from_c(bx, by, bz)))
 }
 
 #[no_mangle]
 pub extern "C" fn mt_vector_sub(ax: f64, ay: f64, az: f64, bx: f64, by: f64, bz: f64) -> Components
     ensures { λ r. ⌜ r ≡ components (minus (vector ax ay az) (vector bx by bz)) ⌝ }
 {
-    let a = from_c(ax, ay, az);
-    let b = from_c(bx, by, bz);
-    to_c(a.sub(b))
+    to_c(from_c(ax, ay, az).sub(from_c(bx, by, bz)))
 }
 
 #[no_mangle]
 pub extern "C" fn mt_vector_mul_scalar(ax: f64, ay: f64, az: f64, s: f64) -> Components
     ensures { λ r. ⌜ r ≡ components (scaled (vector ax ay az) s) ⌝ }
 {
-    let a = from_c(ax, ay, az);
-    to_c(a.mul_scalar(s))
+    to_c(from_c(ax, ay, az).mul_scalar(s))
 }
 
 #[no_mangle]
 pub extern "C" fn mt_vector_all_close(ax: f64, ay: f64, az: f64, bx: f64, by: f64, bz: f64) -> bool
     ensures { λ r. ⌜ r ≡ allClose (vector ax ay az) (vector bx by bz) eps ⌝ }
 {
-    let a = from_c(ax, ay, az);
-    let b = from_c(bx, by, bz);
-    a.all_close(b)
+    from_c(ax, ay, az).all_close(from_c(bx, by, bz))
 }

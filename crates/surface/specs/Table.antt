@@ -44,6 +44,11 @@ corner-of-row-0 : corner cracked 0 3 0 ≡ 3
 unfolding computed
 corner-of-row-0 = refl
 
+-- in the last row, 2, the v rule takes corner (0, 3) to (0, 0)
+corner-of-last-row : corner cracked 2 0 3 ≡ 0
+unfolding computed
+corner-of-last-row = refl
+
 J-of-it : J cracked 3 0 ≡ 0
 unfolding computed
 J-of-it = refl

@@ -46,7 +46,7 @@ impl Wrong {
         })
     }
 
-    /// Whether it changes code alone, and no definition or lemma.
+    /// Whether it changes code alone, and no definition.
     pub fn of_code(&self) -> bool {
         self.changes
             .iter()

@@ -36,15 +36,18 @@ impl Tried<'_> {
             .try_for_each(|left| self.log.leaves(left))
     }
 
-    /// The functions that a wrong program changes are the ones it names, and none of them is proved
-    /// by hand: a proof by hand follows the code word by word, and is refused whatever a change
-    /// means.
+    /// No proof is changed, and the functions that a wrong program changes are the ones it names.
+    /// Where a function is proved by hand, only its contract may be changed: such a proof follows
+    /// the code word by word, and is refused whatever a change of the code means.
     fn in_place(&self, wrong: &Wrong) -> Result<(), String> {
         let named: BTreeSet<String> = wrong.functions().map(str::to_string).collect();
-        let mut touched = BTreeSet::new();
+        let (mut touched, mut recoded) = (BTreeSet::new(), BTreeSet::new());
         let mut source = self.source.clone();
         for Change { file, old, new } in &wrong.changes {
             let line = source.replace(file, old, new)?;
+            if file.starts_with("proofs/") {
+                return Err(format!("changes a proof: {old}"));
+            }
             if !file.starts_with("src/") {
                 continue;
             }
@@ -52,7 +55,13 @@ impl Tried<'_> {
             if functions.is_empty() {
                 return Err(format!("in no function: {old}"));
             }
+            if !source.in_contract(file, line) {
+                recoded.extend(functions.clone());
+            }
             touched.extend(functions);
+        }
+        if let Some(path) = recoded.iter().find(|path| self.by_hand(path)) {
+            return Err(format!("fn {path} is proved by hand"));
         }
         if let Some(path) = touched.iter().find(|path| !named.contains(*path)) {
             return Err(format!("changes fn {path}, which it does not name"));
@@ -63,12 +72,9 @@ impl Tried<'_> {
         if let Some(path) = named.iter().find(|path| !touched.contains(*path)) {
             return Err(format!("names fn {path}, which it does not change"));
         }
-        if wrong.leaves.len() != named.len() {
-            return Err("a change of code names its functions, each once, and no law".to_string());
-        }
-        match touched.iter().find(|path| self.by_hand(path)) {
-            Some(path) => Err(format!("fn {path} is proved by hand")),
-            None => Ok(()),
+        match wrong.leaves.len() == named.len() {
+            true => Ok(()),
+            false => Err("a change of code names its functions, each once, and no law".to_string()),
         }
     }
 
@@ -78,11 +84,11 @@ impl Tried<'_> {
     }
 
     /// Wrong programs share a check only where each is a change of code, and no function that one
-    /// of them names is named again or reaches another one by calls. A changed definition or lemma
-    /// can bring down any number of proofs, so its program has a check to itself.
+    /// of them names is named again or reaches another one by calls. A changed definition can bring
+    /// down any number of proofs, so its program has a check to itself.
     fn alone(&self, programs: &[Wrong]) -> Result<(), String> {
         if programs.len() > 1 && !programs.iter().all(Wrong::of_code) {
-            return Err("a change of specs/ or proofs/ shares its check".to_string());
+            return Err("a change of specs/ shares its check".to_string());
         }
         let named: Vec<&str> = programs.iter().flat_map(Wrong::functions).collect();
         for (place, path) in named.iter().enumerate() {
@@ -115,14 +121,16 @@ mod tests {
     use super::*;
     use crate::edit::parse;
 
-    const CODE: &str = "const TOP: usize = 4;\n\nfn one(x: usize) -> usize {\n    x + 1\n}\n\nfn two(x: usize) -> usize {\n    one(x) + 2\n}\n\n\
-                        fn three(x: usize) -> usize {\n    x + TOP\n}\n\nfn four(x: usize) -> usize {\n    x + 4\n}\n";
+    const CODE: &str = "use k::other;\n\nconst TOP: usize = 4;\n\nfn one(x: usize) -> usize {\n    x + 1\n}\n\nfn two(x: usize) -> usize {\n    one(x) + 2\n}\n\n\
+                        fn three(x: usize) -> usize {\n    x + TOP\n}\n\nfn four(x: usize) -> usize\n    ensures { λ r. ⌜ r ≡ x + 4 ⌝ }\n{\n    4 + x\n}\n";
     const BY_TIE: &str = "use Rattle.k.proofs.one.Tie as tie\n";
     const ONE: &str =
         "wrong: one_off\nleaves: fn k::one\nfile: src/lib.rt\nold: x + 1\nnew: x + 2\n";
     const THREE: &str = "wrong: top_five\nleaves: fn k::three\nfile: src/lib.rt\nold: TOP: usize = 4\nnew: TOP: usize = 5\n";
     const TWO: &str =
         "wrong: two_off\nleaves: fn k::two\nfile: src/lib.rt\nold: one(x) + 2\nnew: one(x) + 3\n";
+    const FOUR: &str =
+        "wrong: four_off\nleaves: fn k::four\nfile: src/lib.rt\nold: 4 + x\nnew: 5 + x\n";
     const LAW: &str =
         "wrong: law_off\nleaves: law proofs/L.antt fact\nfile: specs/S.antt\nold: yes\nnew: no\n";
 
@@ -232,8 +240,42 @@ mod tests {
 
     #[test]
     fn a_proof_by_hand_shows_nothing() {
-        let four = ONE.replace("k::one", "k::four").replace("x + 1", "x + 4");
-        refused(&four, &["four"], "by hand");
+        refused(FOUR, &["four"], "by hand");
+        let defined = format!("{FOUR}file: specs/S.antt\nold: yes\nnew: no\n");
+        refused(&defined, &["four"], "by hand");
+    }
+
+    #[test]
+    fn but_a_contract_that_such_code_does_not_keep_does() {
+        let promise = FOUR.replace("4 + x", "x + 4").replace("5 + x", "x + 5");
+        assert_eq!(verdicts(&promise, &["four"]), [Ok(())]);
+        refused(&promise, &[], "k::four: proved");
+        let both = format!("{promise}old: 4 + x\nnew: 5 + x\n");
+        refused(&both, &["four"], "by hand");
+    }
+
+    #[test]
+    fn a_changed_proof_shows_nothing() {
+        let proof = LAW
+            .replace("specs/S.antt", "proofs/four/Proof.antt")
+            .replace("yes", "by hand");
+        refused(&proof, &[], "changes a proof");
+    }
+
+    #[test]
+    fn code_that_is_changed_beside_a_definition_is_named_too() {
+        let both = format!("{LAW}file: src/lib.rt\nold: x + 1\nnew: x + 2\n");
+        refused(&both, &["one"], "changes fn k::one");
+        let named = both.replace("leaves: law", "leaves: fn k::one\nleaves: law");
+        assert_eq!(verdicts(&named, &["one"]), [Ok(())]);
+    }
+
+    #[test]
+    fn a_change_of_code_is_in_a_function_and_names_no_law() {
+        let outside = ONE.replace("x + 1", "k::other").replace("x + 2", "k::more");
+        refused(&outside, &["one"], "in no function");
+        let law = ONE.replace("file:", "leaves: law proofs/L.antt fact\nfile:");
+        refused(&law, &["one"], "and no law");
     }
 
     #[test]

@@ -191,4 +191,28 @@ mod tests {
         let judged = once(twice);
         assert!(judged[0].1.is_ok() && judged[1].1.is_ok() && judged[2].1.is_err());
     }
+
+    #[test]
+    fn a_log_that_is_not_there_or_empty_shows_nothing() {
+        let folder = std::env::temp_dir().join(format!("edits-{}", std::process::id()));
+        let checked = folder.join("checks/one/src");
+        fs::create_dir_all(&checked).unwrap();
+        let (edit, log) = (folder.join("one.edit"), folder.join("checks/one/.log"));
+        let text = "wrong: w\nleaves: fn k::f\nfile: src/lib.rt\nold: true\nnew: false\n";
+        fs::write(&edit, text).unwrap();
+        fs::write(checked.join("lib.rt"), "fn f() -> bool {\n    false\n}\n").unwrap();
+        let code = "fn f() -> bool {\n    true\n}\n".to_string();
+        let source = Source::new("k", [("src/lib.rt".to_string(), code)].into());
+        let judge = || judge_file(&source, "k", &edit, &folder.join("checks"));
+        let missing = judge();
+        fs::write(&log, "").unwrap();
+        let empty = judge();
+        let line = "fn k::f: no proof: expected it; `search` does not close `returns`";
+        fs::write(&log, format!("{line}\nlogic=not-proved\n")).unwrap();
+        let whole = judge();
+        fs::remove_dir_all(&folder).unwrap();
+        assert!(missing.is_err());
+        assert!(empty.unwrap()[0].1.is_err());
+        assert!(whole.unwrap()[0].1.is_ok());
+    }
 }

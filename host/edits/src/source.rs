@@ -2,6 +2,7 @@
 //! `fn` and ends at the closing brace of the same indentation.
 
 use std::collections::{BTreeMap, BTreeSet};
+use std::ops::Range;
 
 /// A function: its path from the crate on, its file, and its lines there with contract and body.
 #[derive(Debug, Clone, PartialEq, Eq)]
@@ -11,6 +12,24 @@ pub struct Function {
     first: usize,
     last: usize,
     text: String,
+}
+
+impl Function {
+    /// The lines from its first `requires` or `ensures` up to the brace that opens its body.
+    fn contract(&self) -> Range<usize> {
+        let lines: Vec<&str> = self.text.lines().collect();
+        let clause = |line: &&str| {
+            let words = line.trim_start();
+            words.starts_with("requires ") || words.starts_with("ensures ")
+        };
+        let brace = format!("{}{{", indentation(lines[0]));
+        let begins = lines.iter().position(clause);
+        let ends = lines.iter().position(|line| *line == brace);
+        match (begins, ends) {
+            (Some(begins), Some(ends)) => self.first + begins..self.first + ends,
+            _ => self.first..self.first,
+        }
+    }
 }
 
 /// The texts of a crate's files, by their names below the crate's folder.
@@ -91,6 +110,13 @@ impl Source {
         users.map(|f| f.path.clone()).collect()
     }
 
+    /// Whether a line belongs to a function's contract, and not to its head or its body.
+    pub fn in_contract(&self, file: &str, line: usize) -> bool {
+        let functions = self.functions();
+        let mut here = functions.iter().filter(|f| f.file == file);
+        here.any(|f| f.contract().contains(&line))
+    }
+
     /// The other functions that one reaches by calls. A call is told by the function's last name
     /// alone, so that it may find too many and never too few.
     pub fn reached(&self, from: &str) -> BTreeSet<String> {
@@ -167,10 +193,13 @@ fn end(lines: &[&str], first: usize) -> usize {
     if header.contains('{') && header.ends_with('}') {
         return first;
     }
-    let indentation = &header[..header.len() - header.trim_start().len()];
-    let brace = format!("{indentation}}}");
+    let brace = format!("{}}}", indentation(header));
     let after = lines[first..].iter().position(|line| *line == brace);
     after.map_or(lines.len() - 1, |lines| first + lines)
+}
+
+fn indentation(line: &str) -> &str {
+    &line[..line.len() - line.trim_start().len()]
 }
 
 /// The structs and enums that a file declares.
@@ -289,6 +318,20 @@ mod tests {
             source().touched("src/sign.rt", 0),
             set(&["float::sign::fits"])
         );
+    }
+
+    #[test]
+    fn a_contract_stands_between_head_and_body() {
+        let lines: Vec<usize> = (0..SIGN.lines().count())
+            .filter(|line| source().in_contract("src/sign.rt", *line))
+            .collect();
+        assert_eq!(lines, [3]);
+        let mut source = source();
+        let method = "impl Point {\n    fn near(\n        self,\n    ) -> bool\n        requires { x }\n        ensures { λ r.\n            y }\n    {\n        true\n    }\n}\n";
+        source.files.insert("src/near.rt".into(), method.into());
+        assert!((4..7).all(|line| source.in_contract("src/near.rt", line)));
+        assert!((0..4).all(|line| !source.in_contract("src/near.rt", line)));
+        assert!((7..11).all(|line| !source.in_contract("src/near.rt", line)));
     }
 
     #[test]
