@@ -155,25 +155,53 @@ static void samples(void) {
     EXPECT(drawn.refusal == MT_OK && drawn.points == 0 && drawn.lines == 0);
 }
 
-static void textures(void) {
-    mt_ray_counts plan = mt_plan(MT_GRID, 0, 0, 0, 4, 4);
-    EXPECT(plan.refusal == MT_OK && plan.rays == 0 && plan.samples == 0);
-    plan = mt_plan(MT_SPIRAL, 1, 0, 3, 4, 4);
-    EXPECT(plan.refusal == MT_OK && plan.rays == 3 && plan.samples > 0);
-    plan = mt_plan(MT_SPIRAL, 1, 0, 65, 4, 4);
-    EXPECT(plan.refusal == MT_TEXTURE && plan.rays == 0 && plan.samples == 0);
-    EXPECT(mt_plan(MT_SWIRL, 1e-8, 0, 0, 255, 255).refusal == MT_COUNT);
+static bool same_plan(mt_ray_counts plan, uint8_t refusal, size_t rays, size_t samples) {
+    return plan.refusal == refusal && plan.rays == rays && plan.samples == samples;
+}
 
-    plan = mt_plan(MT_SWIRL, 1, 0.5, 0, 4, 4);
+static bool same_point(mt_ray_point point, uint8_t refusal, double u, double v) {
+    return point.refusal == refusal && same(point.u, u) && same(point.v, v);
+}
+
+/* What its kind does not have may be anything; a kind above MT_SPIRAL is MT_SPIRAL. */
+static void kinds(void) {
+    EXPECT(same_plan(mt_plan(MT_GRID, NAN, NAN, 99, 4, 4), MT_OK, 0, 0));
+    mt_ray_counts plan = mt_plan(MT_SPIRAL, 1, 0, 3, 4, 4);
+    EXPECT(plan.refusal == MT_OK && plan.rays == 3 && plan.samples > 0);
+    EXPECT(same_plan(mt_plan(MT_SPIRAL, 1, NAN, 3, 4, 4), MT_OK, plan.rays, plan.samples));
+    EXPECT(same_plan(mt_plan(7, 1, NAN, 3, 4, 4), MT_OK, plan.rays, plan.samples));
+    EXPECT(same_plan(mt_plan(7, 1, 0, 65, 4, 4), MT_TEXTURE, 0, 0));
+    mt_ray_angle spiral = mt_angle(MT_SPIRAL, 1, 0, 3, 4, 4, 2, 5);
+    mt_ray_angle other = mt_angle(7, 1, NAN, 3, 4, 4, 2, 5);
+    EXPECT(spiral.refusal == MT_OK && spiral.angle > 0);
+    EXPECT(other.refusal == MT_OK && same(other.angle, spiral.angle));
+}
+
+static void textures(void) {
+    EXPECT(same_plan(mt_plan(MT_SPIRAL, 1, 0, 65, 4, 4), MT_TEXTURE, 0, 0));
+    EXPECT(same_plan(mt_plan(MT_SWIRL, 1, NAN, 0, 4, 4), MT_TEXTURE, 0, 0));
+    EXPECT(same_plan(mt_plan(MT_SWIRL, 1e-8, 0, 0, 255, 255), MT_COUNT, 0, 0));
+    kinds();
+
+    mt_ray_counts plan = mt_plan(MT_SWIRL, 1, 0.5, 0, 4, 4);
     mt_ray_angle angle = mt_angle(MT_SWIRL, 1, 0.5, 0, 4, 4, 0, plan.samples);
     EXPECT(angle.refusal == MT_OK && same(angle.angle, 0x1.921fb54442d18p+1));
     angle = mt_angle(MT_SWIRL, 1, 0.5, 0, 4, 4, plan.rays, 0);
     EXPECT(angle.refusal == MT_NOT_THERE && same(angle.angle, 0));
+    angle = mt_angle(MT_SWIRL, 1, 0.5, 0, 4, 4, 0, plan.samples + 1);
+    EXPECT(angle.refusal == MT_NOT_THERE && same(angle.angle, 0));
 
-    mt_ray_point point = mt_sample_point(MT_SWIRL, 1, 0.5, 0, 4, 4, 0, 0, 1, 0);
-    EXPECT(point.refusal == MT_OK && same(point.u, 2) && same(point.v, 2));
-    point = mt_sample_point(MT_SWIRL, 1, 0.5, 0, 4, 4, 0, 0, 1.5, 0);
-    EXPECT(point.refusal == MT_DIRECTION && same(point.u, 0) && same(point.v, 0));
+#define POINT(ray, sample, cosine, sine) \
+    mt_sample_point(MT_SWIRL, 1, 0.5, 0, 4, 4, (ray), (sample), (cosine), (sine))
+    EXPECT(same_point(POINT(0, 0, 1, 0), MT_OK, 2, 2));
+    EXPECT(same_point(POINT(0, 0, 1.5, 0), MT_DIRECTION, 0, 0));
+    EXPECT(same_point(POINT(0, 0, NAN, 0), MT_DIRECTION, 0, 0));
+    EXPECT(same_point(POINT(0, 0, 0, 1.5), MT_DIRECTION, 0, 0));
+    EXPECT(same_point(POINT(0, 0, 0, NAN), MT_DIRECTION, 0, 0));
+    /* 7 before 8. */
+    EXPECT(same_point(POINT(plan.rays, 0, 2, 0), MT_DIRECTION, 0, 0));
+    EXPECT(same_point(POINT(plan.rays, 0, 1, 0), MT_NOT_THERE, 0, 0));
+    EXPECT(same_point(POINT(0, plan.samples + 1, 1, 0), MT_NOT_THERE, 0, 0));
 }
 
 static void vectors(void) {
