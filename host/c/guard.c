@@ -133,10 +133,28 @@ static const double *lent_grid(void) {
     return reads(0, grid, grid_len * sizeof *grid);
 }
 
-/* ---- Calls: each answers whether it left its lists as it should ---- */
+/* ---- Calls: each says whether it answered, and left its lists, as it should ---- */
 
 /* How many calls ended with each number that an answer can have: a refusal's, or 0. */
 static unsigned ended[UINT8_MAX + 1];
+
+/* Whether a number of so many of `grid` is refused. */
+static bool any_far(size_t count) {
+    for (size_t i = 0; i < count; i++) {
+        if (grid[i] > 0x1p40) {
+            return true;
+        }
+    }
+    return false;
+}
+
+/* Whether a search between rows of so many steps may have found this. */
+static bool seam_fits(mt_found_seam seam, size_t steps) {
+    if (seam.found) {
+        return seam.steps == steps && seam.offset < steps && seam.comparisons > steps;
+    }
+    return same_seam(seam, (mt_found_seam){.comparisons = seam.comparisons}) && seam.comparisons > 0;
+}
 
 static bool finds_seams(void) {
     size_t a_len = near(3 * below(6)), b_len = near(a_len);
@@ -145,8 +163,16 @@ static bool finds_seams(void) {
     }
     const double *a = reads(0, grid, a_len * sizeof *a);
     const double *b = reads(1, grid + a_len, b_len * sizeof *b);
-    ended[mt_new_vector(a, a_len, b, b_len).refusal]++;
-    return true;
+    mt_rows_answer rows = mt_new_vector(a, a_len, b, b_len);
+    ended[rows.refusal]++;
+    bool whole = a_len % 3 == 0 && b_len % 3 == 0;
+    if (rows.refusal != (!whole ? MT_LENGTH : any_far(a_len + b_len) ? MT_COORDINATE : MT_OK)) {
+        return false;
+    }
+    if (rows.refusal != MT_OK || a_len != b_len || a_len < 6) {
+        return same_seam(rows.seam, (mt_found_seam){0});
+    }
+    return seam_fits(rows.seam, a_len / 3 - 1);
 }
 
 static bool triangulates(void) {
@@ -158,8 +184,16 @@ static bool triangulates(void) {
     mt_mesh_answer mesh = mt_triangulate_grid(lent_grid(), grid_len, m, n,
                                               triangles, triangles_len, flipped, flipped_len);
     ended[mesh.refusal]++;
+    if (mesh.refusal != MT_OK ? !mesh_empty(mesh) : !seam_fits(mesh.u, n) || !seam_fits(mesh.v, m)) {
+        return false;
+    }
     return left(1, mesh.refusal, 3 * mesh.triangles * sizeof *triangles)
         && left(2, mesh.refusal, 2 * mesh.pairs * sizeof *flipped);
+}
+
+/* Whether lines are counted only where they were not refused. */
+static bool paths_fit(mt_paths_answer paths) {
+    return paths.refusal == MT_OK || (paths.points == 0 && paths.lines == 0);
 }
 
 static bool draws_and_reads_lines(void) {
@@ -171,7 +205,7 @@ static bool draws_and_reads_lines(void) {
     mt_paths_answer paths = mt_grid_paths(lent_grid(), grid_len, m, n,
                                           points, points_len, starts, starts_len);
     ended[paths.refusal]++;
-    if (!left(1, paths.refusal, 3 * paths.points * sizeof *points)
+    if (!paths_fit(paths) || !left(1, paths.refusal, 3 * paths.points * sizeof *points)
         || !left(2, paths.refusal, paths.lines * sizeof *starts)) {
         return false;
     }
@@ -203,7 +237,7 @@ static page writes_page(const size_t lens[4]) {
 }
 
 static bool page_left(mt_paths_answer drawn) {
-    return left(3, drawn.refusal, 3 * drawn.points * sizeof(double))
+    return paths_fit(drawn) && left(3, drawn.refusal, 3 * drawn.points * sizeof(double))
         && left(4, drawn.refusal, drawn.lines * sizeof(size_t))
         && left(5, drawn.refusal, 2 * drawn.points * sizeof(size_t))
         && left(6, drawn.refusal, drawn.points * sizeof(double));

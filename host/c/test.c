@@ -20,11 +20,6 @@ static bool same(double x, double y) {
     return memcmp(&x, &y, sizeof x) == 0;
 }
 
-static bool same_seam(mt_found_seam a, mt_found_seam b) {
-    return a.found == b.found && a.reverse == b.reverse && a.offset == b.offset
-        && a.steps == b.steps && a.comparisons == b.comparisons;
-}
-
 /* One cell, bent so that no two of its sides meet. */
 static const double cell[] = {0, 0, 0, 0, 1, 0, 1, 0, 0, 1, 1, 5};
 
@@ -39,7 +34,8 @@ static void seams(void) {
     rows = mt_new_vector(a, 4, LENT(b));
     EXPECT(rows.refusal == MT_LENGTH && same_seam(rows.seam, (mt_found_seam){0}));
     const double far[] = {0, 0, 2e12};
-    EXPECT(mt_new_vector(LENT(a), LENT(far)).refusal == MT_COORDINATE);
+    rows = mt_new_vector(LENT(a), LENT(far));
+    EXPECT(rows.refusal == MT_COORDINATE && same_seam(rows.seam, (mt_found_seam){0}));
 
     EXPECT(mt_is_reverse(true, 0, 4) && !mt_is_reverse(false, 0, 4));
 
@@ -73,9 +69,20 @@ static void twisted_band(void) {
 
 static void triangles(void) {
     size_t triangles[7] = {9, 9, 9, 9, 9, 9, 9}, flipped[4] = {9, 9, 9, 9};
-    mt_mesh_answer mesh = mt_triangulate_grid(LENT(cell), 1, 1, triangles, 5, LENT(flipped));
-    EXPECT(mesh.refusal == MT_ROOM && mesh.triangles == 0 && mesh.pairs == 0);
+    const double bad[] = {0, 0, 0, 0, 1, 0, 1, 0, 0, 1, 1, NAN};
+    mt_mesh_answer mesh = mt_triangulate_grid(LENT(cell), 1, 256, LENT(triangles), LENT(flipped));
+    EXPECT(mesh.refusal == MT_STEPS && mesh_empty(mesh));
+    mesh = mt_triangulate_grid(cell, 11, 1, 1, LENT(triangles), LENT(flipped));
+    EXPECT(mesh.refusal == MT_LENGTH && mesh_empty(mesh));
+    mesh = mt_triangulate_grid(LENT(cell), 1, 1, triangles, 5, LENT(flipped));
+    EXPECT(mesh.refusal == MT_ROOM && mesh_empty(mesh));
+    mesh = mt_triangulate_grid(LENT(cell), 1, 1, LENT(triangles), flipped, 3);
+    EXPECT(mesh.refusal == MT_ROOM && mesh_empty(mesh));
+    mesh = mt_triangulate_grid(LENT(bad), 1, 1, LENT(triangles), LENT(flipped));
+    EXPECT(mesh.refusal == MT_COORDINATE && mesh_empty(mesh));
     EXPECT(SAME(triangles, (size_t[]){9, 9, 9, 9, 9, 9, 9}));
+    EXPECT(SAME(flipped, (size_t[]){9, 9, 9, 9}));
+
     mesh = mt_triangulate_grid(LENT(cell), 1, 1, LENT(triangles), LENT(flipped));
     EXPECT(mesh.refusal == MT_OK && mesh.triangles == 2 && mesh.pairs == 0);
     EXPECT(same_seam(mesh.u, (mt_found_seam){.comparisons = 3}));
