@@ -129,6 +129,23 @@ static void next_grid(void) {
     }
 }
 
+static void next_curve(void) {
+    for (size_t i = 0; i < 16; i++) {
+        marks[i] = (uint8_t)(below(100) == 0 ? 2 : below(6) != 0);
+        pairs[2 * i] = parameter(m % 256);
+        pairs[2 * i + 1] = parameter(n % 256);
+    }
+}
+
+/* One cell, and a curve that begins with a leg which is refused by 11 (Rules 7.4). */
+static void next_without_step(void) {
+    static const double leg[] = {1, 0x1p20, 1, 1 + 1e-9};
+    m = n = 1;
+    grid_len = 12;
+    memset(marks, 1, sizeof marks);
+    memcpy(pairs, leg, sizeof leg);
+}
+
 static const double *lent_grid(void) {
     return reads(0, grid, grid_len * sizeof *grid);
 }
@@ -258,12 +275,11 @@ static bool traces_records(size_t count, const size_t lens[4]) {
 }
 
 static bool traces(void) {
-    next_grid();
     size_t count = below(16), pairs_len = near(2 * count);
-    for (size_t i = 0; i < 16; i++) {
-        marks[i] = (uint8_t)(below(100) == 0 ? 2 : below(6) != 0);
-        pairs[2 * i] = parameter(m % 256);
-        pairs[2 * i + 1] = parameter(n % 256);
+    next_grid();
+    next_curve();
+    if (below(16) == 0) {
+        next_without_step();
     }
     size_t room = below(40), points_len = near(3 * room), starts_len = below(6);
     size_t sides_len = near(2 * room), fractions_len = near(room);
@@ -303,5 +319,6 @@ void guarded_lists(void) {
     EXPECT(TRIED(finds_seams, MT_LENGTH, MT_COORDINATE));
     EXPECT(TRIED(triangulates, MT_STEPS, MT_LENGTH, MT_ROOM, MT_COORDINATE));
     EXPECT(TRIED(draws_and_reads_lines, MT_STEPS, MT_LENGTH, MT_ROOM, MT_COORDINATE, MT_NOT_THERE));
-    EXPECT(TRIED(traces, MT_STEPS, MT_LENGTH, MT_COORDINATE, MT_MARK, MT_SAMPLE, MT_FULL));
+    EXPECT(TRIED(traces, MT_STEPS, MT_LENGTH, MT_COORDINATE, MT_MARK, MT_SAMPLE, MT_NO_STEP,
+                 MT_FULL));
 }

@@ -23,6 +23,9 @@ static bool same(double x, double y) {
 /* One cell, bent so that no two of its sides meet. */
 static const double cell[] = {0, 0, 0, 0, 1, 0, 1, 0, 0, 1, 1, 5};
 
+/* A leg of one cell that meets a side where no cell can be told (Rules 7.4). */
+static const mt_sample no_step[] = {{1, {1, 0x1p20}}, {1, {1, 1 + 1e-9}}};
+
 static void seams(void) {
     const double a[] = {0, 0, 0, 1, 0, 0, 2, 0, 0, 0, 0, 0};
     const double b[] = {1, 0, 0, 2, 0, 0, 0, 0, 0, 1, 0, 0};
@@ -136,6 +139,18 @@ static void traces(void) {
     EXPECT(drawn.refusal == MT_FULL && drawn.points == 0 && drawn.lines == 0);
     EXPECT(SAME(sides, (size_t[]){0, 0, 0, 0, 0}) && SAME(fractions, (double[]){0, 0, 0}));
 
+    const double lost[] = {no_step[0].point.u, no_step[0].point.v,
+                           no_step[1].point.u, no_step[1].point.v};
+    memset(points, 9, sizeof points);
+    memset(starts, 9, sizeof starts);
+    memset(sides, 9, sizeof sides);
+    memset(fractions, 9, sizeof fractions);
+    drawn = mt_trace_flat(LENT(cell), 1, 1, LENT(lost), LENT(marks),
+                          LENT(points), LENT(starts), LENT(sides), LENT(fractions));
+    EXPECT(drawn.refusal == MT_NO_STEP && drawn.points == 0 && drawn.lines == 0);
+    EXPECT(SAME(points, (double[7]){0}) && SAME(starts, (size_t[2]){0}));
+    EXPECT(SAME(sides, (size_t[5]){0}) && SAME(fractions, (double[3]){0}));
+
     drawn = mt_trace_flat(LENT(cell), 1, 1, NULL, 0, NULL, 0, NULL, 0, NULL, 0, NULL, 0, NULL, 0);
     EXPECT(drawn.refusal == MT_OK && drawn.points == 0 && drawn.lines == 0);
 }
@@ -146,10 +161,17 @@ static void samples(void) {
     double points[7] = {9, 9, 9, 9, 9, 9, 9}, fractions[3] = {9, 9, 9};
     size_t starts[2] = {9, 9}, sides[5] = {9, 9, 9, 9, 9};
 
-    mt_paths_answer drawn = mt_trace_samples(LENT(cell), 1, 1, LENT(wrong),
-                                             LENT(points), LENT(starts), LENT(sides), LENT(fractions));
+    mt_paths_answer drawn =
+        mt_trace_samples(LENT(cell), 1, 1, LENT(wrong),
+                         LENT(points), LENT(starts), LENT(sides), LENT(fractions));
     EXPECT(drawn.refusal == MT_MARK && drawn.points == 0 && drawn.lines == 0);
     EXPECT(SAME(sides, (size_t[]){9, 9, 9, 9, 9}) && SAME(fractions, (double[]){9, 9, 9}));
+
+    drawn = mt_trace_samples(LENT(cell), 1, 1, LENT(no_step),
+                             LENT(points), LENT(starts), LENT(sides), LENT(fractions));
+    EXPECT(drawn.refusal == MT_NO_STEP && drawn.points == 0 && drawn.lines == 0);
+    EXPECT(SAME(points, (double[7]){0}) && SAME(starts, (size_t[2]){0}));
+    EXPECT(SAME(sides, (size_t[5]){0}) && SAME(fractions, (double[3]){0}));
 
     drawn = mt_trace_samples(LENT(cell), 1, 1, LENT(curve),
                              LENT(points), LENT(starts), LENT(sides), LENT(fractions));
