@@ -362,8 +362,8 @@ bool mt_at_most(double x, double top);
  * one is a NaN. */
 double mt_max(double x, double y);
 
-/* x, or the end of lo to hi that it lies beyond; -0 lies between 0 and 1. Where hi is below lo
- * the answer is hi. An end that is a NaN does not bound. */
+/* x, or the end of lo to hi that it lies beyond; -0 lies between 0 and 1. A NaN stays a NaN; else,
+ * where hi is below lo, the answer is hi. An end that is a NaN does not bound. */
 double mt_clamp(double x, double lo, double hi);
 
 /* -1 where x precedes y in the total order of IEEE 754, 1 where y precedes x, 0 where they are
@@ -378,10 +378,10 @@ int64_t mt_floor_i64(double x);
  * a NaN. */
 int64_t mt_ceil_i64(double x);
 
-/* The whole number nearest to x, halves away from 0; -0.25 gives -0. */
+/* The whole number nearest to x, halves away from 0; -0.25 gives -0. Infinities and NaNs stay. */
 double mt_round(double x);
 
-/* The least whole number at least x; -0.25 gives -0. */
+/* The least whole number at least x; -0.25 gives -0. Infinities and NaNs stay. */
 double mt_ceil(double x);
 
 /* x without its fraction, at the nearest end of size_t where it does not fit; 0 for a NaN. */

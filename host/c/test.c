@@ -251,11 +251,17 @@ static void numbers(void) {
     EXPECT(same(mt_max(1, 2), 2) && same(mt_max(-0.0, 0.0), -0.0) && same(mt_max(NAN, 1), 1));
     EXPECT(same(mt_clamp(-0.0, 0, 1), -0.0) && same(mt_clamp(-2, 0, 1), 0));
     EXPECT(same(mt_clamp(2, 0, 1), 1) && same(mt_clamp(0.5, 0, 1), 0.5));
+    EXPECT(isnan(mt_clamp(NAN, 0, 1)) && isnan(mt_clamp(NAN, 1, 0)));
+    EXPECT(same(mt_clamp(-2, 1, 0), 0) && same(mt_clamp(0.5, 1, 0), 0));
+    EXPECT(same(mt_clamp(2, 1, 0), 0) && same(mt_clamp(2, NAN, 1), 1));
+    EXPECT(same(mt_clamp(-2, 0, NAN), 0) && same(mt_clamp(2, 0, NAN), 2));
     EXPECT(mt_total_cmp(-0.0, 0.0) == -1 && mt_total_cmp(2, 1) == 1 && mt_total_cmp(1, 1) == 0);
     EXPECT(mt_floor_i64(-0.25) == -1 && mt_floor_i64(1e300) == INT64_MAX && mt_floor_i64(NAN) == 0);
     EXPECT(mt_ceil_i64(0.25) == 1 && mt_ceil_i64(-1e300) == INT64_MIN && mt_ceil_i64(NAN) == 0);
     EXPECT(same(mt_round(2.5), 3) && same(mt_round(-0.25), -0.0));
+    EXPECT(same(mt_round(-INFINITY), -INFINITY) && isnan(mt_round(NAN)));
     EXPECT(same(mt_ceil(0.25), 1) && same(mt_ceil(-0.25), -0.0));
+    EXPECT(same(mt_ceil(-INFINITY), -INFINITY) && isnan(mt_ceil(NAN)));
     EXPECT(mt_to_usize(2.75) == 2 && mt_to_usize(-1) == 0);
     EXPECT(mt_to_usize(1e300) == SIZE_MAX && mt_to_usize(NAN) == 0);
     EXPECT(same(mt_to_f64(3), 3) && same(mt_to_f64(SIZE_MAX), 0x1p64));
