@@ -21,8 +21,8 @@
  * Answers. `refusal` is MT_OK, which is 0, or the number of a refusal. A refused answer has 0 in
  * all other fields. Refusals 1 to 10 leave the written lists as they were, 11 and 12 leave them all
  * zero. After success each place of a written list past what the answer's counts name is zero
- * (Rules 8). Where more than one refusal applies, the lowest number is answered; 11 and 12 come as
- * the walk along the curve meets them (Rules 11.2).
+ * (Rules 8). Where more than one refusal applies, the first in the order that stands above the
+ * function is answered; 11 and 12 come as the walk along the curve meets them (Rules 11.2).
  *
  * The library allocates nothing and keeps nothing between calls: it calls no function but C's
  * memset, memcpy and memmove, and has no data that it writes. So any number of threads may call it
