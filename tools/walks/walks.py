@@ -2,14 +2,16 @@
 """Writes the proofs of the functions that take a slice of records, which the borrow checker does not cover:
 `records::flatten`, `records::trace_samples` and `merlontrispa::samples::mt_trace_samples`.
 
-    tools/walks/walks.py
+    tools/walks/walks.py [--check]
 
-Each proof is its `.in` file beside this one, with the walks (`@NAME` on a line of its own) put in. What is done is
+With `--check` it writes nothing, and says of each whether it is what would be written. Each proof is
+its `.in` file beside this one, with the walks (`@NAME` on a line of its own) put in. What is done is
 in the order of the MIR, which `rt mir` prints.
 """
 
 import os
 import re
+import sys
 from dataclasses import dataclass
 
 from context import COLUMNS, Walk, sub
@@ -613,23 +615,25 @@ def mt_trace_samples_walk():
 # ---- putting a proof together
 
 
+def read(path):
+    with open(path, encoding="utf-8") as file:
+        return file.read()
+
+
 def sections(name):
     """The parts of a file, each after a line `== NAME`."""
-    with open(f"{HERE}/{name}.in") as file:
-        parts = re.split(r"^== (.*)\n", file.read(), flags=re.M)
+    parts = re.split(r"^== (.*)\n", read(f"{HERE}/{name}.in"), flags=re.M)
     return dict(zip(parts[1::2], parts[2::2]))
 
 
-def write(path, parts):
+def proof(path, parts):
     """`parts` for the lines `@NAME` of the file that has the function's name."""
-    with open(f"{HERE}/{os.path.basename(path)}.in") as file:
-        text = file.read()
+    text = read(f"{HERE}/{os.path.basename(path)}.in")
     for name, part in parts.items():
         text = text.replace(f"@{name}\n", part.removesuffix("\n") + "\n")
     assert not re.search(r"@[A-Z]", text)
     assert all(len(line) <= COLUMNS for line in text.split("\n"))
-    with open(f"{ROOT}/crates/{path}/Proof.antt", "w") as file:
-        file.write(text)
+    return text
 
 
 def entry(known, walks):
@@ -638,7 +642,8 @@ def entry(known, walks):
     return parts | {"FRAMED": entry_framed()} | walks
 
 
-def main():
+def proofs():
+    """The text of each proof, by its folder below `crates`."""
     flatten_walks = {
         "FRAMED": flatten_framed(),
         "PUT-ASKS": asked(["ν₁", "ν₂"], ["M₁", "M₂", ("i", "fits"), "rec"]),
@@ -646,20 +651,39 @@ def main():
         "ENDS": flatten_ends(),
         "START": flatten_start(),
     }
-    write("records/proofs/flatten", flatten_walks)
     traced_parameters = ["O0", M, N, "SF", "SB", ("n", "gn"), *owned(OUTPUTS)]
     trace_samples_walks = {
         "FLAT-ASKS": asked(["t3", "ν₁", "ν₂"], ["O3", "MF", "MB"]),
         "TRACED-ASKS": asked(["t0", "ν₃", "ν₄", *tokens(OUTPUTS)], traced_parameters),
         "WALK": trace_samples_walk(),
     }
-    write("records/proofs/trace_samples", entry("known-flat known-traced", trace_samples_walks))
     mt_trace_samples_walks = {
         "REC-ASKS": asked(tokens(SLICES), ["O0", M, N, *owned(SLICES[1:])]),
         "CONV-ASKS": asked([], ["answer"]),
         "WALK": mt_trace_samples_walk(),
     }
-    write("merlontrispa/proofs/samples/mt_trace_samples", entry("known-rec known-conv", mt_trace_samples_walks))
+    parts = {
+        "records/proofs/flatten": flatten_walks,
+        "records/proofs/trace_samples": entry("known-flat known-traced", trace_samples_walks),
+        "merlontrispa/proofs/samples/mt_trace_samples": entry("known-rec known-conv", mt_trace_samples_walks),
+    }
+    return {path: proof(path, walks) for path, walks in parts.items()}
+
+
+def main():
+    if sys.argv[1:] not in ([], ["--check"]):
+        sys.exit("usage: tools/walks/walks.py [--check]")
+    files = {f"crates/{path}/Proof.antt": text for path, text in proofs().items()}
+    if not sys.argv[1:]:
+        for name, text in files.items():
+            with open(f"{ROOT}/{name}", "w", encoding="utf-8") as file:
+                file.write(text)
+        return
+    other = [name for name, text in files.items() if read(f"{ROOT}/{name}") != text]
+    for name in other:
+        print(f"walks: {name} is not what tools/walks/walks.py writes")
+    print(f"walks: {len(files) - len(other)} passed, {len(other)} failed")
+    sys.exit(len(other) > 0)
 
 
 if __name__ == "__main__":
