@@ -1,12 +1,13 @@
 #!/usr/bin/env python3
-"""Writes the proofs of the functions that take a slice of records, which the borrow checker does not cover:
-`records::flatten`, `records::trace_samples` and `merlontrispa::samples::mt_trace_samples`.
+"""Writes the proofs of the functions that take a slice of records, which the borrow checker does
+not cover: `records::flatten`, `records::trace_samples` and
+`merlontrispa::samples::mt_trace_samples`.
 
     tools/walks/walks.py [--check]
 
-With `--check` it writes nothing, and says of each whether it is what would be written. Each proof is
-its `.in` file beside this one, with the walks (`@NAME` on a line of its own) put in. What is done is
-in the order of the MIR, which `rt mir` prints.
+With `--check` it writes nothing, and says which of them are not what it would write. Each proof is
+its `.in` file beside this one, with the walks (`@NAME` on a line of its own) put in. What is done
+is in the order of the MIR, which `rt mir` prints.
 """
 
 import os
@@ -25,8 +26,9 @@ UNIT_TYPED = "(subst (λ (y : Val). Holds (hasTy tyUnit y) × WT y) (sym (ap onl
 
 
 def call(w, contract, to, given, goes, locals, value):
-    """A function is called by its contract, whose outer values are `to`: `goes` makes what it asks from the things
-    `given`. It is passed the `locals` and answers with the machine value `value`."""
+    """A function is called by its contract, whose outer values are `to`: `goes` makes what it asks
+    from the things `given`. It is passed the `locals` and answers with the machine value `value`.
+    """
     w.bring(*given)
     if len(given) > 1:
         w.step(f"group ! {len(given)}")
@@ -73,7 +75,8 @@ def asked(tokens, parameters):
 
 
 def framed(context, tokens, parameters, *result):
-    """What a contract leaves its caller: the tokens, the parameters, and the result by the steps `result`."""
+    """What a contract leaves its caller: the tokens, the parameters, and the result by the steps
+    `result`."""
     w = Walk(*context)
     gather_tokens(w, tokens)
     w.step("frame !")
@@ -88,8 +91,8 @@ def framed(context, tokens, parameters, *result):
 
 
 def hear(w, after, answer, said, lasts, facts):
-    """What a call hands back: its answer, the last lists, and the facts that it ensures; `toks` are its tokens and what
-    the answer owns."""
+    """What a call hands back: its answer, the last lists, and the facts that it ensures; `toks` are
+    its tokens and what the answer owns."""
     w.line()
     w.step(f"use1 W (later (some ({after}))) (id⊢ 𝓤 _)")
     w.step("await ! tt")
@@ -122,7 +125,8 @@ def land_unit(w, k, tokens):
 
 
 def land_answer(w, k, tokens, row, answer, value, known, laws):
-    """That the answer is what its machine value says is `known`, by which it has its local's type."""
+    """That the answer is what its machine value says is `known`, by which it has its local's
+    type."""
     w.split("toks", tokens)
     w.bring("toks")
     w.line()
@@ -310,7 +314,8 @@ def flatten_start():
     return w.text(6)
 
 
-# ---- the entries. Their parameters, in locals 1 to 8: grid, m, n, samples, points, starts, sides, fractions
+# ---- the entries. Their parameters, in locals 1 to 8: grid, m, n, samples, points, starts, sides,
+# fractions
 
 PARAMETERS = range(8)
 NUMBERS = [1, 2]
@@ -357,7 +362,8 @@ def copy_slice(w, p, named, row):
 
 
 def lend_outputs(w, first):
-    """`&mut *points` and the like, in two locals each from `first` on; the locals that the call is passed."""
+    """`&mut *points` and the like, in two locals each from `first` on; the locals that the call is
+    passed."""
     for j, p in enumerate(OUTPUTS):
         inside = f"look-in ! {w.at(f'l{p + 1}')} (sub ! 0 refl (whole !))"
         w.assign(f"addr ! (from ! (fld ! refl (hop ! ({inside}) (stop !))))", first + 2 * j, "(tt, tt)")
