@@ -170,7 +170,8 @@ static bool seam_fits(mt_found_seam seam, size_t steps) {
     if (seam.found) {
         return seam.steps == steps && seam.offset < steps && seam.comparisons > steps;
     }
-    return same_seam(seam, (mt_found_seam){.comparisons = seam.comparisons}) && seam.comparisons > 0;
+    mt_found_seam none = {.comparisons = seam.comparisons};
+    return same_seam(seam, none) && seam.comparisons > 0;
 }
 
 static bool finds_seams(void) {
@@ -201,10 +202,8 @@ static bool triangulates(void) {
     mt_mesh_answer mesh = mt_triangulate_grid(lent_grid(), grid_len, m, n,
                                               triangles, triangles_len, flipped, flipped_len);
     ended[mesh.refusal]++;
-    if (mesh.refusal != MT_OK ? !mesh_empty(mesh) : !seam_fits(mesh.u, n) || !seam_fits(mesh.v, m)) {
-        return false;
-    }
-    return left(1, mesh.refusal, 3 * mesh.triangles * sizeof *triangles)
+    bool fits = mesh.refusal == MT_OK ? seam_fits(mesh.u, n) && seam_fits(mesh.v, m) : mesh_empty(mesh);
+    return fits && left(1, mesh.refusal, 3 * mesh.triangles * sizeof *triangles)
         && left(2, mesh.refusal, 2 * mesh.pairs * sizeof *flipped);
 }
 
