@@ -21,8 +21,8 @@
  * Answers. `refusal` is MT_OK, which is 0, or the number of a refusal. A refused answer has 0 in
  * all other fields. Refusals 1 to 10 leave the written lists as they were, 11 and 12 leave them all
  * zero. After success each place of a written list past what the answer's counts name is zero
- * (Rules 8). Where more than one refusal applies, the lowest number is answered; 11 and 12 come as
- * the walk along the curve meets them (Rules 11.2).
+ * (Rules 8). Where more than one refusal applies, the first in the order that stands above the
+ * function is answered; 11 and 12 come as the walk along the curve meets them (Rules 11.2).
  *
  * The library allocates nothing and keeps nothing between calls: it calls no function but C's
  * memset, memcpy and memmove, and has no data that it writes. So any number of threads may call it
@@ -362,8 +362,8 @@ bool mt_at_most(double x, double top);
  * one is a NaN. */
 double mt_max(double x, double y);
 
-/* x, or the end of lo to hi that it lies beyond; -0 lies between 0 and 1. Where hi is below lo
- * the answer is hi. An end that is a NaN does not bound. */
+/* x, or the end of lo to hi that it lies beyond; -0 lies between 0 and 1. A NaN stays a NaN; else,
+ * where hi is below lo, the answer is hi. An end that is a NaN does not bound. */
 double mt_clamp(double x, double lo, double hi);
 
 /* -1 where x precedes y in the total order of IEEE 754, 1 where y precedes x, 0 where they are
@@ -378,10 +378,10 @@ int64_t mt_floor_i64(double x);
  * a NaN. */
 int64_t mt_ceil_i64(double x);
 
-/* The whole number nearest to x, halves away from 0; -0.25 gives -0. */
+/* The whole number nearest to x, halves away from 0; -0.25 gives -0. Infinities and NaNs stay. */
 double mt_round(double x);
 
-/* The least whole number at least x; -0.25 gives -0. */
+/* The least whole number at least x; -0.25 gives -0. Infinities and NaNs stay. */
 double mt_ceil(double x);
 
 /* x without its fraction, at the nearest end of size_t where it does not fit; 0 for a NaN. */

@@ -1,6 +1,9 @@
-/* What test.c and guard.c share: the counts of what held and what did not. */
+/* What test.c and guard.c share: the counts of what held and what did not, and what tells seams
+ * apart. */
 #ifndef EXPECT_H
 #define EXPECT_H
+
+#include "merlontrispa.h"
 
 #include <stdbool.h>
 #include <stdio.h>
@@ -17,6 +20,17 @@ static inline void expect(bool holds, const char *what, const char *file, int li
 }
 
 #define EXPECT(condition) expect((condition), #condition, __FILE__, __LINE__)
+
+static inline bool same_seam(mt_found_seam a, mt_found_seam b) {
+    return a.found == b.found && a.reverse == b.reverse && a.offset == b.offset
+        && a.steps == b.steps && a.comparisons == b.comparisons;
+}
+
+/* Whether nothing but the refusal is in an answer. */
+static inline bool mesh_empty(mt_mesh_answer mesh) {
+    return same_seam(mesh.u, (mt_found_seam){0}) && same_seam(mesh.v, (mt_found_seam){0})
+        && mesh.triangles == 0 && mesh.pairs == 0;
+}
 
 /* guard.c */
 void guarded_lists(void);

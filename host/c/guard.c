@@ -129,14 +129,50 @@ static void next_grid(void) {
     }
 }
 
+static void next_curve(void) {
+    for (size_t i = 0; i < 16; i++) {
+        marks[i] = (uint8_t)(below(100) == 0 ? 2 : below(6) != 0);
+        pairs[2 * i] = parameter(m % 256);
+        pairs[2 * i + 1] = parameter(n % 256);
+    }
+}
+
+/* One cell, and a curve that begins with a leg which is refused by 11 (Rules 7.4). */
+static void next_without_step(void) {
+    static const double leg[] = {1, 0x1p20, 1, 1 + 1e-9};
+    m = n = 1;
+    grid_len = 12;
+    memset(marks, 1, sizeof marks);
+    memcpy(pairs, leg, sizeof leg);
+}
+
 static const double *lent_grid(void) {
     return reads(0, grid, grid_len * sizeof *grid);
 }
 
-/* ---- Calls: each answers whether it left its lists as it should ---- */
+/* ---- Calls: each says whether it answered, and left its lists, as it should ---- */
 
 /* How many calls ended with each number that an answer can have: a refusal's, or 0. */
 static unsigned ended[UINT8_MAX + 1];
+
+/* Whether a number of so many of `grid` is refused. */
+static bool any_far(size_t count) {
+    for (size_t i = 0; i < count; i++) {
+        if (grid[i] > 0x1p40) {
+            return true;
+        }
+    }
+    return false;
+}
+
+/* Whether a search between rows of so many steps may have found this. */
+static bool seam_fits(mt_found_seam seam, size_t steps) {
+    if (seam.found) {
+        return seam.steps == steps && seam.offset < steps && seam.comparisons > steps;
+    }
+    mt_found_seam none = {.comparisons = seam.comparisons};
+    return same_seam(seam, none) && seam.comparisons > 0;
+}
 
 static bool finds_seams(void) {
     size_t a_len = near(3 * below(6)), b_len = near(a_len);
@@ -145,8 +181,16 @@ static bool finds_seams(void) {
     }
     const double *a = reads(0, grid, a_len * sizeof *a);
     const double *b = reads(1, grid + a_len, b_len * sizeof *b);
-    ended[mt_new_vector(a, a_len, b, b_len).refusal]++;
-    return true;
+    mt_rows_answer rows = mt_new_vector(a, a_len, b, b_len);
+    ended[rows.refusal]++;
+    bool whole = a_len % 3 == 0 && b_len % 3 == 0;
+    if (rows.refusal != (!whole ? MT_LENGTH : any_far(a_len + b_len) ? MT_COORDINATE : MT_OK)) {
+        return false;
+    }
+    if (rows.refusal != MT_OK || a_len != b_len || a_len < 6) {
+        return same_seam(rows.seam, (mt_found_seam){0});
+    }
+    return seam_fits(rows.seam, a_len / 3 - 1);
 }
 
 static bool triangulates(void) {
@@ -158,8 +202,14 @@ static bool triangulates(void) {
     mt_mesh_answer mesh = mt_triangulate_grid(lent_grid(), grid_len, m, n,
                                               triangles, triangles_len, flipped, flipped_len);
     ended[mesh.refusal]++;
-    return left(1, mesh.refusal, 3 * mesh.triangles * sizeof *triangles)
+    bool fits = mesh.refusal == MT_OK ? seam_fits(mesh.u, n) && seam_fits(mesh.v, m) : mesh_empty(mesh);
+    return fits && left(1, mesh.refusal, 3 * mesh.triangles * sizeof *triangles)
         && left(2, mesh.refusal, 2 * mesh.pairs * sizeof *flipped);
+}
+
+/* Whether lines are counted only where they were not refused. */
+static bool paths_fit(mt_paths_answer paths) {
+    return paths.refusal == MT_OK || (paths.points == 0 && paths.lines == 0);
 }
 
 static bool draws_and_reads_lines(void) {
@@ -171,7 +221,7 @@ static bool draws_and_reads_lines(void) {
     mt_paths_answer paths = mt_grid_paths(lent_grid(), grid_len, m, n,
                                           points, points_len, starts, starts_len);
     ended[paths.refusal]++;
-    if (!left(1, paths.refusal, 3 * paths.points * sizeof *points)
+    if (!paths_fit(paths) || !left(1, paths.refusal, 3 * paths.points * sizeof *points)
         || !left(2, paths.refusal, paths.lines * sizeof *starts)) {
         return false;
     }
@@ -203,7 +253,7 @@ static page writes_page(const size_t lens[4]) {
 }
 
 static bool page_left(mt_paths_answer drawn) {
-    return left(3, drawn.refusal, 3 * drawn.points * sizeof(double))
+    return paths_fit(drawn) && left(3, drawn.refusal, 3 * drawn.points * sizeof(double))
         && left(4, drawn.refusal, drawn.lines * sizeof(size_t))
         && left(5, drawn.refusal, 2 * drawn.points * sizeof(size_t))
         && left(6, drawn.refusal, drawn.points * sizeof(double));
@@ -224,12 +274,11 @@ static bool traces_records(size_t count, const size_t lens[4]) {
 }
 
 static bool traces(void) {
-    next_grid();
     size_t count = below(16), pairs_len = near(2 * count);
-    for (size_t i = 0; i < 16; i++) {
-        marks[i] = (uint8_t)(below(100) == 0 ? 2 : below(6) != 0);
-        pairs[2 * i] = parameter(m % 256);
-        pairs[2 * i + 1] = parameter(n % 256);
+    next_grid();
+    next_curve();
+    if (below(16) == 0) {
+        next_without_step();
     }
     size_t room = below(40), points_len = near(3 * room), starts_len = below(6);
     size_t sides_len = near(2 * room), fractions_len = near(room);
@@ -269,5 +318,6 @@ void guarded_lists(void) {
     EXPECT(TRIED(finds_seams, MT_LENGTH, MT_COORDINATE));
     EXPECT(TRIED(triangulates, MT_STEPS, MT_LENGTH, MT_ROOM, MT_COORDINATE));
     EXPECT(TRIED(draws_and_reads_lines, MT_STEPS, MT_LENGTH, MT_ROOM, MT_COORDINATE, MT_NOT_THERE));
-    EXPECT(TRIED(traces, MT_STEPS, MT_LENGTH, MT_COORDINATE, MT_MARK, MT_SAMPLE, MT_FULL));
+    EXPECT(TRIED(traces, MT_STEPS, MT_LENGTH, MT_COORDINATE, MT_MARK, MT_SAMPLE, MT_NO_STEP,
+                 MT_FULL));
 }

@@ -20,13 +20,11 @@ static bool same(double x, double y) {
     return memcmp(&x, &y, sizeof x) == 0;
 }
 
-static bool same_seam(mt_found_seam a, mt_found_seam b) {
-    return a.found == b.found && a.reverse == b.reverse && a.offset == b.offset
-        && a.steps == b.steps && a.comparisons == b.comparisons;
-}
-
 /* One cell, bent so that no two of its sides meet. */
 static const double cell[] = {0, 0, 0, 0, 1, 0, 1, 0, 0, 1, 1, 5};
+
+/* A leg of one cell that meets a side where no cell can be told (Rules 7.4). */
+static const mt_sample no_step[] = {{1, {1, 0x1p20}}, {1, {1, 1 + 1e-9}}};
 
 static void seams(void) {
     const double a[] = {0, 0, 0, 1, 0, 0, 2, 0, 0, 0, 0, 0};
@@ -39,7 +37,8 @@ static void seams(void) {
     rows = mt_new_vector(a, 4, LENT(b));
     EXPECT(rows.refusal == MT_LENGTH && same_seam(rows.seam, (mt_found_seam){0}));
     const double far[] = {0, 0, 2e12};
-    EXPECT(mt_new_vector(LENT(a), LENT(far)).refusal == MT_COORDINATE);
+    rows = mt_new_vector(LENT(a), LENT(far));
+    EXPECT(rows.refusal == MT_COORDINATE && same_seam(rows.seam, (mt_found_seam){0}));
 
     EXPECT(mt_is_reverse(true, 0, 4) && !mt_is_reverse(false, 0, 4));
 
@@ -73,9 +72,20 @@ static void twisted_band(void) {
 
 static void triangles(void) {
     size_t triangles[7] = {9, 9, 9, 9, 9, 9, 9}, flipped[4] = {9, 9, 9, 9};
-    mt_mesh_answer mesh = mt_triangulate_grid(LENT(cell), 1, 1, triangles, 5, LENT(flipped));
-    EXPECT(mesh.refusal == MT_ROOM && mesh.triangles == 0 && mesh.pairs == 0);
+    const double bad[] = {0, 0, 0, 0, 1, 0, 1, 0, 0, 1, 1, NAN};
+    mt_mesh_answer mesh = mt_triangulate_grid(LENT(cell), 1, 256, LENT(triangles), LENT(flipped));
+    EXPECT(mesh.refusal == MT_STEPS && mesh_empty(mesh));
+    mesh = mt_triangulate_grid(cell, 11, 1, 1, LENT(triangles), LENT(flipped));
+    EXPECT(mesh.refusal == MT_LENGTH && mesh_empty(mesh));
+    mesh = mt_triangulate_grid(LENT(cell), 1, 1, triangles, 5, LENT(flipped));
+    EXPECT(mesh.refusal == MT_ROOM && mesh_empty(mesh));
+    mesh = mt_triangulate_grid(LENT(cell), 1, 1, LENT(triangles), flipped, 3);
+    EXPECT(mesh.refusal == MT_ROOM && mesh_empty(mesh));
+    mesh = mt_triangulate_grid(LENT(bad), 1, 1, LENT(triangles), LENT(flipped));
+    EXPECT(mesh.refusal == MT_COORDINATE && mesh_empty(mesh));
     EXPECT(SAME(triangles, (size_t[]){9, 9, 9, 9, 9, 9, 9}));
+    EXPECT(SAME(flipped, (size_t[]){9, 9, 9, 9}));
+
     mesh = mt_triangulate_grid(LENT(cell), 1, 1, LENT(triangles), LENT(flipped));
     EXPECT(mesh.refusal == MT_OK && mesh.triangles == 2 && mesh.pairs == 0);
     EXPECT(same_seam(mesh.u, (mt_found_seam){.comparisons = 3}));
@@ -129,6 +139,18 @@ static void traces(void) {
     EXPECT(drawn.refusal == MT_FULL && drawn.points == 0 && drawn.lines == 0);
     EXPECT(SAME(sides, (size_t[]){0, 0, 0, 0, 0}) && SAME(fractions, (double[]){0, 0, 0}));
 
+    const double lost[] = {no_step[0].point.u, no_step[0].point.v,
+                           no_step[1].point.u, no_step[1].point.v};
+    memset(points, 9, sizeof points);
+    memset(starts, 9, sizeof starts);
+    memset(sides, 9, sizeof sides);
+    memset(fractions, 9, sizeof fractions);
+    drawn = mt_trace_flat(LENT(cell), 1, 1, LENT(lost), LENT(marks),
+                          LENT(points), LENT(starts), LENT(sides), LENT(fractions));
+    EXPECT(drawn.refusal == MT_NO_STEP && drawn.points == 0 && drawn.lines == 0);
+    EXPECT(SAME(points, (double[7]){0}) && SAME(starts, (size_t[2]){0}));
+    EXPECT(SAME(sides, (size_t[5]){0}) && SAME(fractions, (double[3]){0}));
+
     drawn = mt_trace_flat(LENT(cell), 1, 1, NULL, 0, NULL, 0, NULL, 0, NULL, 0, NULL, 0, NULL, 0);
     EXPECT(drawn.refusal == MT_OK && drawn.points == 0 && drawn.lines == 0);
 }
@@ -139,10 +161,17 @@ static void samples(void) {
     double points[7] = {9, 9, 9, 9, 9, 9, 9}, fractions[3] = {9, 9, 9};
     size_t starts[2] = {9, 9}, sides[5] = {9, 9, 9, 9, 9};
 
-    mt_paths_answer drawn = mt_trace_samples(LENT(cell), 1, 1, LENT(wrong),
-                                             LENT(points), LENT(starts), LENT(sides), LENT(fractions));
+    mt_paths_answer drawn =
+        mt_trace_samples(LENT(cell), 1, 1, LENT(wrong),
+                         LENT(points), LENT(starts), LENT(sides), LENT(fractions));
     EXPECT(drawn.refusal == MT_MARK && drawn.points == 0 && drawn.lines == 0);
     EXPECT(SAME(sides, (size_t[]){9, 9, 9, 9, 9}) && SAME(fractions, (double[]){9, 9, 9}));
+
+    drawn = mt_trace_samples(LENT(cell), 1, 1, LENT(no_step),
+                             LENT(points), LENT(starts), LENT(sides), LENT(fractions));
+    EXPECT(drawn.refusal == MT_NO_STEP && drawn.points == 0 && drawn.lines == 0);
+    EXPECT(SAME(points, (double[7]){0}) && SAME(starts, (size_t[2]){0}));
+    EXPECT(SAME(sides, (size_t[5]){0}) && SAME(fractions, (double[3]){0}));
 
     drawn = mt_trace_samples(LENT(cell), 1, 1, LENT(curve),
                              LENT(points), LENT(starts), LENT(sides), LENT(fractions));
@@ -155,25 +184,53 @@ static void samples(void) {
     EXPECT(drawn.refusal == MT_OK && drawn.points == 0 && drawn.lines == 0);
 }
 
-static void textures(void) {
-    mt_ray_counts plan = mt_plan(MT_GRID, 0, 0, 0, 4, 4);
-    EXPECT(plan.refusal == MT_OK && plan.rays == 0 && plan.samples == 0);
-    plan = mt_plan(MT_SPIRAL, 1, 0, 3, 4, 4);
-    EXPECT(plan.refusal == MT_OK && plan.rays == 3 && plan.samples > 0);
-    plan = mt_plan(MT_SPIRAL, 1, 0, 65, 4, 4);
-    EXPECT(plan.refusal == MT_TEXTURE && plan.rays == 0 && plan.samples == 0);
-    EXPECT(mt_plan(MT_SWIRL, 1e-8, 0, 0, 255, 255).refusal == MT_COUNT);
+static bool same_plan(mt_ray_counts plan, uint8_t refusal, size_t rays, size_t samples) {
+    return plan.refusal == refusal && plan.rays == rays && plan.samples == samples;
+}
 
-    plan = mt_plan(MT_SWIRL, 1, 0.5, 0, 4, 4);
+static bool same_point(mt_ray_point point, uint8_t refusal, double u, double v) {
+    return point.refusal == refusal && same(point.u, u) && same(point.v, v);
+}
+
+/* What its kind does not have may be anything; a kind above MT_SPIRAL is MT_SPIRAL. */
+static void kinds(void) {
+    EXPECT(same_plan(mt_plan(MT_GRID, NAN, NAN, 99, 4, 4), MT_OK, 0, 0));
+    mt_ray_counts plan = mt_plan(MT_SPIRAL, 1, 0, 3, 4, 4);
+    EXPECT(plan.refusal == MT_OK && plan.rays == 3 && plan.samples > 0);
+    EXPECT(same_plan(mt_plan(MT_SPIRAL, 1, NAN, 3, 4, 4), MT_OK, plan.rays, plan.samples));
+    EXPECT(same_plan(mt_plan(7, 1, NAN, 3, 4, 4), MT_OK, plan.rays, plan.samples));
+    EXPECT(same_plan(mt_plan(7, 1, 0, 65, 4, 4), MT_TEXTURE, 0, 0));
+    mt_ray_angle spiral = mt_angle(MT_SPIRAL, 1, 0, 3, 4, 4, 2, 5);
+    mt_ray_angle other = mt_angle(7, 1, NAN, 3, 4, 4, 2, 5);
+    EXPECT(spiral.refusal == MT_OK && spiral.angle > 0);
+    EXPECT(other.refusal == MT_OK && same(other.angle, spiral.angle));
+}
+
+static void textures(void) {
+    EXPECT(same_plan(mt_plan(MT_SPIRAL, 1, 0, 65, 4, 4), MT_TEXTURE, 0, 0));
+    EXPECT(same_plan(mt_plan(MT_SWIRL, 1, NAN, 0, 4, 4), MT_TEXTURE, 0, 0));
+    EXPECT(same_plan(mt_plan(MT_SWIRL, 1e-8, 0, 0, 255, 255), MT_COUNT, 0, 0));
+    kinds();
+
+    mt_ray_counts plan = mt_plan(MT_SWIRL, 1, 0.5, 0, 4, 4);
     mt_ray_angle angle = mt_angle(MT_SWIRL, 1, 0.5, 0, 4, 4, 0, plan.samples);
     EXPECT(angle.refusal == MT_OK && same(angle.angle, 0x1.921fb54442d18p+1));
     angle = mt_angle(MT_SWIRL, 1, 0.5, 0, 4, 4, plan.rays, 0);
     EXPECT(angle.refusal == MT_NOT_THERE && same(angle.angle, 0));
+    angle = mt_angle(MT_SWIRL, 1, 0.5, 0, 4, 4, 0, plan.samples + 1);
+    EXPECT(angle.refusal == MT_NOT_THERE && same(angle.angle, 0));
 
-    mt_ray_point point = mt_sample_point(MT_SWIRL, 1, 0.5, 0, 4, 4, 0, 0, 1, 0);
-    EXPECT(point.refusal == MT_OK && same(point.u, 2) && same(point.v, 2));
-    point = mt_sample_point(MT_SWIRL, 1, 0.5, 0, 4, 4, 0, 0, 1.5, 0);
-    EXPECT(point.refusal == MT_DIRECTION && same(point.u, 0) && same(point.v, 0));
+#define POINT(ray, sample, cosine, sine) \
+    mt_sample_point(MT_SWIRL, 1, 0.5, 0, 4, 4, (ray), (sample), (cosine), (sine))
+    EXPECT(same_point(POINT(0, 0, 1, 0), MT_OK, 2, 2));
+    EXPECT(same_point(POINT(0, 0, 1.5, 0), MT_DIRECTION, 0, 0));
+    EXPECT(same_point(POINT(0, 0, NAN, 0), MT_DIRECTION, 0, 0));
+    EXPECT(same_point(POINT(0, 0, 0, 1.5), MT_DIRECTION, 0, 0));
+    EXPECT(same_point(POINT(0, 0, 0, NAN), MT_DIRECTION, 0, 0));
+    /* 7 before 8. */
+    EXPECT(same_point(POINT(plan.rays, 0, 2, 0), MT_DIRECTION, 0, 0));
+    EXPECT(same_point(POINT(plan.rays, 0, 1, 0), MT_NOT_THERE, 0, 0));
+    EXPECT(same_point(POINT(0, plan.samples + 1, 1, 0), MT_NOT_THERE, 0, 0));
 }
 
 static void vectors(void) {
@@ -194,11 +251,17 @@ static void numbers(void) {
     EXPECT(same(mt_max(1, 2), 2) && same(mt_max(-0.0, 0.0), -0.0) && same(mt_max(NAN, 1), 1));
     EXPECT(same(mt_clamp(-0.0, 0, 1), -0.0) && same(mt_clamp(-2, 0, 1), 0));
     EXPECT(same(mt_clamp(2, 0, 1), 1) && same(mt_clamp(0.5, 0, 1), 0.5));
+    EXPECT(isnan(mt_clamp(NAN, 0, 1)) && isnan(mt_clamp(NAN, 1, 0)));
+    EXPECT(same(mt_clamp(-2, 1, 0), 0) && same(mt_clamp(0.5, 1, 0), 0));
+    EXPECT(same(mt_clamp(2, 1, 0), 0) && same(mt_clamp(2, NAN, 1), 1));
+    EXPECT(same(mt_clamp(-2, 0, NAN), 0) && same(mt_clamp(2, 0, NAN), 2));
     EXPECT(mt_total_cmp(-0.0, 0.0) == -1 && mt_total_cmp(2, 1) == 1 && mt_total_cmp(1, 1) == 0);
     EXPECT(mt_floor_i64(-0.25) == -1 && mt_floor_i64(1e300) == INT64_MAX && mt_floor_i64(NAN) == 0);
     EXPECT(mt_ceil_i64(0.25) == 1 && mt_ceil_i64(-1e300) == INT64_MIN && mt_ceil_i64(NAN) == 0);
     EXPECT(same(mt_round(2.5), 3) && same(mt_round(-0.25), -0.0));
+    EXPECT(same(mt_round(-INFINITY), -INFINITY) && isnan(mt_round(NAN)));
     EXPECT(same(mt_ceil(0.25), 1) && same(mt_ceil(-0.25), -0.0));
+    EXPECT(same(mt_ceil(-INFINITY), -INFINITY) && isnan(mt_ceil(NAN)));
     EXPECT(mt_to_usize(2.75) == 2 && mt_to_usize(-1) == 0);
     EXPECT(mt_to_usize(1e300) == SIZE_MAX && mt_to_usize(NAN) == 0);
     EXPECT(same(mt_to_f64(3), 3) && same(mt_to_f64(SIZE_MAX), 0x1p64));

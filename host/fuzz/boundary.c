@@ -1,7 +1,8 @@
 /* Calls the library through its C boundary with what a fuzzer's bytes say, and checks what is true
-   of every call: which refusal is given (Rules 11), what it leaves in the lent lists, and zeros past
-   the counts (Rules 8); numbers inside the grid. A list lies against a page that cannot be touched,
-   so that reading or writing past it ends the process. */
+   of every call: which refusal is given (Rules 11; of 11 only that more room does not change it),
+   what it leaves in the lent lists, and zeros past the counts (Rules 8); numbers inside the grid.
+   A list lies against a page that cannot be touched, so that reading or writing past it ends the
+   process. */
 #include "input.h"
 #include "merlontrispa.h"
 
@@ -13,6 +14,10 @@
 
 /* Most of a grid's steps, a row's points and a curve's samples. */
 enum { MOST_STEPS = 7, MOST_POINTS = 24, MOST_SAMPLES = 24 };
+
+/* More points than such a curve can have: at most 4 * MOST_STEPS + 3 events to each of 62 legs
+   (Rules 6.4). */
+enum { ROOM_FOR_ALL = 2000 };
 
 #define HOLDS(fact) \
     do { \
@@ -341,6 +346,20 @@ static void records_hold(const struct grid *grid, const double *pairs, const uin
     HOLDS(same_page(&page, flat));
 }
 
+/* What a curve was refused by as it was drawn: with room for all its points 12 does not come, and
+   11 stays. */
+static void walk_refusal_holds(const struct grid *grid, const struct list *pairs,
+                               const struct list *marks, uint8_t refusal) {
+    const size_t lens[4] = {3 * ROOM_FOR_ALL, ROOM_FOR_ALL, 2 * ROOM_FOR_ALL, ROOM_FOR_ALL};
+    struct page page = lend_page(8, lens, 0);
+    mt_paths_answer roomy = mt_trace_flat(
+        grid->list.at, grid->length, grid->m, grid->n, pairs->at, pairs->bytes / sizeof(double),
+        marks->at, marks->bytes, page.points.at, lens[0], page.starts.at, lens[1], page.sides.at,
+        lens[2], page.fractions.at, lens[3]);
+    HOLDS(refusal == MT_NO_STEP ? roomy.refusal == MT_NO_STEP
+                                : refusal == MT_FULL && roomy.refusal != MT_FULL);
+}
+
 static void trace(struct input *input) {
     int front = byte(input) % 2;
     struct grid grid = any_grid(input, front);
@@ -366,7 +385,7 @@ static void trace(struct input *input) {
     if (refusal) {
         HOLDS(told.refusal == refusal && page_untouched(&page));
     } else if (told.refusal) {
-        HOLDS(told.refusal == MT_NO_STEP || told.refusal == MT_FULL);
+        walk_refusal_holds(&grid, &pairs, &marks, told.refusal);
         HOLDS(page_zero(&page, 0, 0));
     } else {
         noted(told.lines);
@@ -378,20 +397,55 @@ static void trace(struct input *input) {
     }
 }
 
+/* Counts of rays and of samples per ray, before it is known whether they fit. */
+struct plan { double rays, samples; };
+
+/* Rules 10.2, for M and N that are not refused. */
+static struct plan plan_of(uint8_t kind, double spacing, double twist, size_t arms, size_t m, size_t n) {
+    const double tau = 0x1.921fb54442d18p2, sqrt2 = 0x1.6a09e667f3bcdp0;
+    double radius = (double)(m > n ? m : n) * 0.5 * sqrt2;
+    spacing = isfinite(spacing) && spacing > 1e-9 ? spacing : 1;
+    double step = fmin(fmax(spacing, 0.05), 0.5);
+    if (kind == MT_GRID) {
+        return (struct plan){0, 0};
+    }
+    if (kind == MT_SWIRL) {
+        return (struct plan){fmax(ceil(tau * radius / spacing), 1),
+                             fmax(ceil(radius * (1 + fabs(tau * twist)) / step), 2)};
+    }
+    double turns = fmax(ceil(radius / spacing), 1);
+    return (struct plan){(double)(arms > 1 ? arms : 1),
+                         fmax(ceil((radius + radius * tau * turns * 0.5) / step), 2)};
+}
+
+/* The first of 1, 5 and 6 that applies. */
+static int plan_refusal(uint8_t kind, double twist, size_t arms, size_t m, size_t n, struct plan plan) {
+    if (!steps_fit(m, n)) {
+        return MT_STEPS;
+    }
+    if (kind == MT_SWIRL ? !(fabs(twist) <= 64) : kind != MT_GRID && arms > 64) {
+        return MT_TEXTURE;
+    }
+    return plan.rays <= 65536 && plan.samples <= 65536 ? MT_OK : MT_COUNT;
+}
+
 static void texture(struct input *input) {
-    uint8_t kind = byte(input) % 3;
-    double spacing = number(input), twist = kind == 1 ? number(input) : 0;
-    size_t arms = kind == 2 ? count(input, 66) : 0, m = count(input, 255), n = count(input, 255);
+    uint8_t kind = byte(input);
+    /* Mostly one that has a name. */
+    kind = byte(input) % 4 ? kind % 3 : kind;
+    double spacing = number(input), twist = number(input);
+    size_t arms = count(input, 66), m = count(input, 255), n = count(input, 255);
     size_t ray = count(input, 70), sample = count(input, 200);
     double cosine = number(input), sine = number(input);
     mt_ray_counts counts = mt_plan(kind, spacing, twist, arms, m, n);
     mt_ray_angle angle = mt_angle(kind, spacing, twist, arms, m, n, ray, sample);
     mt_ray_point point = mt_sample_point(kind, spacing, twist, arms, m, n, ray, sample, cosine, sine);
-    int fits = fabs(twist) <= 64 && arms <= 64;
-    int refusal = !steps_fit(m, n) ? MT_STEPS : !fits ? MT_TEXTURE : counts.refusal ? MT_COUNT : MT_OK;
+    struct plan plan = plan_of(kind, spacing, twist, arms, m, n);
+    int refusal = plan_refusal(kind, twist, arms, m, n, plan);
     noted(point.refusal);
-    HOLDS(counts.refusal == refusal && counts.rays <= (refusal ? 0 : 65536));
-    HOLDS(counts.samples <= (refusal ? 0 : 65536));
+    HOLDS(counts.refusal == refusal);
+    HOLDS((double)counts.rays == (refusal ? 0 : plan.rays));
+    HOLDS((double)counts.samples == (refusal ? 0 : plan.samples));
     int there = ray < counts.rays && sample <= counts.samples;
     HOLDS(angle.refusal == (refusal ? refusal : there ? MT_OK : MT_NOT_THERE));
     HOLDS(isfinite(angle.angle) && (!angle.refusal || angle.angle == 0));

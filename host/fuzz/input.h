@@ -22,8 +22,8 @@ double number(struct input *input);
 /* A list and a copy of what stood in it. */
 struct list { void *at, *copy; size_t bytes; };
 
-/* A list of so many bytes, each other than zero, that ends, or begins if `front`, at such a page. There
-   are twelve places for lists. */
+/* A list of so many bytes, each other than zero, that ends, or begins if `front`, at such a page.
+   There are twelve places for lists. */
 struct list lend(int place, size_t bytes, int front);
 
 /* After the list was filled: what stands in it is what it is held to by `untouched`. */

@@ -1,8 +1,9 @@
 """The text of a walk through a function's MIR, with the context that it has reached.
 
-A walk is a chain of steps of the program logic. What is owned stands in a list, the context, and a step names a
-thing by its place there. Here each thing has a name and the places are computed, which is where a walk by hand goes
-wrong. Local k of the MIR is `l{k}` in the context, and that it dies is `d{k}`.
+A walk is a chain of steps of the program logic. What is owned stands in a list, the context, and a
+step names a thing by its place there. Here each thing has a name and the places are computed, which
+is where a walk by hand goes wrong. Local k of the MIR is `l{k}` in the context, and that it dies is
+`d{k}`.
 """
 
 COLUMNS = 120
@@ -21,7 +22,8 @@ def places(numbers):
 
 
 def brackets(text):
-    """Of each bracket that opens and closes: where it does, and whether it holds a tuple or a record."""
+    """Of each bracket that opens and closes: where it does, and whether it holds a tuple or a
+    record."""
     found, stack = [], []
     for k, letter in enumerate(text):
         if letter in "({":
@@ -35,9 +37,9 @@ def brackets(text):
 
 
 def joints(text):
-    """Where a line may begin, and how deep it is there: before an argument in brackets, and before an operator. A tuple
-    is not broken, since the layout tool would give each of its parts a line. A chain, as of `and-then`, is as deep as
-    its first link."""
+    """Where a line may begin, and how deep it is there: before an argument in brackets, and before
+    an operator. A tuple is not broken, since the layout tool would give each of its parts a line. A
+    chain, as of `and-then`, is as deep as its first link."""
     groups = brackets(text)
     ends = {start: end for start, end, _ in groups}
     depths = {}
@@ -56,7 +58,8 @@ def joints(text):
 
 
 def broken(text, width):
-    """A step in lines of at most `width` columns: each ends at the last of the outermost joints in its later part."""
+    """A step in lines of at most `width` columns: each ends at the last of the outermost joints in
+    its later part."""
     depths, start = joints(text), 0
     while len(text) - start > width:
         near = [k for k in depths if start < k <= start + width + 1]
@@ -155,7 +158,8 @@ class Walk:
         self.split(name, *parts, how="fsplit")
 
     def gather(self, *names, how="join"):
-        """The reverse: the things are joined from the right, the last of them with what is first in the context."""
+        """The reverse: the things are joined from the right, the last of them with what is first in
+        the context."""
         for name in reversed(names):
             self.bring(name, self.context[0])
             self.step(how + " !")
@@ -176,8 +180,8 @@ class Walk:
         return text
 
     def cell(self, k, typed, how="init"):
-        """The local's cell: `init` where it was room, `store` where it held a value. `typed`: the value is of its
-        type."""
+        """The local's cell: `init` where it was room, `store` where it held a value. `typed`: the
+        value is of its type."""
         return f"({how} ! {self.at(f'l{k}')} refl {typed})"
 
     def assign(self, value, k, typed, how="init", rule="assigns"):

@@ -1,15 +1,18 @@
 #!/usr/bin/env python3
-"""Writes the proofs of the functions that take a slice of records, which the borrow checker does not cover:
-`records::flatten`, `records::trace_samples` and `merlontrispa::samples::mt_trace_samples`.
+"""Writes the proofs of the functions that take a slice of records, which the borrow checker does
+not cover: `records::flatten`, `records::trace_samples` and
+`merlontrispa::samples::mt_trace_samples`.
 
-    tools/walks/walks.py
+    tools/walks/walks.py [--check]
 
-Each proof is its `.in` file beside this one, with the walks (`@NAME` on a line of its own) put in. What is done is
-in the order of the MIR, which `rt mir` prints.
+With `--check` it writes nothing, and says which of them are not what it would write. Each proof is
+its `.in` file beside this one, with the walks (`@NAME` on a line of its own) put in. What is done
+is in the order of the MIR, which `rt mir` prints.
 """
 
 import os
 import re
+import sys
 from dataclasses import dataclass
 
 from context import COLUMNS, Walk, sub
@@ -23,8 +26,9 @@ UNIT_TYPED = "(subst (λ (y : Val). Holds (hasTy tyUnit y) × WT y) (sym (ap onl
 
 
 def call(w, contract, to, given, goes, locals, value):
-    """A function is called by its contract, whose outer values are `to`: `goes` makes what it asks from the things
-    `given`. It is passed the `locals` and answers with the machine value `value`."""
+    """A function is called by its contract, whose outer values are `to`: `goes` makes what it asks
+    from the things `given`. It is passed the `locals` and answers with the machine value `value`.
+    """
     w.bring(*given)
     if len(given) > 1:
         w.step(f"group ! {len(given)}")
@@ -71,7 +75,8 @@ def asked(tokens, parameters):
 
 
 def framed(context, tokens, parameters, *result):
-    """What a contract leaves its caller: the tokens, the parameters, and the result by the steps `result`."""
+    """What a contract leaves its caller: the tokens, the parameters, and the result by the steps
+    `result`."""
     w = Walk(*context)
     gather_tokens(w, tokens)
     w.step("frame !")
@@ -86,8 +91,8 @@ def framed(context, tokens, parameters, *result):
 
 
 def hear(w, after, answer, said, lasts, facts):
-    """What a call hands back: its answer, the last lists, and the facts that it ensures; `toks` are its tokens and what
-    the answer owns."""
+    """What a call hands back: its answer, the last lists, and the facts that it ensures; `toks` are
+    its tokens and what the answer owns."""
     w.line()
     w.step(f"use1 W (later (some ({after}))) (id⊢ 𝓤 _)")
     w.step("await ! tt")
@@ -120,7 +125,8 @@ def land_unit(w, k, tokens):
 
 
 def land_answer(w, k, tokens, row, answer, value, known, laws):
-    """That the answer is what its machine value says is `known`, by which it has its local's type."""
+    """That the answer is what its machine value says is `known`, by which it has its local's
+    type."""
     w.split("toks", tokens)
     w.bring("toks")
     w.line()
@@ -308,7 +314,8 @@ def flatten_start():
     return w.text(6)
 
 
-# ---- the entries. Their parameters, in locals 1 to 8: grid, m, n, samples, points, starts, sides, fractions
+# ---- the entries. Their parameters, in locals 1 to 8: grid, m, n, samples, points, starts, sides,
+# fractions
 
 PARAMETERS = range(8)
 NUMBERS = [1, 2]
@@ -355,7 +362,8 @@ def copy_slice(w, p, named, row):
 
 
 def lend_outputs(w, first):
-    """`&mut *points` and the like, in two locals each from `first` on; the locals that the call is passed."""
+    """`&mut *points` and the like, in two locals each from `first` on; the locals that the call is
+    passed."""
     for j, p in enumerate(OUTPUTS):
         inside = f"look-in ! {w.at(f'l{p + 1}')} (sub ! 0 refl (whole !))"
         w.assign(f"addr ! (from ! (fld ! refl (hop ! ({inside}) (stop !))))", first + 2 * j, "(tt, tt)")
@@ -613,23 +621,25 @@ def mt_trace_samples_walk():
 # ---- putting a proof together
 
 
+def read(path):
+    with open(path, encoding="utf-8") as file:
+        return file.read()
+
+
 def sections(name):
     """The parts of a file, each after a line `== NAME`."""
-    with open(f"{HERE}/{name}.in") as file:
-        parts = re.split(r"^== (.*)\n", file.read(), flags=re.M)
+    parts = re.split(r"^== (.*)\n", read(f"{HERE}/{name}.in"), flags=re.M)
     return dict(zip(parts[1::2], parts[2::2]))
 
 
-def write(path, parts):
+def proof(path, parts):
     """`parts` for the lines `@NAME` of the file that has the function's name."""
-    with open(f"{HERE}/{os.path.basename(path)}.in") as file:
-        text = file.read()
+    text = read(f"{HERE}/{os.path.basename(path)}.in")
     for name, part in parts.items():
         text = text.replace(f"@{name}\n", part.removesuffix("\n") + "\n")
     assert not re.search(r"@[A-Z]", text)
     assert all(len(line) <= COLUMNS for line in text.split("\n"))
-    with open(f"{ROOT}/crates/{path}/Proof.antt", "w") as file:
-        file.write(text)
+    return text
 
 
 def entry(known, walks):
@@ -638,7 +648,8 @@ def entry(known, walks):
     return parts | {"FRAMED": entry_framed()} | walks
 
 
-def main():
+def proofs():
+    """The text of each proof, by its folder below `crates`."""
     flatten_walks = {
         "FRAMED": flatten_framed(),
         "PUT-ASKS": asked(["ν₁", "ν₂"], ["M₁", "M₂", ("i", "fits"), "rec"]),
@@ -646,20 +657,39 @@ def main():
         "ENDS": flatten_ends(),
         "START": flatten_start(),
     }
-    write("records/proofs/flatten", flatten_walks)
     traced_parameters = ["O0", M, N, "SF", "SB", ("n", "gn"), *owned(OUTPUTS)]
     trace_samples_walks = {
         "FLAT-ASKS": asked(["t3", "ν₁", "ν₂"], ["O3", "MF", "MB"]),
         "TRACED-ASKS": asked(["t0", "ν₃", "ν₄", *tokens(OUTPUTS)], traced_parameters),
         "WALK": trace_samples_walk(),
     }
-    write("records/proofs/trace_samples", entry("known-flat known-traced", trace_samples_walks))
     mt_trace_samples_walks = {
         "REC-ASKS": asked(tokens(SLICES), ["O0", M, N, *owned(SLICES[1:])]),
         "CONV-ASKS": asked([], ["answer"]),
         "WALK": mt_trace_samples_walk(),
     }
-    write("merlontrispa/proofs/samples/mt_trace_samples", entry("known-rec known-conv", mt_trace_samples_walks))
+    parts = {
+        "records/proofs/flatten": flatten_walks,
+        "records/proofs/trace_samples": entry("known-flat known-traced", trace_samples_walks),
+        "merlontrispa/proofs/samples/mt_trace_samples": entry("known-rec known-conv", mt_trace_samples_walks),
+    }
+    return {path: proof(path, walks) for path, walks in parts.items()}
+
+
+def main():
+    if sys.argv[1:] not in ([], ["--check"]):
+        sys.exit("usage: tools/walks/walks.py [--check]")
+    files = {f"crates/{path}/Proof.antt": text for path, text in proofs().items()}
+    if not sys.argv[1:]:
+        for name, text in files.items():
+            with open(f"{ROOT}/{name}", "w", encoding="utf-8") as file:
+                file.write(text)
+        return
+    other = [name for name, text in files.items() if read(f"{ROOT}/{name}") != text]
+    for name in other:
+        print(f"walks: {name} is not what tools/walks/walks.py writes")
+    print(f"walks: {len(files) - len(other)} passed, {len(other)} failed")
+    sys.exit(len(other) > 0)
 
 
 if __name__ == "__main__":
