@@ -6,7 +6,7 @@ mod walks;
 
 use crate::driver::{Compared, Driver};
 use crate::inputs::EPS;
-use crate::inputs::grids::{Grid, any_steps};
+use crate::inputs::grids::{Grid, all_steps};
 use crate::inputs::lists::{fill, floats, numbers};
 use crate::layers::lines::{coordinates, firsts};
 use crate::random::Random;
@@ -36,7 +36,7 @@ pub fn compare(driver: &mut Driver) -> Compared {
         library,
         original,
     )?;
-    let mut many = Scenes::new(60, any_steps);
+    let mut many = Scenes::new(60, all_steps);
     driver.compare(
         "trace_flat, up to 255 by 255 cells",
         100_000,
@@ -44,7 +44,7 @@ pub fn compare(driver: &mut Driver) -> Compared {
         library,
         original,
     )?;
-    let mut most = Scenes::new(2, |_| 255);
+    let mut most = Scenes::new(20, |_| 255);
     driver.compare(
         "trace_flat, 255 by 255 cells",
         3_000,
@@ -329,6 +329,24 @@ mod tests {
         let counts = refusals((0..20_000).map(|_| faulty(&mut random)));
         let least = [0, 1, 2, 4, 9, 10].map(|number| counts[number]);
         assert!(least.iter().all(|&count| count > 500), "{counts:?}");
+    }
+
+    /// Of the scenes that the short form has on up to 255 by 255 cells.
+    #[test]
+    fn some_grids_are_at_the_limit_of_one_axis_alone() {
+        let mut random = Random::new(1);
+        let mut scenes = Scenes::new(160, all_steps);
+        let steps = (0..160).map(|_| {
+            let grid = &traced(&mut random, &mut scenes).scene.grid;
+            (grid.u_steps, grid.v_steps)
+        });
+        let steps: Vec<_> = steps.collect();
+        let count =
+            |of: fn(&(usize, usize)) -> bool| steps.iter().filter(|steps| of(steps)).count();
+        let wide = count(|&(m, n)| m < 255 && n == 255);
+        let long = count(|&(m, n)| m == 255 && n < 255);
+        let large = count(|&(m, n)| m > 24 && n > 24);
+        assert!(wide > 4 && long > 4 && large > 40, "{steps:?}");
     }
 
     /// Holds a library to the original on grids of up to so many steps.
