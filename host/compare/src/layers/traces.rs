@@ -303,15 +303,22 @@ fn goes_down_from_a_line(&[from, to]: &Leg) -> bool {
 mod tests {
     use super::*;
     use crate::planted::found;
+    use std::collections::BTreeMap;
 
     /// How often each refusal is told, and at 0 how often there is none.
-    fn refusals(inputs: impl Iterator<Item = Input>) -> [u32; 13] {
-        let mut counts = [0; 13];
+    fn refusals(inputs: impl Iterator<Item = Input>) -> BTreeMap<u8, u32> {
+        let mut counts = BTreeMap::new();
         for input in inputs {
             let number = original(&input).told.map_or_else(Refusal::number, |_| 0);
-            counts[usize::from(number)] += 1;
+            *counts.entry(number).or_default() += 1;
         }
         counts
+    }
+
+    /// Whether each of these is told more often than so.
+    fn more(counts: &BTreeMap<u8, u32>, least: &[(u8, u32)]) -> bool {
+        let count = |number| counts.get(number).copied().unwrap_or_default();
+        least.iter().all(|(number, least)| count(number) > *least)
     }
 
     #[test]
@@ -319,16 +326,18 @@ mod tests {
         let mut random = Random::new(1);
         let mut few = Scenes::new(50, |random| 1 + random.below(4) as usize);
         let counts = refusals((0..20_000).map(|_| traced(&mut random, &mut few)));
-        let [drawn, no_step, full] = [0, 11, 12].map(|number| counts[number]);
-        assert!(drawn > 5_000 && no_step > 50 && full > 1_000, "{counts:?}");
+        assert!(
+            more(&counts, &[(0, 5_000), (11, 50), (12, 1_000)]),
+            "{counts:?}"
+        );
     }
 
     #[test]
     fn each_refusal_comes_before_the_walk() {
         let mut random = Random::new(1);
         let counts = refusals((0..20_000).map(|_| faulty(&mut random)));
-        let least = [0, 1, 2, 4, 9, 10].map(|number| counts[number]);
-        assert!(least.iter().all(|&count| count > 500), "{counts:?}");
+        let least = [0, 1, 2, 4, 9, 10].map(|number| (number, 500));
+        assert!(more(&counts, &least), "{counts:?}");
     }
 
     /// Of the scenes that the short form has on up to 255 by 255 cells.
