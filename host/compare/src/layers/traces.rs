@@ -302,8 +302,10 @@ fn goes_down_from_a_line(&[from, to]: &Leg) -> bool {
 #[cfg(test)]
 mod tests {
     use super::*;
+    use crate::driver::{Amount, Ended, Task};
     use crate::planted::found;
     use std::collections::BTreeMap;
+    use std::time::Duration;
 
     /// How often each refusal is told, and at 0 how often there is none.
     fn refusals(inputs: impl Iterator<Item = Input>) -> BTreeMap<u8, u32> {
@@ -340,22 +342,22 @@ mod tests {
         assert!(more(&counts, &least), "{counts:?}");
     }
 
-    /// Of the scenes that the short form has on up to 255 by 255 cells.
+    /// A trace that mistakes the sides where N is at its limit and M is not.
     #[test]
-    fn some_grids_are_at_the_limit_of_one_axis_alone() {
-        let mut random = Random::new(1);
-        let mut scenes = Scenes::new(160, all_steps);
-        let steps = (0..160).map(|_| {
-            let grid = &traced(&mut random, &mut scenes).scene.grid;
-            (grid.u_steps, grid.v_steps)
-        });
-        let steps: Vec<_> = steps.collect();
-        let count =
-            |of: fn(&(usize, usize)) -> bool| steps.iter().filter(|steps| of(steps)).count();
-        let wide = count(|&(m, n)| m < 255 && n == 255);
-        let long = count(|&(m, n)| m == 255 && n < 255);
-        let large = count(|&(m, n)| m > 24 && n > 24);
-        assert!(wide > 4 && long > 4 && large > 40, "{steps:?}");
+    fn a_fault_at_the_limit_of_one_axis_is_found() {
+        let wrong = |input: &Input| {
+            let mut output = original(input);
+            let grid = &input.scene.grid;
+            if grid.v_steps == 255 && grid.u_steps < 255 {
+                output.sides.iter_mut().for_each(|number| *number /= 2);
+            }
+            output
+        };
+        let mut scenes = Scenes::new(60, all_steps);
+        let input = |random: &mut Random| traced(random, &mut scenes);
+        let mut driver = Driver::new(Task::Run(Amount::Own), 1, Duration::ZERO);
+        let told = driver.compare("planted", 1_000, input, wrong, original);
+        assert!(matches!(told, Err(Ended::Difference(_))), "{told:?}");
     }
 
     /// Holds a library to the original on grids of up to so many steps.
