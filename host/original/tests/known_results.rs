@@ -89,7 +89,7 @@ fn sides_of_a_trace() {
     );
 }
 
-/// V(0) at -0 comes before U(0) at 0, which is as close and dropped.
+/// V(0) at -0 comes before U(0) at 0, which is less than EPS from it and dropped.
 #[test]
 fn an_event_at_minus_zero_is_the_first() {
     let samples: [Sample; 2] = [Some((0.0, 0.0)), Some((0.5, -0.5))];
