@@ -57,43 +57,56 @@ impl Wrong {
 /// The wrong programs of a file, or its first line that has no place.
 pub fn parse(text: &str) -> Result<Vec<Wrong>, String> {
     let mut found: Vec<Wrong> = Vec::new();
-    let (mut file, mut old) = (None, None);
-    for line in text.lines() {
-        if line.trim().is_empty() || line.starts_with('#') {
-            continue;
-        }
-        let (word, rest) = split(line)?;
-        if word == "wrong" {
-            found.push(Wrong {
-                name: rest.to_string(),
-                ..Wrong::default()
-            });
-            (file, old) = (None, None);
-            continue;
-        }
-        let wrong = found
-            .last_mut()
-            .ok_or_else(|| format!("stands before a `wrong:` line: {line}"))?;
-        match word {
-            "leaves" => wrong.leaves.push(left(rest)?),
-            "file" => file = Some(rest.to_string()),
-            "old" => old = Some(rest.to_string()),
-            "new" => wrong.changes.push(Change {
-                file: file
-                    .clone()
-                    .ok_or_else(|| format!("no `file:` before: {line}"))?,
-                old: old
-                    .take()
-                    .ok_or_else(|| format!("no `old:` before: {line}"))?,
-                new: rest.to_string(),
-            }),
-            _ => return Err(format!("not a line of an edit: {line}")),
+    let mut place = Place::default();
+    let lines = text.lines().filter(|line| !line.starts_with('#'));
+    for line in lines.filter(|line| !line.trim().is_empty()) {
+        match (split(line)?, found.last_mut()) {
+            (("wrong", name), _) => {
+                let name = name.to_string();
+                found.push(Wrong {
+                    name,
+                    ..Wrong::default()
+                });
+                place = Place::default();
+            }
+            ((word, rest), Some(wrong)) => place.read(word, rest, wrong)?,
+            _ => return Err(format!("stands before a `wrong:` line: {line}")),
         }
     }
     found.iter().try_for_each(whole)?;
     match found.is_empty() {
         true => Err("no wrong program".to_string()),
         false => Ok(found),
+    }
+}
+
+/// Where the next change is made: the file stays until another is named.
+#[derive(Default)]
+struct Place {
+    file: Option<String>,
+    old: Option<String>,
+}
+
+impl Place {
+    /// Takes a line of a wrong program.
+    fn read(&mut self, word: &str, rest: &str, wrong: &mut Wrong) -> Result<(), String> {
+        match word {
+            "leaves" => wrong.leaves.push(left(rest)?),
+            "file" => self.file = Some(rest.to_string()),
+            "old" => self.old = Some(rest.to_string()),
+            "new" => wrong.changes.push(self.change(rest)?),
+            _ => return Err(format!("not a line of an edit: {word}: {rest}")),
+        }
+        Ok(())
+    }
+
+    fn change(&mut self, new: &str) -> Result<Change, String> {
+        let missing = |word: &str| format!("no `{word}:` before: new: {new}");
+        Ok(Change {
+            file: self.file.clone().ok_or_else(|| missing("file"))?,
+            old: self.old.take().ok_or_else(|| missing("old"))?,
+            new: new.to_string(),
+        })
     }
 }
 

@@ -334,3 +334,36 @@ pub fn trace_samples(
     let (sides, fractions) = (lists.sides, lists.fractions);
     call!(mt_trace_samples(grid; m, n; samples; points, starts, sides, fractions))
 }
+
+#[cfg(test)]
+mod tests {
+    use super::*;
+
+    fn is_zero(seam: FoundSeam) -> bool {
+        let numbers = (seam.offset, seam.steps, seam.comparisons);
+        !seam.found && !seam.reverse && numbers == (0, 0, 0)
+    }
+
+    /// All corners are one point, so that both seams would be found.
+    #[test]
+    fn a_refused_answer_has_zero_seams() {
+        let far = [f64::NAN; 12];
+        for (number, grid, steps, room) in [
+            (1, &[0.0; 12][..], 256, 6),
+            (2, &[0.0; 11], 1, 6),
+            (3, &[0.0; 12], 1, 5),
+            (4, &far, 1, 6),
+        ] {
+            let mut triangles = vec![7; room];
+            let answer = triangulate_grid(grid, steps, 1, &mut triangles, &mut [7; 4]);
+            assert_eq!(answer.refusal, number);
+            assert!(is_zero(answer.u) && is_zero(answer.v), "{number}");
+            assert_eq!((answer.triangles, answer.pairs), (0, 0), "{number}");
+        }
+        for (number, row) in [(2, &[0.0; 7][..]), (4, &far)] {
+            let answer = new_vector(&[0.0; 12], row);
+            assert_eq!(answer.refusal, number);
+            assert!(is_zero(answer.seam), "{number}");
+        }
+    }
+}

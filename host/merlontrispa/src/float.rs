@@ -31,8 +31,8 @@ pub fn max(x: f64, y: f64) -> f64 {
     boundary::mt_max(x, y)
 }
 
-/// `x.clamp(lo, hi)`, which keeps -0.0 between 0.0 and 1.0. Where `hi` is below `lo` the answer is
-/// `hi`, and an end that is a NaN does not bound: Rust panics there.
+/// `x.clamp(lo, hi)`, which keeps -0.0 between 0.0 and 1.0. A NaN stays a NaN; else, where `hi` is
+/// below `lo`, the answer is `hi`, and an end that is a NaN does not bound: Rust panics there.
 pub fn clamp(x: f64, lo: f64, hi: f64) -> f64 {
     boundary::mt_clamp(x, lo, hi)
 }
@@ -70,4 +70,23 @@ pub fn to_usize(x: f64) -> usize {
 /// `n as f64`
 pub fn to_f64(n: usize) -> f64 {
     boundary::mt_to_f64(n)
+}
+
+#[cfg(test)]
+mod tests {
+    use super::*;
+
+    #[test]
+    fn clamp_takes_ends_that_rust_does_not() {
+        let (nan, inf) = (f64::NAN, f64::INFINITY);
+        for x in [-inf, -1.0, 0.0, 0.5, 1.0, 2.0, inf] {
+            assert_eq!(clamp(x, 1.0, 0.0), 0.0, "{x}");
+            assert_eq!(clamp(x, nan, 0.5), x.min(0.5), "{x}");
+            assert_eq!(clamp(x, 0.5, nan), x.max(0.5), "{x}");
+            assert_eq!(clamp(x, nan, nan), x);
+        }
+        for [lo, hi] in [[0.0, 1.0], [1.0, 0.0], [nan, 0.5], [0.5, nan]] {
+            assert!(clamp(nan, lo, hi).is_nan(), "{lo}, {hi}");
+        }
+    }
 }

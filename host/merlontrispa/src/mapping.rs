@@ -32,7 +32,8 @@ pub struct Seam {
 
 impl Mapping {
     /// The seam between two rows of points, three numbers each: the first offset at which a fits b,
-    /// forward before reverse. Rows whose ends are close are tried at all offsets, others at 0.
+    /// forward before reverse. Rows whose ends are close are tried at all offsets, others at 0. Rows
+    /// of unequal lengths, or of fewer than two points, do not meet, after 0 comparisons.
     ///
     /// # Errors
     /// 2 where a row is not of whole points or has more than 65,536, 4 where a coordinate is NaN,
@@ -79,10 +80,22 @@ impl Mapping {
         Refusal::check(answer.refusal).map(|()| answer.index)
     }
 
-    /// The index of a that index `b_idx` of b meets.
+    /// The index of a that index `b_idx` of b meets: forward at offset 0 the same index, at another
+    /// `(b_idx + steps - offset) mod steps`; in reverse that of [`map_index`](Self::map_index).
     ///
     /// # Errors
     /// 8 where `steps` is 0 or more than 65,535, the offset is not less than it, or the index is more.
+    ///
+    /// ```
+    /// use merlontrispa::Mapping;
+    ///
+    /// let forward = Mapping::Forward { offset: 1, steps: 4 };
+    /// assert_eq!(forward.map_index_inv(0)?, 3);
+    /// assert_eq!(forward.map_index(3)?, 0);
+    /// let reverse = Mapping::Reverse { offset: 1, steps: 4 };
+    /// assert_eq!(reverse.map_index_inv(2)?, reverse.map_index(2)?);
+    /// # Ok::<(), merlontrispa::Refusal>(())
+    /// ```
     pub fn map_index_inv(self, b_idx: usize) -> Result<usize, Refusal> {
         let (reverse, offset, steps) = self.parts();
         let answer = boundary::mt_map_index_inv(reverse, offset, steps, b_idx);

@@ -1,59 +1,57 @@
 use std::error::Error;
 use std::fmt;
 
-/// Why a call sent its caller back: a number, and nothing beside it (Rules 11).
-///
-/// Where several apply it is the one with the lowest number; 11 and 12 come as the walk along the
-/// curve meets them. 1 to 10 leave lists that were lent for output as they were, 11 and 12 leave
-/// them all zero. `refusal as u8` is the number that the C boundary answers.
-#[derive(Debug, Clone, Copy, PartialEq, Eq, Hash)]
-#[repr(u8)]
-pub enum Refusal {
-    /// 1: M and N must each be from 1 to 255.
-    Steps = 1,
-    /// 2: a list has the wrong length: a grid has 3·(M+1)·(N+1) numbers, samples two numbers for
-    /// each mark and at most 65,537 marks, a seam row whole points and at most 65,536 of them.
-    Length = 2,
-    /// 3: a lent list is too short: it takes 6·M·N numbers for triangles, 2·(M+N) for flipped pairs,
-    /// 6·(M+1)·(N+1) for the points of grid lines, M+N+2 for their starts.
-    Room = 3,
-    /// 4: a coordinate of the grid or of a row is NaN, infinite or beyond ±2^40.
-    Coordinate = 4,
-    /// 5: the twist is NaN, infinite or beyond ±64, or there are more than 64 arms.
-    Texture = 5,
-    /// 6: the texture would have more than 65,536 rays, or samples to a ray.
-    Count = 6,
-    /// 7: a cosine or sine is NaN or beyond ±1.
-    Direction = 7,
-    /// 8: no such index, ray, sample or line, or a mapping whose steps or offset are out of range.
-    NotThere = 8,
-    /// 9: a mark is neither 0 nor 1.
-    Mark = 9,
-    /// 10: a coordinate of a point among the samples is NaN, infinite or beyond ±1,048,576.
-    Sample = 10,
-    /// 11: the curve meets a side where no cell can be told (the original panics there).
-    NoStep = 11,
-    /// 12: a lent list is full.
-    Full = 12,
+/// The enum, its documentation, `ALL` and the sentences, of one table.
+macro_rules! refusals {
+    ($($name:ident = $number:literal: $sentence:literal;)*) => {
+        /// Why a call sent its caller back: a number, and nothing beside it (Rules 11).
+        ///
+        /// Where several apply it is the first in the order of Rules 11.2; 11 and 12 come as the
+        /// walk along the curve meets them. 1 to 10 leave lists that were lent for output as they
+        /// were, 11 and 12 leave them all zero. `refusal as u8` is the number that the C boundary
+        /// answers. Later versions may have more numbers.
+        #[derive(Debug, Clone, Copy, PartialEq, Eq, Hash)]
+        #[non_exhaustive]
+        #[repr(u8)]
+        pub enum Refusal {
+            $(
+                #[doc = concat!(stringify!($number), ": ", $sentence, ".")]
+                $name = $number,
+            )*
+        }
+
+        impl Refusal {
+            /// All refusals, in the order of their numbers.
+            pub const ALL: &[Self] = &[$(Self::$name),*];
+
+            fn sentence(self) -> &'static str {
+                match self {
+                    $(Self::$name => $sentence,)*
+                }
+            }
+        }
+    };
+}
+
+refusals! {
+    Steps = 1: "M and N must each be from 1 to 255";
+    Length = 2: "a list has the wrong length: a grid has 3·(M+1)·(N+1) numbers, samples two numbers \
+        for each mark and at most 65,537 marks, a seam row whole points and at most 65,536 of them";
+    Room = 3: "a lent list is too short: it takes 6·M·N numbers for triangles, 2·(M+N) for flipped \
+        pairs, 6·(M+1)·(N+1) for the points of grid lines, M+N+2 for their starts";
+    Coordinate = 4: "a coordinate of the grid or of a row is NaN, infinite or beyond ±2^40";
+    Texture = 5: "the twist is NaN, infinite or beyond ±64, or there are more than 64 arms";
+    Count = 6: "the texture would have more than 65,536 rays, or samples to a ray";
+    Direction = 7: "a cosine or sine is NaN or beyond ±1";
+    NotThere = 8: "no such index, ray, sample or line, or a mapping whose steps or offset are out of \
+        range";
+    Mark = 9: "a mark is neither 0 nor 1";
+    Sample = 10: "a coordinate of a point among the samples is NaN, infinite or beyond ±1,048,576";
+    NoStep = 11: "the curve meets a side where no cell can be told (the original panics there)";
+    Full = 12: "a lent list is full";
 }
 
 impl Refusal {
-    /// All refusals, in the order of their numbers.
-    pub const ALL: &[Self] = &[
-        Self::Steps,
-        Self::Length,
-        Self::Room,
-        Self::Coordinate,
-        Self::Texture,
-        Self::Count,
-        Self::Direction,
-        Self::NotThere,
-        Self::Mark,
-        Self::Sample,
-        Self::NoStep,
-        Self::Full,
-    ];
-
     /// Its number.
     pub fn number(self) -> u8 {
         self as u8
@@ -96,37 +94,7 @@ fn unknown(number: u8) -> ! {
 
 impl fmt::Display for Refusal {
     fn fmt(&self, f: &mut fmt::Formatter<'_>) -> fmt::Result {
-        let sentence = match self {
-            Self::Steps => "M and N must each be from 1 to 255",
-            Self::Length => {
-                "a list has the wrong length: a grid has 3·(M+1)·(N+1) numbers, samples two numbers \
-                 for each mark and at most 65,537 marks, a seam row whole points and at most 65,536 of them"
-            }
-            Self::Room => {
-                "a lent list is too short: it takes 6·M·N numbers for triangles, 2·(M+N) for flipped \
-                 pairs, 6·(M+1)·(N+1) for the points of grid lines, M+N+2 for their starts"
-            }
-            Self::Coordinate => {
-                "a coordinate of the grid or of a row is NaN, infinite or beyond ±2^40"
-            }
-            Self::Texture => {
-                "the twist is NaN, infinite or beyond ±64, or there are more than 64 arms"
-            }
-            Self::Count => "the texture would have more than 65,536 rays, or samples to a ray",
-            Self::Direction => "a cosine or sine is NaN or beyond ±1",
-            Self::NotThere => {
-                "no such index, ray, sample or line, or a mapping whose steps or offset are out of range"
-            }
-            Self::Mark => "a mark is neither 0 nor 1",
-            Self::Sample => {
-                "a coordinate of a point among the samples is NaN, infinite or beyond ±1,048,576"
-            }
-            Self::NoStep => {
-                "the curve meets a side where no cell can be told (the original panics there)"
-            }
-            Self::Full => "a lent list is full",
-        };
-        write!(f, "{}: {sentence}", self.number())
+        write!(f, "{}: {}", self.number(), self.sentence())
     }
 }
 

@@ -122,6 +122,19 @@ impl<'a> Surface<'a> {
     /// # Errors
     /// 3 for a list shorter than [`Surface::triangles_room`] or [`Surface::flipped_room`]; both are
     /// then as they were.
+    ///
+    /// ```
+    /// use merlontrispa::Surface;
+    ///
+    /// let grid = [0.0, 0.0, 0.0, 0.0, 1.0, 0.0, 1.0, 0.0, 0.0, 1.0, 1.0, 5.0];
+    /// let surface = Surface::new(&grid, 1, 1)?;
+    /// let mut triangles = vec![0; surface.triangles_room()];
+    /// let mut flipped = vec![0; surface.flipped_room()];
+    /// let written = surface.triangulate_into(&mut triangles, &mut flipped)?;
+    /// assert_eq!(triangles[..3 * written.triangles], [0, 2, 1, 2, 3, 1]);
+    /// assert_eq!(written.flipped, 0);
+    /// # Ok::<(), merlontrispa::Refusal>(())
+    /// ```
     pub fn triangulate_into(
         self,
         triangles: &mut [usize],
@@ -201,6 +214,25 @@ impl<'a> Surface<'a> {
     /// # Errors
     /// 2 for pairs that are not two numbers for each mark or more than 65,537 marks, 9 and 10,
     /// which leave the lists as they were; 11 and 12, which leave them all zero.
+    ///
+    /// ```
+    /// use merlontrispa::{Surface, TraceLists};
+    ///
+    /// let grid = [0.0, 0.0, 0.0, 0.0, 1.0, 0.0, 1.0, 0.0, 0.0, 1.0, 1.0, 5.0];
+    /// let (mut points, mut starts) = ([0.0; 6], [0; 1]);
+    /// let (mut sides, mut fractions) = ([0; 4], [0.0; 2]);
+    /// let lists = TraceLists {
+    ///     points: &mut points,
+    ///     starts: &mut starts,
+    ///     sides: &mut sides,
+    ///     fractions: &mut fractions,
+    /// };
+    /// let surface = Surface::new(&grid, 1, 1)?;
+    /// let trace = surface.trace_into(&[0.0, 0.25, 0.75, 0.25], &[1, 1], lists)?;
+    /// assert_eq!(trace.lines.iter().next(), Some(&[[0.0, 0.25, 0.0], [0.75, 0.25, 0.0]][..]));
+    /// assert_eq!(trace.sides, [[0, 1], [2, 1]]);
+    /// # Ok::<(), merlontrispa::Refusal>(())
+    /// ```
     pub fn trace_into<'b>(
         self,
         pairs: &[f64],

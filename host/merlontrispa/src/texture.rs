@@ -52,14 +52,14 @@ pub struct Plan {
 }
 
 impl Texture {
-    /// Rays and samples per ray on M by N cells.
+    /// Rays and samples per ray on `u_steps` by `v_steps` cells.
     ///
     /// # Errors
-    /// 1 for M or N that is not from 1 to 255, 5 for a twist or arms that are not allowed, 6 for
+    /// 1 for steps that are not from 1 to 255, 5 for a twist or arms that are not allowed, 6 for
     /// more than 65,536 rays, or samples to a ray.
-    pub fn plan(self, m: usize, n: usize) -> Result<Plan, Refusal> {
+    pub fn plan(self, u_steps: usize, v_steps: usize) -> Result<Plan, Refusal> {
         let (kind, spacing, twist, arms) = self.parts();
-        let answer = boundary::mt_plan(kind, spacing, twist, arms, m, n);
+        let answer = boundary::mt_plan(kind, spacing, twist, arms, u_steps, v_steps);
         Refusal::check(answer.refusal)?;
         let (rays, samples) = (answer.rays, answer.samples);
         Ok(Plan { rays, samples })
@@ -69,9 +69,15 @@ impl Texture {
     ///
     /// # Errors
     /// As for `plan`, and 8 where there is no such ray or sample.
-    pub fn angle(self, m: usize, n: usize, ray: usize, sample: usize) -> Result<f64, Refusal> {
+    pub fn angle(
+        self,
+        u_steps: usize,
+        v_steps: usize,
+        ray: usize,
+        sample: usize,
+    ) -> Result<f64, Refusal> {
         let (kind, spacing, twist, arms) = self.parts();
-        let answer = boundary::mt_angle(kind, spacing, twist, arms, m, n, ray, sample);
+        let answer = boundary::mt_angle(kind, spacing, twist, arms, u_steps, v_steps, ray, sample);
         Refusal::check(answer.refusal).map(|()| answer.angle)
     }
 
@@ -81,15 +87,16 @@ impl Texture {
     /// As for `angle`, and 7 for a cosine or a sine that is NaN or beyond ±1.
     pub fn sample_point(
         self,
-        m: usize,
-        n: usize,
+        u_steps: usize,
+        v_steps: usize,
         ray: usize,
         sample: usize,
         [cosine, sine]: [f64; 2],
     ) -> Result<[f64; 2], Refusal> {
         let (kind, spacing, twist, arms) = self.parts();
-        let answer =
-            boundary::mt_sample_point(kind, spacing, twist, arms, m, n, ray, sample, cosine, sine);
+        let answer = boundary::mt_sample_point(
+            kind, spacing, twist, arms, u_steps, v_steps, ray, sample, cosine, sine,
+        );
         Refusal::check(answer.refusal).map(|()| [answer.u, answer.v])
     }
 

@@ -1,5 +1,5 @@
 //! What the documents show and where they lead: README's program is an example of this crate, and
-//! the links of the pages that lead a reader on have a file and a heading behind them.
+//! the links of every page have a file and a heading behind them.
 
 use std::fs;
 use std::path::{Path, PathBuf};
@@ -57,27 +57,42 @@ fn labels(page: &str) -> (Vec<&str>, Vec<&str>) {
     (used.collect(), defined.collect())
 }
 
+/// README and the pages of `docs`.
+fn pages() -> Vec<PathBuf> {
+    let folders = ["docs", "docs/proofs"].map(|folder| root().join(folder));
+    let entries = folders.iter().flat_map(|folder| {
+        let entries = fs::read_dir(folder);
+        entries.unwrap_or_else(|error| panic!("{}: {error}", folder.display()))
+    });
+    let paths = entries.map(|entry| entry.expect("an entry").path());
+    let pages = paths.filter(|path| path.extension().is_some_and(|kind| kind == "md"));
+    pages.chain([root().join("README.md")]).collect()
+}
+
 #[test]
-fn the_links_of_the_calls_and_of_the_glossary_lead_somewhere() {
-    let docs = root().join("docs");
-    for name in ["CALLS.md", "GLOSSARY.md"] {
-        let page = read(&docs.join(name));
-        let targets = targets(&page);
-        assert!(targets.len() > 4, "{name} has few links");
-        for target in targets {
+fn the_links_of_every_page_lead_somewhere() {
+    let mut count = 0;
+    for path in pages() {
+        let (page, name) = (read(&path), path.display());
+        let folder = path.parent().expect("a folder");
+        for target in targets(&page) {
             let (file, anchor) = target.split_once('#').unwrap_or((target, ""));
-            let path = match file {
-                "" => docs.join(name),
-                _ => docs.join(file),
+            let to = match file {
+                "" => path.clone(),
+                _ => folder.join(file),
             };
-            assert!(path.exists(), "{name}: {target}");
-            let known = anchor.is_empty() || anchors(&read(&path)).iter().any(|a| a == anchor);
+            assert!(to.exists(), "{name}: {target}");
+            let known = anchor.is_empty() || anchors(&read(&to)).iter().any(|a| a == anchor);
             assert!(known, "{name}: {target}");
+            count += 1;
         }
-        let (mut used, mut defined) = labels(&page);
-        used.sort_unstable();
-        used.dedup();
-        defined.sort_unstable();
-        assert_eq!(used, defined, "{name}");
+        let (used, defined) = labels(&page);
+        let unknown = used.iter().find(|label| !defined.contains(label));
+        assert_eq!(unknown, None, "{name}");
+        // A link may have its label alone, as `[mesh]`.
+        let count = |text: String| page.matches(&text).count();
+        let once = |label: &&&str| count(format!("[{label}]")) == 1;
+        assert_eq!(defined.iter().find(once), None, "{name}");
     }
+    assert!(count > 400, "{count} links");
 }

@@ -55,10 +55,25 @@ fn seams_are_those_of_the_triangulation() {
 
 #[test]
 fn the_largest_surface_has_seams() {
-    let grid = largest();
+    let (offset, steps) = (1, 255);
+    let mapping = Mapping::Reverse { offset, steps };
+    // Closed in v; the last column is the first, turned round and on.
+    let grid = sampled(255, 255, |u, v| match u {
+        255 => [
+            0.0,
+            (mapping.map_index_inv(v).expect("an index") % 255) as f64,
+            0.0,
+        ],
+        _ => [u as f64, (v % 255) as f64, 0.0],
+    });
     let surface = Surface::new(&grid, 255, 255).expect("a grid");
-    assert_eq!(surface.seams(), surface.triangulate().seams);
-    assert_eq!(surface.triangulate().triangles.len(), 2 * 255 * 255);
+    let (seams, mesh) = (surface.seams(), surface.triangulate());
+    assert_eq!(seams, mesh.seams);
+    assert_eq!(seams.u.mapping, Some(mapping));
+    let forward = Mapping::Forward { offset: 0, steps };
+    assert_eq!(seams.v.mapping, Some(forward));
+    assert_eq!(mesh.triangles.len(), 2 * 255 * 255);
+    assert_eq!(mesh.flipped.len(), 255);
     assert_eq!(surface.points()[256], [1.0, 0.0, 0.0]);
 }
 

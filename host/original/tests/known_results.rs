@@ -70,19 +70,30 @@ fn flipped_pairs_of_a_twisted_band() {
     assert_eq!(flipped, [(0, 17), (2, 15), (4, 13)]);
 }
 
-#[test]
-fn sides_of_a_trace() {
-    let samples: [Sample; 2] = [Some((0.0, 0.25)), Some((0.75, 0.25))];
-    let sides = cell().walk(&samples).into_iter().map(|made| {
+/// p, q and t of each event of a walk.
+fn sides(samples: &[Sample]) -> Vec<(usize, usize, f64)> {
+    let sides = cell().walk(samples).into_iter().map(|made| {
         let (_, side) = made.point.expect("no panic");
         (side.p, side.q, side.t)
     });
-    let sides: Vec<_> = sides.collect();
-    assert_eq!(sides, [(0, 1, 0.25), (2, 1, 0.25)]);
+    sides.collect()
+}
+
+#[test]
+fn sides_of_a_trace() {
+    let samples: [Sample; 2] = [Some((0.0, 0.25)), Some((0.75, 0.25))];
+    assert_eq!(sides(&samples), [(0, 1, 0.25), (2, 1, 0.25)]);
     assert_eq!(
         cell().trace(&samples).map(|paths| paths.total_len()),
         Some(2)
     );
+}
+
+/// V(0) at -0 comes before U(0) at 0, which is less than EPS from it and dropped.
+#[test]
+fn an_event_at_minus_zero_is_the_first() {
+    let samples: [Sample; 2] = [Some((0.0, 0.0)), Some((0.5, -0.5))];
+    assert_eq!(sides(&samples), [(0, 2, 0.0)]);
 }
 
 #[test]

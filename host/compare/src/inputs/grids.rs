@@ -270,3 +270,12 @@ pub fn any_steps(random: &mut Random) -> usize {
         _ => random.below(5),
     } as usize
 }
+
+/// Steps from 1 to 255 of all sizes, often at the limits.
+pub fn all_steps(random: &mut Random) -> usize {
+    match random.below(4) {
+        0 => any_steps(random),
+        1 => random.of(&[1, 2, 254, 255]),
+        _ => 1 + random.below(255) as usize,
+    }
+}

@@ -46,7 +46,11 @@ type Output = (Result<Drawn, Refusal>, (Vec<f64>, Vec<usize>));
 pub fn compare(driver: &mut Driver) -> Compared {
     driver.compare("grid_paths", 200_000, drawable, library, original)?;
     driver.compare("grid_paths, refusals", 200_000, faulty, library, original)?;
+    let name = "grid_paths, 255 by 255";
+    driver.compare(name, 60, largest, library, original)?;
     driver.compare("get, every grid line", 20_000, drawable, read, walked)?;
+    let name = "get, every grid line of 255 by 255 cells";
+    driver.compare(name, 20, largest, read, walked)?;
     driver.compare(
         "get, any lists",
         2_000_000,
@@ -140,6 +144,12 @@ fn walked(input: &Input) -> Vec<Vec<f64>> {
     (0..=paths.len())
         .map(|i| coordinates(line(i)).collect())
         .collect()
+}
+
+/// The largest grid, and room for its lines.
+fn largest(random: &mut Random) -> Input {
+    let room = least(255, 255).map(|least| least + random.below(3) as usize);
+    Input::new(any_grid(random, 255, 255), room)
 }
 
 fn drawable(random: &mut Random) -> Input {

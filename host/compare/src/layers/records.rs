@@ -3,7 +3,7 @@
 
 use crate::case::{Case, Smaller};
 use crate::driver::{Compared, Driver};
-use crate::inputs::grids::any_steps;
+use crate::inputs::grids::all_steps;
 use crate::layers::traces::curves::{self, Scene, Scenes, bent, faulty, spare, traced};
 use crate::layers::traces::{self, Output, called};
 use crate::random::Random;
@@ -34,7 +34,7 @@ fn compare_beside(driver: &mut Driver, name: &str, other: fn(&Input) -> Output) 
         library,
         other,
     )?;
-    let mut many = Scenes::new(60, any_steps);
+    let mut many = Scenes::new(60, all_steps);
     driver.compare(
         &format!("trace_samples beside {name}, up to 255 by 255 cells"),
         10_000,

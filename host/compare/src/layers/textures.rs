@@ -424,11 +424,7 @@ pub fn record(record: &mut Record) {
 fn recorded_input(random: &mut Random, edges: &[Input]) -> Input {
     match random.below(4) {
         0 => any_input(random),
-        1 => {
-            let Scene { texture, grid } = any_scene(random);
-            let (m, n) = (grid.u_steps, grid.v_steps);
-            Input { texture, m, n }
-        }
+        1 => any_scene(random).input(),
         _ => edges[random.below(edges.len() as u64) as usize].clone(),
     }
 }

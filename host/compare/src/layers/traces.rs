@@ -6,7 +6,7 @@ mod walks;
 
 use crate::driver::{Compared, Driver};
 use crate::inputs::EPS;
-use crate::inputs::grids::{Grid, any_steps};
+use crate::inputs::grids::{Grid, all_steps};
 use crate::inputs::lists::{fill, floats, numbers};
 use crate::layers::lines::{coordinates, firsts};
 use crate::random::Random;
@@ -36,7 +36,7 @@ pub fn compare(driver: &mut Driver) -> Compared {
         library,
         original,
     )?;
-    let mut many = Scenes::new(60, any_steps);
+    let mut many = Scenes::new(60, all_steps);
     driver.compare(
         "trace_flat, up to 255 by 255 cells",
         100_000,
@@ -44,7 +44,7 @@ pub fn compare(driver: &mut Driver) -> Compared {
         library,
         original,
     )?;
-    let mut most = Scenes::new(2, |_| 255);
+    let mut most = Scenes::new(20, |_| 255);
     driver.compare(
         "trace_flat, 255 by 255 cells",
         3_000,
@@ -302,16 +302,25 @@ fn goes_down_from_a_line(&[from, to]: &Leg) -> bool {
 #[cfg(test)]
 mod tests {
     use super::*;
+    use crate::driver::{Amount, Ended, Task};
     use crate::planted::found;
+    use std::collections::BTreeMap;
+    use std::time::Duration;
 
     /// How often each refusal is told, and at 0 how often there is none.
-    fn refusals(inputs: impl Iterator<Item = Input>) -> [u32; 13] {
-        let mut counts = [0; 13];
+    fn refusals(inputs: impl Iterator<Item = Input>) -> BTreeMap<u8, u32> {
+        let mut counts = BTreeMap::new();
         for input in inputs {
             let number = original(&input).told.map_or_else(Refusal::number, |_| 0);
-            counts[usize::from(number)] += 1;
+            *counts.entry(number).or_default() += 1;
         }
         counts
+    }
+
+    /// Whether each of these is told more often than so.
+    fn more(counts: &BTreeMap<u8, u32>, least: &[(u8, u32)]) -> bool {
+        let count = |number| counts.get(number).copied().unwrap_or_default();
+        least.iter().all(|(number, least)| count(number) > *least)
     }
 
     #[test]
@@ -319,16 +328,36 @@ mod tests {
         let mut random = Random::new(1);
         let mut few = Scenes::new(50, |random| 1 + random.below(4) as usize);
         let counts = refusals((0..20_000).map(|_| traced(&mut random, &mut few)));
-        let [drawn, no_step, full] = [0, 11, 12].map(|number| counts[number]);
-        assert!(drawn > 5_000 && no_step > 50 && full > 1_000, "{counts:?}");
+        assert!(
+            more(&counts, &[(0, 5_000), (11, 50), (12, 1_000)]),
+            "{counts:?}"
+        );
     }
 
     #[test]
     fn each_refusal_comes_before_the_walk() {
         let mut random = Random::new(1);
         let counts = refusals((0..20_000).map(|_| faulty(&mut random)));
-        let least = [0, 1, 2, 4, 9, 10].map(|number| counts[number]);
-        assert!(least.iter().all(|&count| count > 500), "{counts:?}");
+        let least = [0, 1, 2, 4, 9, 10].map(|number| (number, 500));
+        assert!(more(&counts, &least), "{counts:?}");
+    }
+
+    /// A trace that mistakes the sides where N is at its limit and M is not.
+    #[test]
+    fn a_fault_at_the_limit_of_one_axis_is_found() {
+        let wrong = |input: &Input| {
+            let mut output = original(input);
+            let grid = &input.scene.grid;
+            if grid.v_steps == 255 && grid.u_steps < 255 {
+                output.sides.iter_mut().for_each(|number| *number /= 2);
+            }
+            output
+        };
+        let mut scenes = Scenes::new(60, all_steps);
+        let input = |random: &mut Random| traced(random, &mut scenes);
+        let mut driver = Driver::new(Task::Run(Amount::Own), 1, Duration::ZERO);
+        let told = driver.compare("planted", 1_000, input, wrong, original);
+        assert!(matches!(told, Err(Ended::Difference(_))), "{told:?}");
     }
 
     /// Holds a library to the original on grids of up to so many steps.

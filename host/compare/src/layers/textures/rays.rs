@@ -1,8 +1,10 @@
-//! Angles and sample points against those that the original's closures make, bit by bit.
+//! Angles and sample points against those that the original's closures make, bit by bit, and their
+//! refusals against Rules 11.2.
 
 use super::{Input, any_input, edges, original_plan, to_original, wide_input};
 use crate::case::case;
 use crate::driver::{Compared, Driver};
+use crate::inputs::whole;
 use crate::random::Random;
 use merlontrispa::{Refusal, Texture};
 use std::cell::RefCell;
@@ -42,7 +44,111 @@ pub fn compare(driver: &mut Driver, radii: &[f64]) -> Compared {
         any_ray,
         library_samples,
         original,
+    )?;
+    let ruled = |asked: &Asked| ruled(radii, asked);
+    driver.compare(
+        "angle and sample_point, refusals",
+        200_000,
+        any_asked,
+        told,
+        ruled,
     )
+}
+
+/// A sample that may or may not be there, and a cosine and a sine that may be refused.
+#[derive(Clone)]
+struct Asked {
+    texture: Texture,
+    m: usize,
+    n: usize,
+    ray: usize,
+    sample: usize,
+    cosine: f64,
+    sine: f64,
+}
+
+case!(Asked {
+    texture,
+    m,
+    n,
+    ray,
+    sample,
+    cosine,
+    sine
+});
+
+/// Whether there is an angle, and a point, or why not.
+type Told = [Result<bool, Refusal>; 2];
+
+fn told(asked: &Asked) -> Told {
+    let Asked { texture, m, n, .. } = *asked;
+    let (ray, sample) = (asked.ray, asked.sample);
+    let direction = [asked.cosine, asked.sine];
+    let angle = texture.angle(m, n, ray, sample);
+    let point = texture.sample_point(m, n, ray, sample, direction);
+    [angle.map(|_| true), point.map(|_| true)]
+}
+
+/// Rules 11.2: 1, 5 and 6 as for the plan, then 7 for a point alone, then 8.
+fn ruled(radii: &[f64], asked: &Asked) -> Told {
+    let Asked { texture, m, n, .. } = *asked;
+    let plan = match original_plan(radii, &Input { texture, m, n }) {
+        Ok(plan) => plan,
+        Err(refusal) => return [Err(refusal); 2],
+    };
+    let there = if asked.ray < plan.rays && asked.sample <= plan.samples {
+        Ok(true)
+    } else {
+        Err(Refusal::NotThere)
+    };
+    let fits = |x| (-1.0..=1.0).contains(&x);
+    let lent = fits(asked.cosine) && fits(asked.sine);
+    [there, if lent { there } else { Err(Refusal::Direction) }]
+}
+
+/// Any sample of any texture, often one past the last, with any cosine and sine.
+fn any_asked(random: &mut Random) -> Asked {
+    let Input { texture, m, n } = match random.below(4) {
+        0 => any_input(random),
+        _ => any_planned(random, wide_input),
+    };
+    let plan = texture.plan(m, n);
+    let (rays, samples) = plan.map_or((0, 0), |plan| (plan.rays, plan.samples));
+    Asked {
+        texture,
+        m,
+        n,
+        ray: around(random, rays),
+        sample: around(random, samples),
+        cosine: any_part(random),
+        sine: any_part(random),
+    }
+}
+
+/// Mostly a number up to `top`, often at it or just past it.
+fn around(random: &mut Random, top: usize) -> usize {
+    match random.below(16) {
+        0 => whole(random),
+        1..5 => random.of(&[top.saturating_sub(1), top, top + 1]),
+        _ => random.below(top.max(1) as u64) as usize,
+    }
+}
+
+/// A cosine or a sine, now and then one that is refused.
+fn any_part(random: &mut Random) -> f64 {
+    let past = 1f64.next_up();
+    match random.below(8) {
+        0 => random.of(&[
+            f64::NAN,
+            past,
+            -past,
+            f64::INFINITY,
+            f64::NEG_INFINITY,
+            1e300,
+        ]),
+        1 => random.of(&[1.0, -1.0, 0.0, -0.0]),
+        _ => 2.0 * random.unit() - 1.0,
+    }
 }
 
 fn library_samples(ray: &Ray) -> Samples {
@@ -120,14 +226,7 @@ fn any_ray(random: &mut Random) -> Ray {
     } else {
         wide_input
     };
-    let mut input = any(random);
-    for _ in 0..8 {
-        if input.texture.plan(input.m, input.n).is_ok() {
-            break;
-        }
-        input = any(random);
-    }
-    let Input { texture, m, n } = input;
+    let Input { texture, m, n } = any_planned(random, any);
     let rays = texture.plan(m, n).map_or(0, |plan| plan.rays);
     let ray = match random.below(16) {
         0 => rays,
@@ -144,6 +243,18 @@ fn any_ray(random: &mut Random) -> Ray {
         ray,
         parts,
     }
+}
+
+/// One of several inputs: the first that has a plan, else the last.
+fn any_planned(random: &mut Random, any: fn(&mut Random) -> Input) -> Input {
+    let mut input = any(random);
+    for _ in 0..8 {
+        if input.texture.plan(input.m, input.n).is_ok() {
+            break;
+        }
+        input = any(random);
+    }
+    input
 }
 
 #[cfg(test)]
@@ -216,5 +327,44 @@ mod tests {
             |driver| driver.compare("planted", 1_000, any_ray, library_samples, original),
         );
         assert!(case.starts_with("texture swirl"), "{case}");
+    }
+
+    #[test]
+    fn each_refusal_of_a_sample_comes_often_and_7_where_8_holds_too() {
+        let radii = radii();
+        let mut random = Random::new(1);
+        let asked: Vec<_> = (0..20_000).map(|_| any_asked(&mut random)).collect();
+        let told: Vec<_> = asked.iter().map(|asked| ruled(&radii, asked)).collect();
+        let count = |what: Told| told.iter().filter(|&&told| told == what).count();
+        for refusal in [
+            Refusal::Steps,
+            Refusal::Texture,
+            Refusal::Count,
+            Refusal::NotThere,
+        ] {
+            assert!(count([Err(refusal); 2]) > 100, "{refusal}");
+        }
+        assert!(count([Ok(true); 2]) > 2_000);
+        assert!(count([Ok(true), Err(Refusal::Direction)]) > 1_000);
+        assert!(count([Err(Refusal::NotThere), Err(Refusal::Direction)]) > 500);
+    }
+
+    /// A point that is asked for its number before its cosine and sine.
+    #[test]
+    fn refusals_in_another_order_are_found() {
+        let radii = radii();
+        let ruled = |asked: &Asked| ruled(&radii, asked);
+        let other = |asked: &Asked| match ruled(asked) {
+            [Err(angle), _] => [Err(angle); 2],
+            told => told,
+        };
+        let case = found(
+            |driver| driver.compare("planted", 1_000, any_asked, other, ruled),
+            |driver| driver.compare("planted", 1_000, any_asked, told, ruled),
+        );
+        assert!(
+            case.starts_with("texture grid m 1 n 1 ray 0 sample 0"),
+            "{case}"
+        );
     }
 }

@@ -329,15 +329,17 @@ fn any_room(random: &mut Random, need: Need) -> Room {
 }
 
 /// 1 to 300 samples, mostly few, with breaks. The original takes a millisecond for a leg that goes as
-/// far away as it may, so that such legs are few.
+/// far away as it may, so that such legs are few, but more on the large grids, of which there are
+/// fewer.
 fn any_samples(random: &mut Random, m: usize, n: usize) -> (Vec<f64>, Vec<u8>) {
     let count = 1 + match random.below(256) {
         0 => random.below(300),
         1..16 => random.below(24),
         _ => random.below(5),
     };
+    let at_limits = if m.max(n) > 24 { 8 } else { 1 };
     let far = match random.below(512) {
-        0 if count < 8 => FAR,
+        k if k < at_limits && count < 8 => FAR,
         1..100 => 2_000.0,
         _ => 300.0,
     };

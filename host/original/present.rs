@@ -1,4 +1,4 @@
-//! Sets `cfg(larnt)` where the original was found.
+//! Sets `cfg(larnt)` where the original was found: the build script of crates that depend on this one.
 
 fn main() {
     println!("cargo::rustc-check-cfg=cfg(larnt)");
