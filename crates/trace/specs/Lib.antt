@@ -1,5 +1,6 @@
 -- Curve, Drawing, Trace and Demand say what the contract of the open call, `trace_flat`, cites: Rules 7, 8, 11 and 5.5.
--- Table and Known have known results, by computation. Ended serves inner contracts only, and so does `paramAt` of Curve.
+-- Table and Known have known results, by computation. Ended serves inner contracts only, and so does `paramAt` of
+-- Curve.
 pub mod Curve
 pub mod Drawing
 pub mod Trace
