@@ -3,17 +3,18 @@
 use Prim.Native.Nat.{ℕ}
 use native.Mathlib.Omega.{arith}
 use mathlib.Core.Path.{_≡_}
-use mathlib.Core.List.{List, [], _∷_, _++_}
+use mathlib.Core.List.{List, [], _∷_, _++_, map-append}
 use lib.Ieee.{Float}
 use Rattle.refusal.specs.declared.Refusal.{Refusal}
 use Rattle.lent.specs.Lent.{afterwards}
 use Rattle.lent.proofs.After.{same-answer, same-lists}
 use Rattle.crossing.specs.declared.Crossing.{Crossing}
+use Rattle.page.specs.declared.TracedPoint.{TracedPoint}
 use Rattle.page.specs.declared.Pen.{Pen}
 use Rattle.page.specs.declared.Penned.{Penned}
 use Rattle.page.specs.declared.Penned.the-variants.{Down, Stop}
-use Rattle.page.specs.Moves.{Move, Outcome, on, off, follow, move}
-use Rattle.page.specs.Page.{Lists, Page, page, pushPage, flushPage, onPage, pageAfter}
+use Rattle.page.specs.Moves.{Move, mapMove, Outcome, on, off, follow, move}
+use Rattle.page.specs.Page.{Lists, tracedBy, movesBy, Page, page, pushPage, flushPage, onPage, pageAfter}
 use Rattle.page.proofs.Moves.{run-append, run-none, run-one, Holding}
 
 module _ (x : Outcome Page) (k : Page → Outcome Page) {r : Penned} {l : Lists} (h : afterwards r l ≡ pageAfter x) where
@@ -49,12 +50,20 @@ down-holds P x {r} {l} {pen} u e h = go x u h
 -- ---- moves on a page
 
 module _ (tolerance : Float) where
-  pub page-append : (ms ns : List (Move Crossing)) (w : Page) →
+  pub page-append : (ms ns : List (Move TracedPoint)) (w : Page) →
       onPage tolerance (ms ++ ns) w ≡ follow (onPage tolerance ms w) (onPage tolerance ns)
   page-append = run-append (pushPage tolerance) flushPage
 
   pub page-none : (w : Page) → onPage tolerance [] w ≡ on w
   page-none = run-none (pushPage tolerance) flushPage
 
-  pub page-one : (x : Move Crossing) (w : Page) → onPage tolerance (x ∷ []) w ≡ move (pushPage tolerance) flushPage x w
+  pub page-one : (x : Move TracedPoint) (w : Page) →
+      onPage tolerance (x ∷ []) w ≡ move (pushPage tolerance) flushPage x w
   page-one = run-one (pushPage tolerance) flushPage
+
+  -- those that one sample makes
+  pub by-append : (sample : ℕ) (ms ns : List (Move Crossing)) (w : Page) →
+      onPage tolerance (movesBy sample (ms ++ ns)) w
+      ≡ follow (onPage tolerance (movesBy sample ms) w) (onPage tolerance (movesBy sample ns))
+  by-append sample ms ns w =
+      rw (map-append (mapMove (tracedBy sample)) ms ns) (page-append (movesBy sample ms) (movesBy sample ns) w)

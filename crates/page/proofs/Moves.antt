@@ -2,9 +2,9 @@
 -- one induction over the moves.
 use mathlib.Core.Path.{_≡_, refl, sym}
 use mathlib.Core.Bool.{Bool, true, false, true≢false, cond}
-use mathlib.Core.List.{List, [], _∷_, _++_}
+use mathlib.Core.List.{List, [], _∷_, _++_, map}
 use Rattle.refusal.specs.declared.Refusal.{Refusal}
-use Rattle.page.specs.Moves.{Move, push, flush, stop, Outcome, on, off, follow, move, run}
+use Rattle.page.specs.Moves.{Move, push, flush, stop, mapMove, Outcome, on, off, follow, move, run}
 
 -- what follows an outcome, in two parts
 pub follow-twice : {S : Type 0} (x : Outcome S) (h k : S → Outcome S) {l : S → Outcome S} →
@@ -52,15 +52,27 @@ pub either : {A : Type 0} {P : A → Type 0} (b : Bool) {ms ns : List (Move A)} 
 either true h k = h
 either false h k = k
 
+-- of what mapped moves push, where P holds of f of all that the moves push
+pub mapped : {A B : Type 0} (f : A → B) (P : B → Type 0) {ms : List (Move A)} → AllPushed (λ (a : A). P (f a)) ms →
+    AllPushed P (map (mapMove f) ms)
+mapped f P none = none
+mapped f P (pushing c h) = pushing c (mapped f P h)
+mapped f P (flushing h) = flushing (mapped f P h)
+mapped f P (stopping h) = stopping (mapped f P h)
+
+-- what holds of everything
+pub all-pushed : {A : Type 0} (P : A → Type 0) → ((c : A) → P c) → (ms : List (Move A)) → AllPushed P ms
+all-pushed P h [] = none
+all-pushed P h (push c ∷ ms) = pushing (h c) (all-pushed P h ms)
+all-pushed P h (flush ∷ ms) = flushing (all-pushed P h ms)
+all-pushed P h (stop k ∷ ms) = stopping (all-pushed P h ms)
+
 -- nothing is asked of what is pushed
 abbrev pub Any : {A : Type 0} → A → Type 0
 Any c = Unit {0}
 
 pub any-pushed : {A : Type 0} (ms : List (Move A)) → AllPushed Any ms
-any-pushed [] = none
-any-pushed (push c ∷ ms) = pushing tt (any-pushed ms)
-any-pushed (flush ∷ ms) = flushing (any-pushed ms)
-any-pushed (stop k ∷ ms) = stopping (any-pushed ms)
+any-pushed = all-pushed Any (λ c. tt)
 
 -- ---- what a run keeps
 
@@ -69,21 +81,23 @@ abbrev pub Holding : {S : Type 0} → (S → Type 0) → Outcome S → Type 0
 Holding P (on s) = P s
 Holding P (off k s) = Unit {0}
 
+-- what follows an outcome of which P holds
+pub follow-holds : {S : Type 0} (P Q : S → Type 0) (x : Outcome S) (k : S → Outcome S) → Holding P x →
+    ((s : S) → P s → Holding Q (k s)) → Holding Q (follow x k)
+follow-holds P Q (on s) k h e = e s h
+follow-holds P Q (off r s) k h e = tt
+
 -- THE LAW: what is said of a state, where it stays true after a good push and after a flush
 module _ {A S : Type 0} (Good : A → Type 0) (P : S → Type 0) (p : A → S → Outcome S) (f : S → Outcome S)
     (pushes : (c : A) → Good c → (s : S) → P s → Holding P (p c s))
     (flushes : (s : S) → P s → Holding P (f s))
   where
-    follow-keeps : (x : Outcome S) (k : S → Outcome S) → Holding P x → ((s : S) → P s → Holding P (k s)) →
-        Holding P (follow x k)
-    follow-keeps (on s) k h e = e s h
-    follow-keeps (off r s) k h e = tt
-
     pub run-keeps : {ms : List (Move A)} → AllPushed Good ms → (s : S) → P s → Holding P (run p f ms s)
     unfolding run
     run-keeps none s h = h
-    run-keeps (pushing {c} {ms} good a) s h = follow-keeps (p c s) (run p f ms) (pushes c good s h) (run-keeps a)
-    run-keeps (flushing {ms} a) s h = follow-keeps (f s) (run p f ms) (flushes s h) (run-keeps a)
+    run-keeps (pushing {c} {ms} good a) s h =
+        follow-holds P P (p c s) (run p f ms) (pushes c good s h) (run-keeps a)
+    run-keeps (flushing {ms} a) s h = follow-holds P P (f s) (run p f ms) (flushes s h) (run-keeps a)
     run-keeps (stopping a) s h = tt
 
 -- ---- two states side by side

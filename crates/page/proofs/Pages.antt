@@ -12,17 +12,17 @@ use Rattle.lent.specs.Lent.{afterwards}
 use Rattle.vector.specs.declared.Vector.{Vector}
 use Rattle.vector.specs.Vectors.{allClose}
 use Rattle.grid.specs.Grid.{pointAt}
-use Rattle.crossing.specs.declared.Crossing.{Crossing}
+use Rattle.page.specs.declared.TracedPoint.{TracedPoint}
 use Rattle.page.specs.declared.Pen.{Pen}
 use Rattle.page.specs.declared.Penned.the-variants.{Down, Stop}
 use Rattle.page.specs.Page.{Lists, pointRoom, writeAt, writeStart, page, penAt, closeToPending, hasRoom, written}
 use Rattle.page.specs.Page.{pushPage, kept, dropped, flushPage, pageAfter}
 
-module _ (tolerance : Float) (c : Crossing) (l : Lists) (pen : Pen) where
+module _ (tolerance : Float) (c : TracedPoint) (l : Lists) (pen : Pen) where
   -- ---- a point close to the last pending one
 
   module _ {x : Vector} {b : Bool} (ex : x ≡ pointAt (l .points) (pen .count - 1))
-      (eb : b ≡ allClose x (c .point) tolerance) (h : pen .start < pen .count) where
+      (eb : b ≡ allClose x (c .crossing .point) tolerance) (h : pen .start < pen .count) where
     pub push-close : b ≡ true → afterwards (Down pen) l ≡ pageAfter (pushPage tolerance c (page l pen))
     unfolding pushPage
     push-close t = simp (lt-ltb _ _ h, ← ex, ← eb, t)

@@ -1,4 +1,4 @@
-// The lent lists as the walk fills them (Rules 7.3, 7.4): points in place, pending ones after the kept ones.
+// The lent lists as the walk fills them (Rules 7.3 to 7.5): points in place, pending ones after the kept ones.
 use crossing::Crossing;
 use refusal::Refusal;
 ghost use mathlib.Core.Path.{_≡_};
@@ -9,6 +9,12 @@ ghost use Rattle.float.specs.Consts.{eps};
 ghost use Rattle.lent.specs.Lent.{afterwards};
 ghost use Rattle.page.specs.Page.{Lists, lists, writeAt, withStarts, page, pushPage, flushPage, flushUnless};
 ghost use Rattle.page.specs.Page.{pageAfter, PenFits};
+
+// A point of a trace: where a leg crosses a side of a triangle, and the number of the sample that the leg leads to.
+pub struct TracedPoint {
+    pub crossing: Crossing,
+    pub sample: usize,
+}
 
 // The points written so far, where the pending line starts among them, and the lines kept.
 pub struct Pen {
@@ -23,25 +29,30 @@ pub enum Penned {
     Stop(Refusal),
 }
 
-// A crossing at place i of each list.
-fn write_crossing(
+// A point at place i of each list.
+fn write_at(
     points: &mut [f64],
     sides: &mut [usize],
     fractions: &mut [f64],
+    samples: &mut [usize],
     i: usize,
-    c: Crossing,
+    c: TracedPoint,
 )
     requires { ⌜ (3 * i + 3 ≤ length (now points)) × (2 * i + 2 ≤ length (now sides))
-        × (i + 1 ≤ length (now fractions)) ⌝ }
-    ensures { λ _. ⌜ ((starts : List ℕ) → lists (now (points .exit)) starts (now (sides .exit)) (now (fractions .exit))
-        ≡ writeAt i c (lists (now (points .entry)) starts (now (sides .entry)) (now (fractions .entry)))) ⌝ }
+        × (i + 1 ≤ length (now fractions)) × (i + 1 ≤ length (now samples)) ⌝ }
+    ensures { λ _. ⌜ ((starts : List ℕ) →
+        lists (now (points .exit)) starts (now (sides .exit)) (now (fractions .exit)) (now (samples .exit))
+        ≡ writeAt i c
+        (lists (now (points .entry)) starts (now (sides .entry)) (now (fractions .entry)) (now (samples .entry)))) ⌝ }
 {
-    points[3 * i] = c.point.x;
-    points[3 * i + 1] = c.point.y;
-    points[3 * i + 2] = c.point.z;
-    sides[2 * i] = c.p;
-    sides[2 * i + 1] = c.q;
-    fractions[i] = c.t;
+    let crossing = c.crossing;
+    points[3 * i] = crossing.point.x;
+    points[3 * i + 1] = crossing.point.y;
+    points[3 * i + 2] = crossing.point.z;
+    sides[2 * i] = crossing.p;
+    sides[2 * i + 1] = crossing.q;
+    fractions[i] = crossing.t;
+    samples[i] = c.sample;
 }
 
 // One more pending point, unless it is close to the last one. The starts, which it leaves alone, are any.
@@ -49,18 +60,20 @@ pub fn push_segment_point(
     points: &mut [f64],
     sides: &mut [usize],
     fractions: &mut [f64],
+    samples: &mut [usize],
     pen: Pen,
-    c: Crossing,
+    c: TracedPoint,
 ) -> Penned
     requires { ⌜ PenFits (now points) pen ⌝ }
-    ensures { λ r. ⌜ ((starts : List ℕ) →
-        afterwards r (lists (now (points .exit)) starts (now (sides .exit)) (now (fractions .exit)))
-        ≡ pageAfter (pushPage eps c
-        (page (lists (now (points .entry)) starts (now (sides .entry)) (now (fractions .entry))) pen))) ⌝ }
+    ensures { λ r. ⌜ ((starts : List ℕ) → afterwards r
+        (lists (now (points .exit)) starts (now (sides .exit)) (now (fractions .exit)) (now (samples .exit)))
+        ≡ pageAfter (pushPage eps c (page
+        (lists (now (points .entry)) starts (now (sides .entry)) (now (fractions .entry)) (now (samples .entry)))
+        pen))) ⌝ }
 {
     let count = pen.count;
     if pen.start < count {
-        if grid::point_at(points, count - 1).all_close(c.point) {
+        if grid::point_at(points, count - 1).all_close(c.crossing.point) {
             return Penned::Down(pen);
         }
     }
@@ -73,7 +86,10 @@ pub fn push_segment_point(
     if fractions.len() <= count {
         return Penned::Stop(Refusal::Full);
     }
-    write_crossing(points, sides, fractions, count, c);
+    if samples.len() <= count {
+        return Penned::Stop(Refusal::Full);
+    }
+    write_at(points, sides, fractions, samples, count, c);
     Penned::Down(Pen {
         count: count + 1,
         start: pen.start,

@@ -2,7 +2,7 @@
 -- after i events are the moves of the others, and its end.
 use mathlib.Core.Path.{_≡_, refl, sym, ap, _∙_}
 use mathlib.Core.Bool.{Bool, true, false, cond}
-use mathlib.Core.List.{List, [], _∷_}
+use mathlib.Core.List.{List, _∷_}
 use Prim.Native.Nat.{ℕ, _+_, _≤_, _<_}
 use lib.Dec.{ltb}
 use lib.ListN.{length, drop, getD}
@@ -22,9 +22,9 @@ use Rattle.page.specs.declared.Pen.{Pen}
 use Rattle.page.specs.declared.Penned.{Penned}
 use Rattle.page.specs.declared.Penned.the-variants.{Down, Stop}
 use Rattle.page.specs.Moves.{Outcome, follow}
-use Rattle.page.specs.Page.{Lists, Page, page, flushUnless, onPage, pageAfter}
+use Rattle.page.specs.Page.{Lists, movesBy, Page, page, flushUnless, onPage, pageAfter}
 use Rattle.page.proofs.Moves.{follow-twice}
-use Rattle.page.proofs.Follow.{down, stops, page-append, page-none}
+use Rattle.page.proofs.Follow.{down, stops, page-none, by-append}
 use Rattle.walk.specs.declared.Decision.{Decision}
 use Rattle.walk.specs.Walk.{nextLambda, decide, movesOf, endMoves, eventsMoves, legMoves, lambdaOrOne}
 use Rattle.walk.proofs.Drawn.{end-run}
@@ -43,19 +43,21 @@ module _ (ls : List Float) (cs : List ℕ) (count i : ℕ) (h : count ≤ length
 
 -- ---- what is left of a leg
 
-module _ (tolerance : Float) (g : List Float) (k : Cells) (l : Leg) where
+module _ (tolerance : Float) (sample : ℕ) (g : List Float) (k : Cells) (l : Leg) where
   -- the line's end where the leg leaves the grid
   abbrev ending : Page → Outcome Page
-  ending = onPage tolerance (endMoves (paramInBounds k (l .b)))
+  ending = onPage tolerance (movesBy sample (endMoves (paramInBounds k (l .b))))
 
   -- the events es, after one at `previous`, and the end
   abbrev pub left : List EdgeEvent → Float → Page → Outcome Page
-  left es previous w = follow (onPage tolerance (eventsMoves g k l previous es) w) ending
+  left es previous w = follow (onPage tolerance (movesBy sample (eventsMoves g k l previous es)) w) ending
 
   pub leg-starts : (w : Page) {es : List EdgeEvent} → es ≡ sortedEdgeEvents k l →
-      onPage tolerance (legMoves g k l) w ≡ left es zero64 w
+      onPage tolerance (movesBy sample (legMoves g k l)) w ≡ left es zero64 w
   unfolding legMoves
-  leg-starts w e = rw e (page-append tolerance _ _ w)
+  leg-starts w {es} e =
+      rw e (by-append tolerance sample (eventsMoves g k l zero64 (sortedEdgeEvents k l))
+      (endMoves (paramInBounds k (l .b))) w)
 
   module _ (ls : List Float) (cs : List ℕ) (count i : ℕ) (h : count ≤ length ls) (s : length ls ≡ length cs) where
     -- the events from i on
@@ -66,7 +68,7 @@ module _ (tolerance : Float) (g : List Float) (k : Cells) (l : Leg) where
         left (rest i) previous w ≡ flushUnless (paramInBounds k (l .b)) w
     unfolding eventsMoves
     leg-ends previous w t =
-        rw (none-left ls cs count i s h t, page-none tolerance w) (end-run tolerance (paramInBounds k (l .b)) w)
+        rw (none-left ls cs count i s h t, page-none tolerance w) (end-run tolerance sample (paramInBounds k (l .b)) w)
 
     module _ (t : i < count) (previous : Float) (w : Page) {v : EdgeEvent} {x : Float} {d : Decision}
         (ev : v ≡ eventOf (getD ls i nan) (getD cs i 0))
@@ -74,13 +76,13 @@ module _ (tolerance : Float) (g : List Float) (k : Cells) (l : Leg) where
       where
         -- the event at i
         abbrev here : Outcome Page
-        here = onPage tolerance (movesOf d) w
+        here = onPage tolerance (movesBy sample (movesOf d)) w
 
         turn : left (rest i) previous w ≡ follow here (left (rest (i + 1)) (v .lambda))
         unfolding eventsMoves
         turn =
             let first : rest i ≡ v ∷ rest (i + 1) = rw ev (next-event ls cs count i s h t) in
-            rw (first, next-is ls cs count (i + 1) h s ex, ← ed, page-append tolerance)
+            rw (first, next-is ls cs count (i + 1) h s ex, ← ed, by-append tolerance sample)
             (sym (follow-twice here _ ending (λ s. refl)))
 
         module _ {z : Outcome Page} (ez : z ≡ left (rest i) previous w) {r : Penned} {m : Lists}

@@ -8,6 +8,7 @@ use edges::sorted::sorted_edge_events;
 use float::consts::EPS;
 use page::Pen;
 use page::Penned;
+use page::TracedPoint;
 use page::flush_unless;
 use page::push_segment_point;
 use param::Cells;
@@ -21,7 +22,7 @@ ghost use Rattle.float.specs.Consts.{eps};
 ghost use Rattle.lent.specs.Lent.{afterwards};
 ghost use Rattle.edges.specs.Events.{Inside};
 ghost use Rattle.crossing.specs.Crossing.{GridFits};
-ghost use Rattle.page.specs.Page.{lists, page, onPage, pageAfter, PenFits};
+ghost use Rattle.page.specs.Page.{lists, movesBy, page, onPage, pageAfter, PenFits};
 ghost use Rattle.walk.specs.Walk.{beforeInside, afterInside, decide, movesOf, legMoves, lambdaOrOne};
 
 // What becomes of an event's point: it is pushed, there is none to push, or refusal 11 ends the walk.
@@ -94,29 +95,35 @@ fn decide(
     }
 }
 
-// Does to the lists what is decided of one event.
+// Does to the lists what is decided of one event of the leg to sample number `sample`.
 fn draw_event(
     points: &mut [f64],
     starts: &mut [usize],
     sides: &mut [usize],
     fractions: &mut [f64],
+    samples: &mut [usize],
     pen: Pen,
+    sample: usize,
     decision: Decision,
 ) -> Penned
     requires { ⌜ PenFits (now points) pen ⌝ }
     ensures { λ r. ⌜ afterwards r
-        (lists (now (points .exit)) (now (starts .exit)) (now (sides .exit)) (now (fractions .exit)))
-        ≡ pageAfter (onPage eps (movesOf decision)
-        (page (lists (now (points .entry)) (now (starts .entry)) (now (sides .entry)) (now (fractions .entry)))
-        pen)) ⌝ }
+        (lists (now (points .exit)) (now (starts .exit)) (now (sides .exit)) (now (fractions .exit))
+        (now (samples .exit)))
+        ≡ pageAfter (onPage eps (movesBy sample (movesOf decision))
+        (page (lists (now (points .entry)) (now (starts .entry)) (now (sides .entry)) (now (fractions .entry))
+        (now (samples .entry))) pen)) ⌝ }
 {
     let inside = decision.inside;
     let point = decision.point;
     match point {
-        EventPoint::Push(c) => match push_segment_point(points, sides, fractions, pen, c) {
-            Penned::Down(pushed) => flush_unless(inside, starts, pushed),
-            Penned::Stop(refusal) => Penned::Stop(refusal),
-        },
+        EventPoint::Push(crossing) => {
+            let c = TracedPoint { crossing, sample };
+            match push_segment_point(points, sides, fractions, samples, pen, c) {
+                Penned::Down(pushed) => flush_unless(inside, starts, pushed),
+                Penned::Stop(refusal) => Penned::Stop(refusal),
+            }
+        }
         EventPoint::Pass => flush_unless(inside, starts, pen),
         EventPoint::Stop => Penned::Stop(Refusal::NoStep),
     }
@@ -133,27 +140,31 @@ fn lambda_or_one(lambdas: &[f64], count: usize, i: usize) -> f64
     1.0
 }
 
-// A leg: its events, found in the two scratch lists, and a flush if it ends outside the grid.
+// A leg, to sample number `sample`: its events, found in the two scratch lists, and a flush if it ends outside the
+// grid.
 pub fn append_edge_crossings(
     lambdas: &mut [f64],
     codes: &mut [u32],
     grid: &[f64],
     cells: Cells,
     leg: Leg,
+    sample: usize,
     points: &mut [f64],
     starts: &mut [usize],
     sides: &mut [usize],
     fractions: &mut [f64],
+    samples: &mut [usize],
     pen: Pen,
 ) -> Penned
     requires { ⌜ (length (now lambdas) ≡ 1023) × (length (now codes) ≡ 1023) ⌝ }
     requires { ⌜ GridFits (now grid) cells ⌝ }
     requires { ⌜ PenFits (now points) pen ⌝ }
     ensures { λ r. ⌜ afterwards r
-        (lists (now (points .exit)) (now (starts .exit)) (now (sides .exit)) (now (fractions .exit)))
-        ≡ pageAfter (onPage eps (legMoves (now (grid .entry)) cells leg)
-        (page (lists (now (points .entry)) (now (starts .entry)) (now (sides .entry)) (now (fractions .entry)))
-        pen)) ⌝ }
+        (lists (now (points .exit)) (now (starts .exit)) (now (sides .exit)) (now (fractions .exit))
+        (now (samples .exit)))
+        ≡ pageAfter (onPage eps (movesBy sample (legMoves (now (grid .entry)) cells leg))
+        (page (lists (now (points .entry)) (now (starts .entry)) (now (sides .entry)) (now (fractions .entry))
+        (now (samples .entry))) pen)) ⌝ }
 {
     let count = sorted_edge_events(lambdas, codes, cells, leg);
     let mut pen = pen;
@@ -163,7 +174,16 @@ pub fn append_edge_crossings(
         let event = event_at(lambdas, codes, i);
         let next = lambda_or_one(lambdas, count, i + 1);
         let decision = decide(grid, cells, leg, previous, event, next);
-        match draw_event(points, starts, sides, fractions, pen, decision) {
+        match draw_event(
+            points,
+            starts,
+            sides,
+            fractions,
+            samples,
+            pen,
+            sample,
+            decision,
+        ) {
             Penned::Down(drawn) => {
                 pen = drawn;
             }

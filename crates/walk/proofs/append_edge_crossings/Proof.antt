@@ -8,7 +8,7 @@ use lib.ListN.{length, drop}
 use Rattle.float.specs.Consts.{eps, zero64}
 use Rattle.edges.specs.Scratch.{eventsIn}
 use Rattle.edges.proofs.Laws.{leg-inside, event-inside}
-use Rattle.page.specs.Page.{lists, Page, page, onPage, PenFits}
+use Rattle.page.specs.Page.{lists, movesBy, Page, page, onPage, PenFits}
 use Rattle.page.proofs.Follow.{down-holds}
 use Rattle.page.proofs.Fits.{Fitting, moves-fit, Sized, SizedPage, moves-sized}
 use Rattle.walk.specs.Walk.{movesOf, legMoves}
@@ -18,18 +18,19 @@ use Rattle.walk.proofs.append_edge_crossings.Statement.{statement}
 use Rattle.walk.proofs.append_edge_crossings.Tie as tie
 
 abbrev Inv-loop : tie.InvT-loop
-Inv-loop lambdas codes grid cells leg points₀ starts₀ sides₀ fractions₀ count pen₀ previous₀ i₀ points starts sides
-    fractions pen previous i =
-    (i ≤ count) × Sized (lists points₀ starts₀ sides₀ fractions₀) (lists points starts sides fractions)
+Inv-loop lambdas codes grid cells leg sample points₀ starts₀ sides₀ fractions₀ samples₀ count pen₀ previous₀ i₀ points
+    starts sides fractions samples pen previous i =
+    (i ≤ count)
+    × Sized (lists points₀ starts₀ sides₀ fractions₀ samples₀) (lists points starts sides fractions samples)
     × PenFits points pen
-    × (left eps grid cells leg (eventsIn lambdas codes count) zero64
-    (page (lists points₀ starts₀ sides₀ fractions₀) pen₀)
-    ≡ left eps grid cells leg (drop i (eventsIn lambdas codes count)) previous
-    (page (lists points starts sides fractions) pen))
+    × (left eps sample grid cells leg (eventsIn lambdas codes count) zero64
+    (page (lists points₀ starts₀ sides₀ fractions₀ samples₀) pen₀)
+    ≡ left eps sample grid cells leg (drop i (eventsIn lambdas codes count)) previous
+    (page (lists points starts sides fractions samples) pen))
 
 abbrev μ-loop : tie.MeasureT-loop
-μ-loop lambdas codes grid cells leg points₀ starts₀ sides₀ fractions₀ count pen₀ previous₀ i₀ points starts sides
-    fractions pen previous i = count - i
+μ-loop lambdas codes grid cells leg sample points₀ starts₀ sides₀ fractions₀ samples₀ count pen₀ previous₀ i₀ points
+    starts sides fractions samples pen previous i = count - i
 
 -- ---- places
 
@@ -37,14 +38,14 @@ abbrev sorted : tie.At-loop Inv-loop μ-loop → tie.After-sorted-edge-events In
 sorted l = l .before .before .before .before .before
 
 abbrev started : tie.At-loop Inv-loop μ-loop → tie.Start Inv-loop μ-loop
-started l = sorted l .before .before .before .before .before .before .before .before .before .before
+started l = sorted l .before .before .before .before .before .before .before .before .before .before .before
 
 -- the loop, from where an event is drawn, and from where it is decided
 abbrev looped : tie.After-decide Inv-loop μ-loop → tie.In-loop Inv-loop μ-loop
 looped d = d .before .before .before .before .before .before
 
 abbrev decided : tie.After-draw-event Inv-loop μ-loop → tie.After-decide Inv-loop μ-loop
-decided d = d .before .before .before .before .before
+decided d = d .before .before .before .before .before .before
 
 abbrev looping : tie.After-draw-event Inv-loop μ-loop → tie.At-loop Inv-loop μ-loop
 looping d = looped (decided d) .before
@@ -52,10 +53,11 @@ looping d = looped (decided d) .before
 -- the lists and the pen as they were lent, and as they stand at the loop
 abbrev lent : tie.Start Inv-loop μ-loop → Page
 lent s =
-    let a = s .args in page (lists (now (a .points)) (now (a .starts)) (now (a .sides)) (now (a .fractions))) (a .pen)
+    let a = s .args in
+    page (lists (now (a .points)) (now (a .starts)) (now (a .sides)) (now (a .fractions)) (now (a .samples))) (a .pen)
 
 abbrev held : tie.At-loop Inv-loop μ-loop → Page
-held l = let o = l .loop in page (lists (o .points) (o .starts) (o .sides) (o .fractions)) (o .pen)
+held l = let o = l .loop in page (lists (o .points) (o .starts) (o .sides) (o .fractions) (o .samples)) (o .pen)
 
 -- where the scratch lists stand, from the loop
 abbrev lambdas-kept : tie.At-loop Inv-loop μ-loop → tie.After-lambdas Inv-loop μ-loop
@@ -66,10 +68,10 @@ codes-kept l = l .before .before
 
 -- the place where a drawn event is refused, and where the walk goes on after it
 abbrev refused : tie.After-known-told2 Inv-loop μ-loop → tie.After-draw-event Inv-loop μ-loop
-refused c = c .before .before .before .before .before .before .before .before .before .before .before
+refused c = c .before .before .before .before .before .before .before .before .before .before .before .before .before
 
 abbrev went-on : tie.After-known-told Inv-loop μ-loop → tie.After-draw-event Inv-loop μ-loop
-went-on c = c .before .before .before .before .before .before .before .before .before .before .before
+went-on c = c .before .before .before .before .before .before .before .before .before .before .before .before .before
 
 -- the events stand in the two scratch lists
 below : (l : tie.At-loop Inv-loop μ-loop) → let o = sorted l .sorted-edge-events in o .result ≤ length (o .last .0)
@@ -90,11 +92,13 @@ alike l =
 whole : (l : tie.At-loop Inv-loop μ-loop) → let a = started l .args in
     let w = lent (started l) in
     let o = sorted l .sorted-edge-events in
-    onPage eps (legMoves (now (a .grid)) (a .cells) (a .leg)) w
-    ≡ left eps (now (a .grid)) (a .cells) (a .leg) (eventsIn (o .last .0) (o .last .1 .0) (o .result)) zero64 w
+    onPage eps (movesBy (a .sample) (legMoves (now (a .grid)) (a .cells) (a .leg))) w
+    ≡ left eps (a .sample) (now (a .grid)) (a .cells) (a .leg) (eventsIn (o .last .0) (o .last .1 .0) (o .result))
+    zero64 w
 whole l =
     let a = started l .args in
-    leg-starts eps (now (a .grid)) (a .cells) (a .leg) (lent (started l)) (sorted l .sorted-edge-events .ensures .1)
+    leg-starts eps (a .sample) (now (a .grid)) (a .cells) (a .leg) (lent (started l))
+    (sorted l .sorted-edge-events .ensures .1)
 
 decide-requires : tie.Need-decide-requires Inv-loop μ-loop
 decide-requires c κs =
@@ -122,8 +126,8 @@ returns c =
     let l = looping d in
     let a = started l .args in
     let o = sorted l .sorted-edge-events in
-    turn-stops eps (now (a .grid)) (a .cells) (a .leg) (o .last .0) (o .last .1 .0) (o .result) (l .loop .i) (below l)
-    (alike l) (looped e .loop-test .taken) _ _
+    turn-stops eps (a .sample) (now (a .grid)) (a .cells) (a .leg) (o .last .0) (o .last .1 .0) (o .result)
+    (l .loop .i) (below l) (alike l) (looped e .loop-test .taken) _ _
     (e .before .before .before .event-at .ensures) (e .before .lambda-or-one .ensures) (e .decide .ensures)
     (whole l ∙ l .loop .inv .3) (d .draw-event .ensures) (c .before .refusal .given .1)
 
@@ -139,15 +143,15 @@ loop-again c =
     let l = looping d in
     let a = started l .args in
     let o = sorted l .sorted-edge-events in
-    let ms = movesOf (e .decide .result) in
+    let ms = movesBy (a .sample) (movesOf (e .decide .result)) in
     let first = lent (started l) .lists in (
       omega (arith, looped e .loop-test .taken),
       down-holds (SizedPage first) (onPage eps ms (held l)) (d .draw-event .ensures) (c .before .drawn .given .1)
           (moves-sized first eps ms (held l) (l .loop .inv .1)),
       down-holds Fitting (onPage eps ms (held l)) (d .draw-event .ensures) (c .before .drawn .given .1)
           (moves-fit eps ms (held l) (l .loop .inv .2)),
-      turn-goes eps (now (a .grid)) (a .cells) (a .leg) (o .last .0) (o .last .1 .0) (o .result) (l .loop .i) (below l)
-          (alike l) (looped e .loop-test .taken) _ _
+      turn-goes eps (a .sample) (now (a .grid)) (a .cells) (a .leg) (o .last .0) (o .last .1 .0) (o .result)
+          (l .loop .i) (below l) (alike l) (looped e .loop-test .taken) _ _
           (e .before .before .before .event-at .ensures) (e .before .lambda-or-one .ensures) (e .decide .ensures)
           (l .loop .inv .3) (d .draw-event .ensures) (c .before .drawn .given .1),
     )
@@ -163,8 +167,8 @@ returns-2 c =
     let a = started l .args in
     let o = sorted l .sorted-edge-events in
     rw (
-      whole l ∙ l .loop .inv .3 ∙ leg-ends eps (now (a .grid)) (a .cells) (a .leg) (o .last .0) (o .last .1 .0)
-          (o .result) (l .loop .i) (below l) (alike l) _ _ (b .before .loop-test .left),
+      whole l ∙ l .loop .inv .3 ∙ leg-ends eps (a .sample) (now (a .grid)) (a .cells) (a .leg) (o .last .0)
+          (o .last .1 .0) (o .result) (l .loop .i) (below l) (alike l) _ _ (b .before .loop-test .left),
       ← b .param-in-bounds .ensures,
     )
     (f .flush-unless .ensures (held l .lists))
@@ -186,16 +190,18 @@ append-edge-crossings-spec =
     (λ c. search needs)
     same-length
     same-length-2
-    (λ c. search needs)
-    (λ c. search needs)
-    (λ c. search needs)
-    (λ c. search needs)
+    (λ c. search (needs, looping (refused c) .loop .inv .1))
+    (λ c. search (needs, looping (refused c) .loop .inv .1))
+    (λ c. search (needs, looping (refused c) .loop .inv .1))
+    (λ c. search (needs, looping (refused c) .loop .inv .1))
+    (λ c. search (needs, looping (refused c) .loop .inv .1))
     returns
     add-i
     (λ c. search needs)
     loop-again
     (λ c κs. search needs)
     flush-unless-requires
+    (λ c. search needs)
     (λ c. search needs)
     (λ c. search needs)
     (λ c. search needs)
