@@ -4,7 +4,7 @@
 use mathlib.Core.Path.{_≡_, refl, ap}
 use mathlib.Core.Bool.{Bool, true, false, cond}
 use mathlib.Core.List.{List, [], _∷_, _++_, append-nil}
-use Prim.Native.Nat.{ℕ, _*_}
+use Prim.Native.Nat.{ℕ, _+_, _*_}
 use native.Mathlib.Omega.{arith}
 use lib.Dec.{ltb, leb}
 use lib.ListN.{length}
@@ -15,17 +15,17 @@ use Rattle.lent.specs.Lent.{filled, zeroedFrom, afterwards}
 use Rattle.lent.proofs.Laws.{zeroed-filled}
 use Rattle.lent.proofs.After.{same-answer, same-lists}
 use Rattle.param.specs.declared.Cells.{Cells}
-use Rattle.crossing.specs.declared.Crossing.{Crossing}
+use Rattle.page.specs.declared.TracedPoint.{TracedPoint}
 use Rattle.page.specs.declared.Penned.{Penned}
 use Rattle.page.specs.Moves.{Move, flush, Outcome, on, off, follow}
-use Rattle.page.specs.Page.{Lists, lists, Page, penAt, page, pushPage, flushPage, onPage, pageAfter}
+use Rattle.page.specs.Page.{Lists, lists, movesBy, Page, penAt, page, pushPage, flushPage, onPage, pageAfter}
 use Rattle.page.proofs.Moves.{run-append, run-one, Holding, Related, both-on, both-off, run-related}
 use Rattle.page.proofs.Fits.{Sized, SizedPage, same-size}
 use Rattle.trace.specs.declared.curve.Previous.{Previous}
 use Rattle.trace.specs.Curve.{Sample, afterSample, visitOf, visitMoves, traceMoves}
 use Rattle.trace.specs.Drawing.{Drawing, drawing, nothingDrawn, Room, roomIn, pushSegmentPoint, flushSegment}
 use Rattle.trace.specs.Drawing.{draw}
-use Rattle.trace.specs.Trace.{statedTrace, pointOf, sideOf, fractionOf, listsWith, finished}
+use Rattle.trace.specs.Trace.{statedTrace, pointOf, sideOf, fractionOf, sampleNumberOf, listsWith, finished}
 use Rattle.trace.specs.Ended.{countIn, linesIn, answerOf}
 use Rattle.trace.proofs.Turns.{zeroed-turn}
 use Rattle.trace.proofs.Shown.{all, Fronts, none-held, Shows, push-related, flush-related}
@@ -45,7 +45,7 @@ first-shows l =
     }
 
 -- both, from the first move to the last
-moves-related : (tolerance : Float) (l : Lists) (ms : List (Move Crossing)) →
+moves-related : (tolerance : Float) (l : Lists) (ms : List (Move TracedPoint)) →
     Related (Shows l) (SizedPage l) (onPage tolerance ms (firstPage l)) (draw tolerance (roomIn l) ms nothingDrawn)
 moves-related tolerance l ms =
     run-related (Shows l) (SizedPage l) (pushPage tolerance) flushPage (pushSegmentPoint tolerance (roomIn l))
@@ -76,25 +76,26 @@ follow-ends (on d) k h = h d
 follow-ends (off r d) k h = tt
 
 module _ (tolerance : Float) (room : Room) (g : List Float) (k : Cells) where
-  trace-flushed : (xs : List Sample) (p : Previous) (d : Drawing) →
-      NonePending (draw tolerance room (traceMoves g k xs p) d)
+  trace-flushed : (i : ℕ) (xs : List Sample) (p : Previous) (d : Drawing) →
+      NonePending (draw tolerance room (traceMoves g k i xs p) d)
   unfolding traceMoves
-  trace-flushed [] p d =
+  trace-flushed i [] p d =
       rw (run-one (pushSegmentPoint tolerance room) (flushSegment room) flush d) (flush-ends room d)
-  trace-flushed (x ∷ xs) p d =
-      let first = visitMoves g k (visitOf p x) in
-      let others = traceMoves g k xs (afterSample x) in
+  trace-flushed i (x ∷ xs) p d =
+      let first = movesBy i (visitMoves g k (visitOf p x)) in
+      let others = traceMoves g k (i + 1) xs (afterSample x) in
       rw (run-append (pushSegmentPoint tolerance room) (flushSegment room) first others d)
-      (follow-ends (draw tolerance room first d) (draw tolerance room others) (trace-flushed xs (afterSample x)))
+      (follow-ends (draw tolerance room first d) (draw tolerance room others)
+      (trace-flushed (i + 1) xs (afterSample x)))
 
 -- what the open call is left to do: zero each list past its count
 abbrev pub zeroedPast : ℕ → ℕ → Lists → Lists
 zeroedPast count lines l =
     lists (zeroedFrom zero64 (3 * count) (l .points)) (zeroedFrom 0 lines (l .starts))
-    (zeroedFrom 0 (2 * count) (l .sides)) (zeroedFrom zero64 count (l .fractions))
+    (zeroedFrom 0 (2 * count) (l .sides)) (zeroedFrom zero64 count (l .fractions)) (zeroedFrom 0 count (l .samples))
 
 -- lists whose fronts hold these points and starts, zeroed past them
-zeroed-past : (l m : Lists) (cs : List Crossing) (ss : List ℕ) (count lines : ℕ) → Sized l m → Fronts m cs ss →
+zeroed-past : (l m : Lists) (cs : List TracedPoint) (ss : List ℕ) (count lines : ℕ) → Sized l m → Fronts m cs ss →
     count ≡ length cs → lines ≡ length ss → zeroedPast count lines m ≡ listsWith cs ss l
 zeroed-past l m cs ss count lines z h n k =
     let points =
@@ -107,7 +108,9 @@ zeroed-past l m cs ss count lines z h n k =
     let fractions =
     zeroed-turn 1 fractionOf (λ c. refl) zero64 (m .fractions) (l .fractions) cs count (z .fractions) (h .fractions)
     (omega arith) in
-    rw (points, starts, sides, fractions)
+    let samples =
+    zeroed-turn 1 sampleNumberOf (λ c. refl) 0 (m .samples) (l .samples) cs count (z .samples) (h .samples) (omega arith) in
+    rw (points, starts, sides, fractions, samples)
 
 -- what the walk in place leaves, where the page shows a drawing in which nothing is pending; nothing, if it was refused
 ended : (l : Lists) {x : Outcome Page} {y : Outcome Drawing} → Related (Shows l) (SizedPage l) x y → NonePending y →
@@ -124,10 +127,10 @@ ended l (both-off {s = g} h) e u =
     rw (same-answer u, same-lists u, zeroed-past l (g .lists) [] [] 0 0 h (none-held (g .lists)) refl refl)
 
 -- THE LAW: from what the inner walk ensures to what the open call promises
-pub trace-ends : (tolerance : Float) (l : Lists) (g : List Float) (k : Cells) (xs : List Sample) (p : Previous)
-    {r : Penned} {m : Lists} → afterwards r m ≡ pageAfter (onPage tolerance (traceMoves g k xs p) (firstPage l))
+pub trace-ends : (tolerance : Float) (l : Lists) (g : List Float) (k : Cells) (i : ℕ) (xs : List Sample) (p : Previous)
+    {r : Penned} {m : Lists} → afterwards r m ≡ pageAfter (onPage tolerance (traceMoves g k i xs p) (firstPage l))
     → afterwards (statedTrace (answerOf r)) (zeroedPast (countIn r) (linesIn r) m)
-    ≡ finished (draw tolerance (roomIn l) (traceMoves g k xs p) nothingDrawn) l
-trace-ends tolerance l g k xs p u =
-    ended l (moves-related tolerance l (traceMoves g k xs p))
-    (trace-flushed tolerance (roomIn l) g k xs p nothingDrawn) u
+    ≡ finished (draw tolerance (roomIn l) (traceMoves g k i xs p) nothingDrawn) l
+trace-ends tolerance l g k i xs p u =
+    ended l (moves-related tolerance l (traceMoves g k i xs p))
+    (trace-flushed tolerance (roomIn l) g k i xs p nothingDrawn) u

@@ -1,7 +1,7 @@
 -- `traceCheck` by the tests of the code, which come in its order; and what a trace that passes it is known by.
 use mathlib.Core.Path.{_≡_, refl}
 use mathlib.Core.Bool.{Bool, true, false, _&&_, _||_}
-use mathlib.Core.List.{List}
+use mathlib.Core.List.{List, [], _∷_}
 use Prim.Native.Nat.{ℕ, zero, suc, _+_, _*_, _≤_, _<_}
 use native.Mathlib.Numerals.{add-one}
 use native.Mathlib.Omega.{arith}
@@ -43,6 +43,14 @@ module _ (ks : List ℕ) (i : ℕ) (h : i < length ks) where
 
   pub mark-wrong : 1 < getD ks i 0 → marksFit (drop i ks) ≡ false
   mark-wrong k = rw (mark-here, mark-fails (getD ks i 0) k)
+
+fit-one : (ks : List ℕ) → marksFit ks ≡ true → (i : ℕ) → (getD ks i 0 ≡ 0 → ⊥) → getD ks i 0 ≡ 1
+unfolding marksFit
+fit-one [] f i h = absurd (h refl)
+fit-one (k ∷ ks) f zero h =
+    let e : (eqb k 0 || eqb k 1) ≡ true = and-both (eqb k 0 || eqb k 1) (marksFit ks) f .0 in
+    eqb-true k 1 (simp (ne-eqb k 0 h) at e)
+fit-one (k ∷ ks) f (suc i) h = fit-one ks (and-both (eqb k 0 || eqb k 1) (marksFit ks) f .1) i h
 
 pub marks-end : (ks : List ℕ) (i : ℕ) → length ks ≤ i → marksFit (drop i ks) ≡ true
 unfolding marksFit
@@ -143,3 +151,11 @@ module _ (g : List Float) (m n : ℕ) (pairs : List Float) (marks : List ℕ) wh
       (unless (marksFit marks) Mark (unless (pairsFit pairs marks) Sample Passed)) h .0 in
       let l = passed-lengths pairs marks g m n p in
       (grid-passed g m n lengths p .shaped, l .0, l .1)
+
+  -- its marks are 0 or 1, so one that is not 0 is 1
+  pub mark-one : traceCheck g m n pairs marks ≡ Passed → (i : ℕ) → (getD marks i 0 ≡ 0 → ⊥) → getD marks i 0 ≡ 1
+  unfolding traceCheck
+  mark-one h =
+      let rest = unless (pairsFit pairs marks) Sample Passed in
+      let p = then-passed (gridCheck g m n (checkLengths pairs marks)) (unless (marksFit marks) Mark rest) h .1 in
+      fit-one marks (unless-passed (marksFit marks) Mark rest p .0)

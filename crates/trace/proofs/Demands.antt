@@ -4,16 +4,10 @@
 use mathlib.Core.Path.{_≡_, refl}
 use mathlib.Core.List.{List}
 use Prim.Native.Nat.{ℕ, _+_, _*_, _≤_, _<_}
-use native.Mathlib.Nat.{add-zero}
 use native.Mathlib.Omega.{arith}
-use lib.ListN.{getD}
-use lib.Ieee.{Float, nan}
-use Rattle.basics.proofs.Lists.{each-at, each-implies}
-use Rattle.float.specs.Consts.{eps, zero64}
-use Rattle.refusal.specs.declared.Check.{Check}
-use Rattle.refusal.specs.declared.Check.the-variants.{Passed, Failed}
-use Rattle.lent.specs.Lent.{ifPassed}
-use Rattle.vector.specs.Vectors.{vector}
+use lib.Ieee.{Float}
+use Rattle.basics.proofs.Lists.{each-implies}
+use Rattle.float.specs.Consts.{eps}
 use Rattle.grid.specs.Grid.{pointNumber, pointAt}
 use Rattle.grid.proofs.Laws.{accepted-known, point-below}
 use Rattle.surface.specs.Surface.{Shape, GridEdge, along-u, along-v, falls, rises, StepsAround, Meets}
@@ -33,21 +27,18 @@ use Rattle.crossing.specs.declared.Crossing.{Crossing}
 use Rattle.crossing.specs.declared.EdgePoint.the-variants.{On, NoStep}
 use Rattle.crossing.specs.Crossing.{stepIndex, blend, crossing, onU, onV, edgePoint}
 use Rattle.crossing.proofs.Edges.{cell-inside}
-use Rattle.page.specs.Moves.{Outcome, on, off}
+use Rattle.page.specs.declared.TracedPoint.{TracedPoint}
 use Rattle.page.specs.Page.{Lists}
 use Rattle.page.proofs.Moves.{Holding}
 use Rattle.walk.proofs.Pushed.{GoodEdge, GoodEvents}
 use Rattle.trace.specs.declared.curve.Previous.the-variants.{Nowhere}
 use Rattle.trace.specs.Curve.{samplesOf}
-use Rattle.trace.specs.Drawing.{Drawing, roomIn}
-use Rattle.trace.specs.Trace.{pointOf, sideOf, fractionOf, drawingOf, finished, traceCheck, traceWithin}
-use Rattle.trace.specs.Demand.{EachPoint, pOf, qOf, tOf, Made, OnSide, Demand3}
-use Rattle.trace.proofs.Turns.{filled-at}
+use Rattle.trace.specs.Drawing.{roomIn}
+use Rattle.trace.specs.Trace.{drawingOf, traceWithin}
+use Rattle.trace.specs.Demand.{EachPoint, Made, OnSide, Demand3}
 use Rattle.trace.proofs.Pushed.{trace-good}
 use Rattle.trace.proofs.Drawn.{GoodDrawing, drawn-good}
-
-noCrossing : Crossing
-noCrossing = record { p = 0; q = 0; t = nan; point = vector nan nan nan }
+use Rattle.trace.proofs.Points.{Stands, each-point}
 
 no-point : {c : Crossing} → NoStep ≡ On c → ⊥
 no-point e = let z : _≡_ {A = ℕ} 0 1 = cc in omega arith
@@ -103,49 +94,26 @@ module _ (g : List Float) (m n : ℕ) (hm : m ≤ 255) (hn : n ≤ 255) where
 
   -- ---- the points of a trace
 
+  -- of a point
+  abbrev PointFromEdge : TracedPoint → Type 0
+  PointFromEdge c = FromEdge g m n (c .crossing)
+
   -- every point that a trace draws was made from the ends of a grid edge
   from-edges : (tolerance : Float) (pairs : List Float) (marks : List ℕ) (l : Lists) →
-      Holding (GoodDrawing (FromEdge g m n)) (drawingOf tolerance g m n pairs marks (roomIn l))
+      Holding (GoodDrawing PointFromEdge)
+      (drawingOf tolerance g m n pairs marks (roomIn l))
   from-edges tolerance pairs marks l =
-      drawn-good (FromEdge g m n) tolerance (roomIn l)
-      (trace-good g (cells m n) (FromEdge g m n) good-events (samplesOf marks pairs) Nowhere)
+      drawn-good PointFromEdge tolerance (roomIn l)
+      (trace-good g (cells m n) (FromEdge g m n) good-events 0 (samplesOf marks pairs) Nowhere)
 
-  -- what is said of a crossing is said of each point of the lists
-  module _ (P : Lists → ℕ → Type 0)
-      (of-point : (c : Crossing) → FromEdge g m n c → (l : Lists) (i : ℕ) → pOf l i ≡ c .p → qOf l i ≡ c .q →
-      tOf l i ≡ c .t → pointAt (l .points) i ≡ c .point → P l i)
-    where
-      finished-each : (l : Lists) (y : Outcome Drawing) → Holding (GoodDrawing (FromEdge g m n)) y →
-          EachPoint P (finished y l)
-      unfolding pointAt
-      finished-each l (off k d) good i h = absurd (omega arith)
-      finished-each l (on d) good i h =
-          let cs = d .drawn in
-          let x : _ =
-          simp add-zero at (filled-at 3 pointOf (λ c. refl) cs (l .points) zero64 i 0 nan noCrossing h
-          (omega arith)) in
-          let y : _ = filled-at 3 pointOf (λ c. refl) cs (l .points) zero64 i 1 nan noCrossing h (omega arith) in
-          let z : _ = filled-at 3 pointOf (λ c. refl) cs (l .points) zero64 i 2 nan noCrossing h (omega arith) in
-          let p : _ =
-          simp add-zero at (filled-at 2 sideOf (λ c. refl) cs (l .sides) 0 i 0 0 noCrossing h (omega arith)) in
-          let q : _ = filled-at 2 sideOf (λ c. refl) cs (l .sides) 0 i 1 0 noCrossing h (omega arith) in
-          let one : 1 * i + 0 ≡ i = omega arith in
-          let t : _ =
-          rw one at (filled-at 1 fractionOf (λ c. refl) cs (l .fractions) zero64 i 0 nan noCrossing h
-          (omega arith)) in
-          of-point (getD cs i noCrossing) (each-at (FromEdge g m n) cs i noCrossing (good .drawn) h)
-          (finished (on d) l .lists) i p q t (rw (x, y, z))
-
-      pub each-point : (tolerance : Float) (pairs : List Float) (marks : List ℕ) (l : Lists) →
-          EachPoint P (traceWithin tolerance g m n pairs marks l)
-      unfolding traceWithin
-      each-point tolerance pairs marks l = go (traceCheck g m n pairs marks)
-        where
-          go : (k : Check) →
-              EachPoint P (ifPassed k l (finished (drawingOf tolerance g m n pairs marks (roomIn l)) l))
-          go (Failed k) = λ i h. absurd (omega arith)
-          go Passed =
-              finished-each l (drawingOf tolerance g m n pairs marks (roomIn l)) (from-edges tolerance pairs marks l)
+  -- so what follows of such a point holds of each point of the lists
+  from-edge : (P : Lists → ℕ → Type 0) →
+      ((c : TracedPoint) → PointFromEdge c → (l : Lists) (i : ℕ) → Stands l i c → P l i) →
+      (tolerance : Float) (pairs : List Float) (marks : List ℕ) (l : Lists) →
+      EachPoint P (traceWithin tolerance g m n pairs marks l)
+  from-edge P of-point tolerance pairs marks l =
+      each-point PointFromEdge P of-point tolerance g m n pairs marks l
+      (λ e. from-edges tolerance pairs marks l)
 
   -- the ends of a grid edge are grid points
   end-below : {u v u′ v′ : ℕ} → GridEdge s u v u′ v′ →
@@ -160,22 +128,24 @@ module _ (g : List Float) (m n : ℕ) (hm : m ≤ 255) (hn : n ≤ 255) where
   pub points-made : (tolerance : Float) (pairs : List Float) (marks : List ℕ) (l : Lists) →
       EachPoint (Made g m n) (traceWithin tolerance g m n pairs marks l)
   points-made =
-      each-point (Made g m n)
-      (λ c from l i p q t x.
+      from-edge (Made g m n)
+      (λ c from l i s.
       let e = from .edge in
       let b = end-below (e .edge) in
       record {
-        p-there = rw (p, e .p-is) (b .0);
-        q-there = rw (q, e .q-is) (b .1);
-        blended = rw (x, p, q, t) (from .blended);
+        p-there = rw (s .p-is, e .p-is) (b .0);
+        q-there = rw (s .q-is, e .q-is) (b .1);
+        blended = rw (s .point-is, s .p-is, s .q-is, s .t-is) (from .blended);
       })
 
   pub points-on-sides : Meets s → StepsAround 2 s → (tolerance : Float) (pairs : List Float) (marks : List ℕ)
       (l : Lists) → EachPoint (OnSide s) (traceWithin tolerance g m n pairs marks l)
   points-on-sides meets around =
-      each-point (OnSide s) (λ c from l i p q t x. rw (p, q) (surface.traced s meets around (c .p) (c .q) (from .edge)))
+      from-edge (OnSide s)
+      (λ c from l i at. rw (at .p-is, at .q-is)
+      (surface.traced s meets around (c .crossing .p) (c .crossing .q) (from .edge)))
 
--- Rules 5.1: demand 3
+-- Rules 5.4 and 5.5: demand 3
 pub demand3 : (g : List Float) (m n : ℕ) → Demand3 g m n
 demand3 g m n accepted =
     let steps = accepted-known g m n accepted .steps in

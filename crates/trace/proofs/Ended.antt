@@ -44,7 +44,7 @@ module _ (tolerance : Float) (g : List Float) (m n : ℕ) (pairs : List Float) (
   refused-before ec ek = rw (← ec, ek)
 
   abbrev walk : Outcome Page
-  walk = onPage tolerance (traceMoves g (cells m n) (samplesOf marks pairs) Nowhere) (firstPage l)
+  walk = onPage tolerance (traceMoves g (cells m n) 0 (samplesOf marks pairs) Nowhere) (firstPage l)
 
   module _ {r : Penned} {w : Lists} (u : afterwards r w ≡ pageAfter walk) where
     -- there is room for the points that are counted
@@ -54,19 +54,19 @@ module _ (tolerance : Float) (g : List Float) (m n : ℕ) (pairs : List Float) (
         go : (o : Penned) → r ≡ o → 3 * countIn o ≤ length (w .points)
         go (Down pen) e =
             let fits =
-            moves-fit tolerance (traceMoves g (cells m n) (samplesOf marks pairs) Nowhere) (firstPage l)
+            moves-fit tolerance (traceMoves g (cells m n) 0 (samplesOf marks pairs) Nowhere) (firstPage l)
             (omega arith, omega arith) in
             down-holds Fitting walk u e fits .1
         go (Stop k) e = omega arith
 
     -- the lists that a walk left, zeroed past its counts
     pub zeroed : {c : Check} → c ≡ traceCheck g m n pairs marks → c ≡ Passed →
-        {o : Trace} {count lines : ℕ} {p f : List Float} {s d : List ℕ} → o ≡ answerOf r →
+        {o : Trace} {count lines : ℕ} {p f : List Float} {s d k : List ℕ} → o ≡ answerOf r →
         count ≡ countIn r → lines ≡ linesIn r → p ≡ zeroedFrom zero64 (3 * count) (w .points) →
         s ≡ zeroedFrom 0 lines (w .starts) → d ≡ zeroedFrom 0 (2 * count) (w .sides) →
-        f ≡ zeroedFrom zero64 count (w .fractions) →
-        afterwards (statedTrace o) (lists p s d f) ≡ traceWithin tolerance g m n pairs marks l
+        f ≡ zeroedFrom zero64 count (w .fractions) → k ≡ zeroedFrom 0 count (w .samples) →
+        afterwards (statedTrace o) (lists p s d f k) ≡ traceWithin tolerance g m n pairs marks l
     unfolding traceWithin
-    zeroed ec ep eo en el zp zs zd zf =
-        rw (← ec, ep, eo, zp, zs, zd, zf, en, el)
-        (trace-ends tolerance l g (cells m n) (samplesOf marks pairs) Nowhere u)
+    zeroed ec ep eo en el zp zs zd zf zk =
+        rw (← ec, ep, eo, zp, zs, zd, zf, zk, en, el)
+        (trace-ends tolerance l g (cells m n) 0 (samplesOf marks pairs) Nowhere u)

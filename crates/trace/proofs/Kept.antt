@@ -4,7 +4,7 @@ use Prim.Native.Nat.{ℕ, _+_, _≤_}
 use native.Mathlib.Omega.{arith}
 use lib.ListN.{length, length-append}
 use lib.Ieee.{Float}
-use Rattle.crossing.specs.declared.Crossing.{Crossing}
+use Rattle.page.specs.declared.TracedPoint.{TracedPoint}
 use Rattle.page.specs.Moves.{Move}
 use Rattle.page.proofs.Moves.{Any, any-pushed, Holding}
 use Rattle.trace.specs.Drawing.{Drawing, nothingDrawn, Room, draw}
@@ -26,12 +26,12 @@ one-more (s ∷ (t ∷ ss)) n k h l = (h .0, one-more (t ∷ ss) n k (h .1) l)
 abbrev pub Long : Drawing → Type 0
 Long d = TwoOrMore (d .starts) (length (d .drawn))
 
-pub lines-long : (tolerance : Float) (room : Room) (ms : List (Move Crossing)) →
+pub lines-long : (tolerance : Float) (room : Room) (ms : List (Move TracedPoint)) →
     Holding Long (draw tolerance room ms nothingDrawn)
 lines-long tolerance room ms =
-    draw-keeps Long Any tt
+    draw-keeps Long Any
     (λ c good d h. h)
     (λ d h l. rw length-append (one-more (d .starts) (length (d .drawn)) (length (d .drawn) + length (d .segment)) h
     (omega arith)))
     (λ d h. h)
-    tolerance room (any-pushed ms)
+    tolerance room (any-pushed ms) nothingDrawn tt

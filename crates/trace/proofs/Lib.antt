@@ -8,5 +8,7 @@ pub mod Agree
 pub mod Pushed
 pub mod Drawn
 pub mod Kept
+pub mod Points
 pub mod Demands
+pub mod Numbered
 pub mod Ended

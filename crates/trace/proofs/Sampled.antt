@@ -19,7 +19,7 @@ use Rattle.page.specs.declared.Pen.{Pen}
 use Rattle.page.specs.declared.Penned.{Penned}
 use Rattle.page.specs.declared.Penned.the-variants.{Down, Stop}
 use Rattle.page.specs.Moves.{flush, Outcome, follow}
-use Rattle.page.specs.Page.{Lists, Page, page, flushPage, onPage, pageAfter}
+use Rattle.page.specs.Page.{Lists, movesBy, Page, page, flushPage, onPage, pageAfter}
 use Rattle.page.proofs.Follow.{down, stops, page-append, page-none, page-one}
 use Rattle.walk.specs.Walk.{legMoves}
 use Rattle.trace.specs.declared.curve.Previous.{Previous}
@@ -47,19 +47,19 @@ module _ (p : Previous) (k : ℕ) (b : ParamPoint) where
   pub visit-first : (k ≡ 0 → ⊥) → p ≡ Nowhere → First ≡ visitOf p (sampleAt k b)
   visit-first e q = simp (ne-eqb k 0 e) (rw q)
 
--- what is done for a sample, by what it is
-module _ (tolerance : Float) (g : List Float) (k : Cells) (w : Page) {v : Visit} where
+-- what is done for the sample of this number, by what it is
+module _ (tolerance : Float) (number : ℕ) (g : List Float) (k : Cells) (w : Page) {v : Visit} where
   pub sample-break : v ≡ Break → {r : Penned} {l : Lists} → afterwards r l ≡ pageAfter (flushPage w) →
-      afterwards r l ≡ pageAfter (onPage tolerance (visitMoves g k v) w)
+      afterwards r l ≡ pageAfter (onPage tolerance (movesBy number (visitMoves g k v)) w)
   sample-break e u = rw (e, page-one tolerance flush w) u
 
   pub sample-leg : {l : Leg} → v ≡ Along l → {r : Penned} {m : Lists} →
-      afterwards r m ≡ pageAfter (onPage tolerance (legMoves g k l) w) →
-      afterwards r m ≡ pageAfter (onPage tolerance (visitMoves g k v) w)
+      afterwards r m ≡ pageAfter (onPage tolerance (movesBy number (legMoves g k l)) w) →
+      afterwards r m ≡ pageAfter (onPage tolerance (movesBy number (visitMoves g k v)) w)
   sample-leg e u = rw e u
 
   pub sample-first : v ≡ First →
-      afterwards (Down (w .pen)) (w .lists) ≡ pageAfter (onPage tolerance (visitMoves g k v) w)
+      afterwards (Down (w .pen)) (w .lists) ≡ pageAfter (onPage tolerance (movesBy number (visitMoves g k v)) w)
   sample-first e = rw (e, page-none tolerance w)
 
 -- ---- the list of samples
@@ -86,7 +86,7 @@ samples-at (k ∷ ks) (u ∷ (v ∷ ps)) (suc i) z h t =
 module _ (tolerance : Float) (g : List Float) (k : Cells) (ks : List ℕ) (ps : List Float) where
   -- what is left of the trace: the samples from i on, with p before them
   abbrev left : ℕ → Previous → Page → Outcome Page
-  left i p = onPage tolerance (traceMoves g k (drop i (samplesOf ks ps)) p)
+  left i p = onPage tolerance (traceMoves g k i (drop i (samplesOf ks ps)) p)
 
   module _ (i : ℕ) (h : length ps ≡ 2 * length ks) where
     pub trace-flushes : (p : Previous) (w : Page) → length ks ≤ i → left i p w ≡ flushPage w
@@ -99,7 +99,7 @@ module _ (tolerance : Float) (g : List Float) (k : Cells) (ks : List ℕ) (ps : 
         (eb : b ≡ paramAt ps i) (ev : v ≡ visitOf p (sampleAt (getD ks i 0) b))
       where
         abbrev here : Outcome Page
-        here = onPage tolerance (visitMoves g k v) w
+        here = onPage tolerance (movesBy i (visitMoves g k v)) w
 
         abbrev after : Previous
         after = afterSample (sampleAt (getD ks i 0) b)
@@ -111,7 +111,9 @@ module _ (tolerance : Float) (g : List Float) (k : Cells) (ks : List ℕ) (ps : 
             let there : i < length (samplesOf ks ps) = omega (arith, samples-length ks ps h) in
             let first : drop i (samplesOf ks ps) ≡ sampleAt (getD ks i 0) b ∷ drop (i + 1) (samplesOf ks ps) =
             rw (add-one i, drop-cons (samplesOf ks ps) i z there, samples-at ks ps i z h t, eb) in
-            rw (first, ev) (page-append tolerance _ _ w)
+            rw (first, ev)
+            (page-append tolerance (movesBy i (visitMoves g k (visitOf p (sampleAt (getD ks i 0) b))))
+            (traceMoves g k (i + 1) (drop (i + 1) (samplesOf ks ps)) after) w)
 
         module _ {z : Outcome Page} (ez : z ≡ left i p w) {r : Penned} {l : Lists}
             (u : afterwards r l ≡ pageAfter here) where

@@ -16,39 +16,41 @@ use lib.Ieee.{Float, nan}
 use borrow.Author.Tests.{ltb-true, lt-ltb, le-ltb, leb-true, leb-false, le-leb, lt-leb}
 use Rattle.vector.specs.Vectors.{allClose}
 use Rattle.grid.specs.Grid.{pointAt}
-use Rattle.crossing.specs.declared.Crossing.{Crossing}
+use Rattle.page.specs.declared.TracedPoint.{TracedPoint}
 use Rattle.page.specs.Page.{Lists, pointRoom, writePoint, writeSide, Page, hasRoom, closeToPending, written, pushPage}
 use Rattle.page.specs.Page.{writeAt, writeStart, kept, dropped, flushPage}
 use Rattle.page.proofs.Moves.{Related, both-on, both-off, test-related}
 use Rattle.page.proofs.Fits.{SizedPage, same-room, written-sized, kept-sized, dropped-sized}
 use Rattle.trace.specs.Drawing.{Drawing, drawing, roomIn, closeToLast, pushSegmentPoint, flushSegment}
-use Rattle.trace.specs.Trace.{pointOf, sideOf, fractionOf, inTurn}
+use Rattle.trace.specs.Trace.{pointOf, sideOf, fractionOf, sampleNumberOf, inTurn}
 use Rattle.trace.proofs.Turns.{Holds, holds-front, holds-more, last-at}
 
 -- the points that stand in the lists: the kept ones and after them the pending ones
-abbrev pub all : Drawing → List Crossing
+abbrev pub all : Drawing → List TracedPoint
 all d = d .drawn ++ d .segment
 
 -- the front of each list holds these points, or these starts
-pub record Fronts (l : Lists) (cs : List Crossing) (ss : List ℕ) : Type 0 where
+pub record Fronts (l : Lists) (cs : List TracedPoint) (ss : List ℕ) : Type 0 where
   pub points : Holds 3 pointOf (l .points) cs
   pub starts : take (length ss) (l .starts) ≡ ss
   pub sides : Holds 2 sideOf (l .sides) cs
   pub fractions : Holds 1 fractionOf (l .fractions) cs
+  pub samples : Holds 1 sampleNumberOf (l .samples) cs
 
 -- nothing, in any lists
 pub none-held : (l : Lists) → Fronts l [] []
 unfolding inTurn
-none-held l = record { points = refl; starts = refl; sides = refl; fractions = refl }
+none-held l = record { points = refl; starts = refl; sides = refl; fractions = refl; samples = refl }
 
 -- the first of them
-first-held : (l : Lists) (cs ds : List Crossing) (ss : List ℕ) → Fronts l (cs ++ ds) ss → Fronts l cs ss
+first-held : (l : Lists) (cs ds : List TracedPoint) (ss : List ℕ) → Fronts l (cs ++ ds) ss → Fronts l cs ss
 first-held l cs ds ss h =
     record {
       points = holds-front 3 pointOf (λ c. refl) (l .points) cs ds (h .points);
       starts = h .starts;
       sides = holds-front 2 sideOf (λ c. refl) (l .sides) cs ds (h .sides);
       fractions = holds-front 1 fractionOf (λ c. refl) (l .fractions) cs ds (h .fractions);
+      samples = holds-front 1 sampleNumberOf (λ c. refl) (l .samples) cs ds (h .samples);
     }
 
 -- the page shows the drawing
@@ -76,7 +78,7 @@ start-more ss l x {i} {y} h p q k =
     let j : length ss < length l = omega arith in
     rw (p, q, length-append, add-one, take-suc-set l (length ss) x, h)
 
-start-held : (l : Lists) (cs : List Crossing) (ss : List ℕ) (x : ℕ) {i y : ℕ} → Fronts l cs ss → i ≡ length ss →
+start-held : (l : Lists) (cs : List TracedPoint) (ss : List ℕ) (x : ℕ) {i y : ℕ} → Fronts l cs ss → i ≡ length ss →
     y ≡ x → i < length (l .starts) → Fronts (writeStart i y l) cs (ss ++ (x ∷ []))
 start-held l cs ss x h p q k =
     record {
@@ -84,6 +86,7 @@ start-held l cs ss x h p q k =
       starts = start-more ss (l .starts) x (h .starts) p q k;
       sides = h .sides;
       fractions = h .fractions;
+      samples = h .samples;
     }
 
 module _ (l : Lists) (g : Page) (d : Drawing) (h : Shows l g d) where
@@ -128,11 +131,11 @@ module _ (l : Lists) (g : Page) (d : Drawing) (h : Shows l g d) where
 
 -- ---- push
 
-abbrev HasLast : List Crossing → Type 0
-HasLast cs = (ys : List Crossing) × (y : Crossing) × (cs ≡ ys ++ (y ∷ []))
+abbrev HasLast : List TracedPoint → Type 0
+HasLast cs = (ys : List TracedPoint) × (y : TracedPoint) × (cs ≡ ys ++ (y ∷ []))
 
 -- a pending line is empty, or has a last point
-last-view : (cs : List Crossing) → (cs ≡ []) ⊎ HasLast cs
+last-view : (cs : List TracedPoint) → (cs ≡ []) ⊎ HasLast cs
 last-view [] = inl refl
 last-view (c ∷ cs) = go (last-view cs)
   where
@@ -141,43 +144,48 @@ last-view (c ∷ cs) = go (last-view cs)
     go (inr w) = inr (c ∷ w .0, w .1, rw (w .2))
 
 -- closeness to the last point, where that is known
-close-last : (tolerance : Float) (ys : List Crossing) (y c : Crossing) →
-    closeToLast tolerance (ys ++ (y ∷ [])) c ≡ allClose (y .point) (c .point) tolerance
+close-last : (tolerance : Float) (ys : List TracedPoint) (y c : TracedPoint) →
+    closeToLast tolerance (ys ++ (y ∷ [])) c ≡ allClose (y .crossing .point) (c .crossing .point) tolerance
 close-last tolerance [] y c = refl
 close-last tolerance (a ∷ []) y c = refl
 close-last tolerance (a ∷ (b ∷ ys)) y c = close-last tolerance (b ∷ ys) y c
 
 -- the point that stands last in a list is the last point
-last-point : (l : List Float) (cs : List Crossing) (c : Crossing) → Holds 3 pointOf l (cs ++ (c ∷ [])) →
-    pointAt l (length cs) ≡ c .point
+last-point : (l : List Float) (cs : List TracedPoint) (c : TracedPoint) → Holds 3 pointOf l (cs ++ (c ∷ [])) →
+    pointAt l (length cs) ≡ c .crossing .point
 unfolding pointAt
 last-point l cs c h =
-    let x : getD l (3 * length cs) nan ≡ c .point .x =
+    let x : getD l (3 * length cs) nan ≡ c .crossing .point .x =
     simp add-zero at (last-at 3 pointOf (λ c. refl) l cs c 0 nan (omega arith) h) in
-    let y : getD l (3 * length cs + 1) nan ≡ c .point .y = last-at 3 pointOf (λ c. refl) l cs c 1 nan (omega arith) h in
-    let z : getD l (3 * length cs + 2) nan ≡ c .point .z = last-at 3 pointOf (λ c. refl) l cs c 2 nan (omega arith) h in
+    let y : getD l (3 * length cs + 1) nan ≡ c .crossing .point .y =
+    last-at 3 pointOf (λ c. refl) l cs c 1 nan (omega arith) h in
+    let z : getD l (3 * length cs + 2) nan ≡ c .crossing .point .z =
+    last-at 3 pointOf (λ c. refl) l cs c 2 nan (omega arith) h in
     rw (x, y, z)
 
 -- the writes of one point, as one run of stores
-write-point : (l : List Float) (c : Crossing) {i k : ℕ} → i ≡ k → writePoint l i c ≡ sets l (3 * k) (pointOf c)
+write-point : (l : List Float) (c : TracedPoint) {i k : ℕ} → i ≡ k →
+    writePoint l i (c .crossing) ≡ sets l (3 * k) (pointOf c)
 write-point l c {i} {k} e =
     let e0 : 3 * i ≡ 3 * k = omega arith in
     let e1 : 3 * i + 1 ≡ suc (3 * k) = omega arith in
     let e2 : 3 * i + 2 ≡ suc (suc (3 * k)) = omega arith in
     rw (e2, e1, e0)
 
-write-side : (l : List ℕ) (c : Crossing) {i k : ℕ} → i ≡ k → writeSide l i c ≡ sets l (2 * k) (sideOf c)
+write-side : (l : List ℕ) (c : TracedPoint) {i k : ℕ} → i ≡ k →
+    writeSide l i (c .crossing) ≡ sets l (2 * k) (sideOf c)
 write-side l c {i} {k} e =
     let e0 : 2 * i ≡ 2 * k = omega arith in
     let e1 : 2 * i + 1 ≡ suc (2 * k) = omega arith in
     rw (e1, e0)
 
-write-fraction : (l : List Float) (c : Crossing) {i k : ℕ} → i ≡ k → set l i (c .t) ≡ sets l (1 * k) (fractionOf c)
-write-fraction l c {i} {k} e = let e0 : i ≡ 1 * k = omega arith in rw e0
+-- of one number, as a fraction and the number of a sample are
+write-one : {A : Type 0} (l : List A) (x : A) {i k : ℕ} → i ≡ k → set l i x ≡ sets l (1 * k) (x ∷ [])
+write-one l x {i} {k} e = let e0 : i ≡ 1 * k = omega arith in rw e0
 
 -- one point more, written at its places
-point-held : (l : Lists) (cs : List Crossing) (c : Crossing) (ss : List ℕ) {i : ℕ} → Fronts l cs ss → i ≡ length cs →
-    i < pointRoom l → Fronts (writeAt i c l) (cs ++ (c ∷ [])) ss
+point-held : (l : Lists) (cs : List TracedPoint) (c : TracedPoint) (ss : List ℕ) {i : ℕ} → Fronts l cs ss →
+    i ≡ length cs → i < pointRoom l → Fronts (writeAt i c l) (cs ++ (c ∷ [])) ss
 point-held l cs c ss {i} h n r =
     record {
       points =
@@ -187,11 +195,14 @@ point-held l cs c ss {i} h n r =
       sides =
           rw (write-side (l .sides) c n) (holds-more 2 sideOf (λ c. refl) (l .sides) cs c (omega arith) (h .sides));
       fractions =
-          rw (write-fraction (l .fractions) c n)
+          rw (write-one (l .fractions) (c .crossing .t) n)
           (holds-more 1 fractionOf (λ c. refl) (l .fractions) cs c (omega arith) (h .fractions));
+      samples =
+          rw (write-one (l .samples) (c .sample) n)
+          (holds-more 1 sampleNumberOf (λ c. refl) (l .samples) cs c (omega arith) (h .samples));
     }
 
-module _ (l : Lists) (g : Page) (d : Drawing) (h : Shows l g d) (tolerance : Float) (c : Crossing) where
+module _ (l : Lists) (g : Page) (d : Drawing) (h : Shows l g d) (tolerance : Float) (c : TracedPoint) where
   -- closeness to the last pending point, by the list and by the drawing
   close-same : closeToPending tolerance c g ≡ closeToLast tolerance (d .segment) c
   close-same = go (last-view (d .segment))

@@ -1,4 +1,4 @@
--- Rules 6.1 and 7.1: samples, and the moves of samples in order, whatever the lines are held in.
+-- Rules 6.1, 7.1 and 7.5: samples, and the moves of samples in order, whatever the lines are held in.
 -- Original: `trace_parametric_edge_curve`.
 use mathlib.Core.Bool.{cond}
 use mathlib.Core.List.{List, [], _∷_, _++_}
@@ -10,7 +10,9 @@ use Rattle.param.specs.declared.ParamPoint.{ParamPoint}
 use Rattle.param.specs.declared.Cells.{Cells}
 use Rattle.param.specs.Param.{param, leg}
 use Rattle.crossing.specs.declared.Crossing.{Crossing}
+use Rattle.page.specs.declared.TracedPoint.{TracedPoint}
 use Rattle.page.specs.Moves.{Move, flush}
+use Rattle.page.specs.Page.{movesBy}
 use Rattle.walk.specs.Walk.{legMoves}
 use Rattle.trace.specs.declared.curve.Previous.{Previous}
 use Rattle.trace.specs.declared.curve.Previous.the-variants.{At, Nowhere}
@@ -40,7 +42,7 @@ samplesOf (k ∷ ks) (u ∷ (v ∷ ps)) = sample k u v ∷ samplesOf ks ps
 abbrev pub paramAt : List Float → ℕ → ParamPoint
 paramAt ps i = param (getD ps (2 * i) nan) (getD ps (2 * i + 1) nan)
 
--- ---- Rules 7.1
+-- ---- Rules 7.1 and 7.5
 
 -- what the next sample has before it: nothing after a break
 abbrev pub afterSample : Sample → Previous
@@ -61,7 +63,8 @@ visitMoves g k Break = flush ∷ []
 visitMoves g k (Along l) = legMoves g k l
 visitMoves g k First = []
 
--- samples in order, with p before the first; after the last one the pending line is flushed
-unfoldable pub traceMoves : List Float → Cells → List Sample → Previous → List (Move Crossing)
-traceMoves g k [] p = flush ∷ []
-traceMoves g k (x ∷ xs) p = visitMoves g k (visitOf p x) ++ traceMoves g k xs (afterSample x)
+-- samples in order, of which the first has number i and p before it, each counted, a break too; a point bears the
+-- number of the sample that its leg leads to; after the last sample the pending line is flushed
+unfoldable pub traceMoves : List Float → Cells → ℕ → List Sample → Previous → List (Move TracedPoint)
+traceMoves g k i [] p = flush ∷ []
+traceMoves g k i (x ∷ xs) p = movesBy i (visitMoves g k (visitOf p x)) ++ traceMoves g k (i + 1) xs (afterSample x)

@@ -8,17 +8,17 @@ use lib.ListN.{length}
 use lib.Ieee.{Float}
 use Rattle.refusal.specs.declared.Refusal.the-variants.{Full}
 use Rattle.vector.specs.Vectors.{allClose}
-use Rattle.crossing.specs.declared.Crossing.{Crossing}
+use Rattle.page.specs.declared.TracedPoint.{TracedPoint}
 use Rattle.page.specs.Moves.{Move, Outcome, on, off, run}
 use Rattle.page.specs.Page.{Lists, pointRoom}
 
 -- the points of the kept lines in order, the number of each line's first point, and the points of the pending line
 pub record Drawing : Type 0 where
-  pub drawn : List Crossing
+  pub drawn : List TracedPoint
   pub starts : List ℕ
-  pub segment : List Crossing
+  pub segment : List TracedPoint
 
-abbrev pub drawing : List Crossing → List ℕ → List Crossing → Drawing
+abbrev pub drawing : List TracedPoint → List ℕ → List TracedPoint → Drawing
 drawing d s p = record { drawn = d; starts = s; segment = p }
 
 abbrev pub nothingDrawn : Drawing
@@ -33,14 +33,14 @@ abbrev pub roomIn : Lists → Room
 roomIn l = record { points = pointRoom l; lines = length (l .starts) }
 
 -- the pending line has a last point, and it is close to c by a tolerance (Rules 2.1)
-abbrev pub closeToLast : Float → List Crossing → Crossing → Bool
+abbrev pub closeToLast : Float → List TracedPoint → TracedPoint → Bool
 closeToLast tolerance [] c = false
-closeToLast tolerance (x ∷ []) c = allClose (x .point) (c .point) tolerance
+closeToLast tolerance (x ∷ []) c = allClose (x .crossing .point) (c .crossing .point) tolerance
 closeToLast tolerance (x ∷ (y ∷ ys)) c = closeToLast tolerance (y ∷ ys) c
 
 -- `push_segment_point`: a point that is close to the last pending one is left out; 12 if there is no room for it,
 -- those pending counted
-unfoldable pub pushSegmentPoint : Float → Room → Crossing → Drawing → Outcome Drawing
+unfoldable pub pushSegmentPoint : Float → Room → TracedPoint → Drawing → Outcome Drawing
 pushSegmentPoint tolerance room c d =
     cond (closeToLast tolerance (d .segment) c) (on d)
     (cond (ltb (length (d .drawn) + length (d .segment)) (room .points))
@@ -57,5 +57,5 @@ flushSegment room d =
     (on (drawing (d .drawn) (d .starts) []))
 
 -- moves in order, from a drawing on, where close means by a tolerance
-abbrev pub draw : Float → Room → List (Move Crossing) → Drawing → Outcome Drawing
+abbrev pub draw : Float → Room → List (Move TracedPoint) → Drawing → Outcome Drawing
 draw tolerance room = run (pushSegmentPoint tolerance room) (flushSegment room)

@@ -25,7 +25,7 @@ use Rattle.crossing.specs.Table as crossing
 use Rattle.lent.specs.Lent.{Afterwards, Counts}
 use Rattle.page.specs.Page.{Lists}
 use Rattle.trace.specs.Table as traces
-use Rattle.trace.specs.Table.{traced}
+use Rattle.trace.specs.Table.{traced, numbered}
 
 -- Rules 7.2, `step_index`: 4 of 4 steps is in cell 3 by 1, −EPS of 4 steps in cell 0 by 0; without steps no answer
 pub step-index : (stepIndex (ofBits binary64 0x4010000000000000) 4 ≡ At 3 one64)
@@ -76,6 +76,16 @@ along-u = (
   ap (λ (t : Afterwards (Answer Counts) Lists). t .lists .sides) traces.along-u,
   ap (λ (t : Afterwards (Answer Counts) Lists). t .lists .fractions) traces.along-u,
 )
+
+-- Rules 7.5: in one cell, the samples that points were made by: from (0, 0.25) by (0.75, 0.25) to (1, 0.25); and from
+-- (0, 0.25) to (0.75, 0.25) and, after a break, from (0, 0.75) to (1, 0.75). `numbered` traces samples across a unit
+-- square, into lists with room for some points
+pub sample-numbers :
+    (numbered (zero64 ∷ quarter ∷ three-quarters ∷ quarter ∷ one64 ∷ quarter ∷ []) (1 ∷ 1 ∷ 1 ∷ []) 3 .lists .samples
+    ≡ 1 ∷ 1 ∷ 2 ∷ [])
+    × (numbered (zero64 ∷ quarter ∷ three-quarters ∷ quarter ∷ zero64 ∷ zero64 ∷ zero64 ∷ three-quarters ∷ one64
+    ∷ three-quarters ∷ []) (1 ∷ 1 ∷ 0 ∷ 1 ∷ 1 ∷ []) 5 .lists .samples ≡ 1 ∷ 1 ∷ 4 ∷ 4 ∷ 4 ∷ [])
+sample-numbers = (traces.two-legs, traces.break-counted)
 
 -- Rules 6: in one cell, the only event from (0, 0) to (0.5, −0.5): U(0) at 0 comes after it, too near, and is dropped
 pub minus-zero-first : sortedEdgeEvents (cells 1 1) (leg (param zero64 zero64) (param half64 minus-half))

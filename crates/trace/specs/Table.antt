@@ -2,6 +2,8 @@
 use mathlib.Core.Path.{_≡_, refl}
 use mathlib.Core.Bool.{Bool, true}
 use mathlib.Core.List.{List, [], _∷_}
+use Prim.Native.Nat.{ℕ, _*_}
+use lib.ListN.{replicate}
 use lib.Ieee.{Float, binary64, ofBits, add}
 use Rattle.refusal.specs.Refusals.{Answer, ok, refused}
 use Rattle.float.specs.Consts.{eps, zero64, one64}
@@ -25,22 +27,25 @@ unfolding
     legMoves traceMoves run pushSegmentPoint flushSegment marksFit pairsFit traceCheck inTurn traceWithin
 computed = true
 
--- a unit square as a grid of M = N = 1, and the trace of two samples in lists with room for two points and one line
+-- a unit square as a grid of M = N = 1; lists with room for some points and lines, with no zero in them; and the trace
+-- of two samples in lists with room for two points and one line
 abbrev square : List Float
 square = zero64 ∷ zero64 ∷ zero64 ∷ zero64 ∷ one64 ∷ zero64 ∷ one64 ∷ zero64 ∷ zero64 ∷ one64 ∷ one64 ∷ zero64 ∷ []
 
-abbrev room : Lists
-room = lists (one64 ∷ one64 ∷ one64 ∷ one64 ∷ one64 ∷ one64 ∷ []) (7 ∷ []) (7 ∷ 7 ∷ 7 ∷ 7 ∷ []) (one64 ∷ one64 ∷ [])
+abbrev room : ℕ → ℕ → Lists
+room points lines =
+    lists (replicate (3 * points) one64) (replicate lines 7) (replicate (2 * points) 7) (replicate points one64)
+    (replicate points 7)
 
 abbrev pub traced : Float → Float → Float → Float → Afterwards (Answer Counts) Lists
-traced u v u′ v′ = traceFlat square 1 1 (u ∷ v ∷ u′ ∷ v′ ∷ []) (1 ∷ 1 ∷ []) room
+traced u v u′ v′ = traceFlat square 1 1 (u ∷ v ∷ u′ ∷ v′ ∷ []) (1 ∷ 1 ∷ []) (room 2 1)
 
 -- from (0, 0.25) to (0.75, 0.25): one line of two points, the first made from 0 and 1, the second from 2 and 1, both
--- by 0.25
+-- by 0.25, and both by sample 1
 pub along-u : traced zero64 quarter three-quarters quarter
     ≡ afterwards (ok (counts 2 1))
     (lists (zero64 ∷ quarter ∷ zero64 ∷ three-quarters ∷ quarter ∷ zero64 ∷ []) (0 ∷ []) (0 ∷ 1 ∷ 2 ∷ 1 ∷ [])
-    (quarter ∷ quarter ∷ []))
+    (quarter ∷ quarter ∷ []) (1 ∷ 1 ∷ []))
 unfolding computed
 along-u = refl
 
@@ -53,6 +58,41 @@ no-line = refl
 no-step : traced one64 (ofBits binary64 0x4130000000000000) one64 (add binary64 one64 eps)
     ≡ afterwards (refused 11)
     (lists (zero64 ∷ zero64 ∷ zero64 ∷ zero64 ∷ zero64 ∷ zero64 ∷ []) (0 ∷ []) (0 ∷ 0 ∷ 0 ∷ 0 ∷ [])
-    (zero64 ∷ zero64 ∷ []))
+    (zero64 ∷ zero64 ∷ []) (0 ∷ 0 ∷ []))
 unfolding computed
 no-step = refl
+
+-- ---- Rules 7.5: the number beside each point
+
+-- the trace of samples in lists with room for as many points and two lines
+abbrev pub numbered : List Float → List ℕ → ℕ → Afterwards (Answer Counts) Lists
+numbered pairs marks points = traceFlat square 1 1 pairs marks (room points 2)
+
+-- (0, 0.25), (0.75, 0.25) and (1, 0.25): two points by the leg to sample 1, one by that to sample 2
+pub two-legs : numbered (zero64 ∷ quarter ∷ three-quarters ∷ quarter ∷ one64 ∷ quarter ∷ []) (1 ∷ 1 ∷ 1 ∷ []) 3
+    .lists .samples ≡ 1 ∷ 1 ∷ 2 ∷ []
+unfolding computed
+two-legs = refl
+
+-- (0, 0.25) and (0.75, 0.25), a break, (0, 0.75) and (1, 0.75): the break is counted
+pub break-counted :
+    numbered (zero64 ∷ quarter ∷ three-quarters ∷ quarter ∷ zero64 ∷ zero64 ∷ zero64 ∷ three-quarters ∷ one64
+    ∷ three-quarters ∷ []) (1 ∷ 1 ∷ 0 ∷ 1 ∷ 1 ∷ []) 5
+    .lists .samples ≡ 1 ∷ 1 ∷ 4 ∷ 4 ∷ 4 ∷ []
+unfolding computed
+break-counted = refl
+
+-- (0, 0.25) twice and then (0.75, 0.25): the point that sample 2 would make again is left out, so the first keeps 1
+first-stays : numbered (zero64 ∷ quarter ∷ zero64 ∷ quarter ∷ three-quarters ∷ quarter ∷ []) (1 ∷ 1 ∷ 1 ∷ []) 2
+    .lists .samples ≡ 1 ∷ 2 ∷ []
+unfolding computed
+first-stays = refl
+
+-- the first two samples where all lists but the numbers' have room for both points: refused with 12, all places zero
+no-number : traceFlat square 1 1 (zero64 ∷ quarter ∷ three-quarters ∷ quarter ∷ []) (1 ∷ 1 ∷ [])
+    (lists (room 2 1 .points) (room 2 1 .starts) (room 2 1 .sides) (room 2 1 .fractions) (7 ∷ []))
+    ≡ afterwards (refused 12)
+    (lists (zero64 ∷ zero64 ∷ zero64 ∷ zero64 ∷ zero64 ∷ zero64 ∷ []) (0 ∷ []) (0 ∷ 0 ∷ 0 ∷ 0 ∷ [])
+    (zero64 ∷ zero64 ∷ []) (0 ∷ []))
+unfolding computed
+no-number = refl

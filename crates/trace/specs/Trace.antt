@@ -14,7 +14,7 @@ use Rattle.refusal.specs.Refusals.{Answer, ok, refused, numberOf, unless, andTh
 use Rattle.lent.specs.Lent.{filled, Afterwards, afterwards, ifPassed, Counts, counts}
 use Rattle.grid.specs.Grid.{gridCheck}
 use Rattle.param.specs.Param.{cells}
-use Rattle.crossing.specs.declared.Crossing.{Crossing}
+use Rattle.page.specs.declared.TracedPoint.{TracedPoint}
 use Rattle.page.specs.Moves.{Outcome, on, off}
 use Rattle.page.specs.Page.{Lists, lists}
 use Rattle.trace.specs.declared.curve.Previous.the-variants.{Nowhere}
@@ -70,15 +70,18 @@ statedTrace (Refused k) = refused (numberOf k)
 
 -- ---- Rules 8.1, 8.2: what stands in the lists
 
--- what a point puts into each list: three numbers, two and one
-abbrev pub pointOf : Crossing → List Float
-pointOf c = c .point .x ∷ c .point .y ∷ c .point .z ∷ []
+-- what a point puts into each list: three numbers, two, one and one
+abbrev pub pointOf : TracedPoint → List Float
+pointOf c = let point = c .crossing .point in point .x ∷ point .y ∷ point .z ∷ []
 
-abbrev pub sideOf : Crossing → List ℕ
-sideOf c = c .p ∷ c .q ∷ []
+abbrev pub sideOf : TracedPoint → List ℕ
+sideOf c = c .crossing .p ∷ c .crossing .q ∷ []
 
-abbrev pub fractionOf : Crossing → List Float
-fractionOf c = c .t ∷ []
+abbrev pub fractionOf : TracedPoint → List Float
+fractionOf c = c .crossing .t ∷ []
+
+abbrev pub sampleNumberOf : TracedPoint → List ℕ
+sampleNumberOf c = c .sample ∷ []
 
 -- what elements put there, one after another
 unfoldable pub inTurn : {A B : Type 0} → (B → List A) → List B → List A
@@ -86,19 +89,20 @@ inTurn f [] = []
 inTurn f (b ∷ bs) = f b ++ inTurn f bs
 
 -- the lists after these points and starts: every place past them is zero
-abbrev pub listsWith : List Crossing → List ℕ → Lists → Lists
+abbrev pub listsWith : List TracedPoint → List ℕ → Lists → Lists
 listsWith cs ss l =
     lists (filled zero64 (inTurn pointOf cs) (l .points))
     (filled 0 ss (l .starts))
     (filled 0 (inTurn sideOf cs) (l .sides))
     (filled zero64 (inTurn fractionOf cs) (l .fractions))
+    (filled 0 (inTurn sampleNumberOf cs) (l .samples))
 
 -- ---- the call
 
--- the moves of all samples, with nothing before the first, drawn, where close means by a tolerance
+-- the moves of all samples, numbered from 0, with nothing before the first, drawn, where close means by a tolerance
 abbrev pub drawingOf : Float → List Float → ℕ → ℕ → List Float → List ℕ → Room → Outcome Drawing
 drawingOf tolerance g m n pairs marks room =
-    draw tolerance room (traceMoves g (cells m n) (samplesOf marks pairs) Nowhere) nothingDrawn
+    draw tolerance room (traceMoves g (cells m n) 0 (samplesOf marks pairs) Nowhere) nothingDrawn
 
 -- Rules 8.2, 8.3: the counts and the lists; 11 and 12 leave every place zero
 abbrev pub finished : Outcome Drawing → Lists → Afterwards (Answer Counts) Lists

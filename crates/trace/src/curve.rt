@@ -12,7 +12,7 @@ ghost use lib.ListN.{length};
 ghost use Rattle.float.specs.Consts.{eps};
 ghost use Rattle.lent.specs.Lent.{afterwards};
 ghost use Rattle.crossing.specs.Crossing.{GridFits};
-ghost use Rattle.page.specs.Page.{lists, penAt, page, onPage, pageAfter, PenFits};
+ghost use Rattle.page.specs.Page.{lists, movesBy, penAt, page, onPage, pageAfter, PenFits};
 ghost use Rattle.trace.specs.Curve.{sampleAt, samplesOf, paramAt, afterSample, visitOf, visitMoves};
 ghost use Rattle.trace.specs.Curve.{traceMoves};
 
@@ -66,27 +66,30 @@ fn visit_of(previous: Previous, mark: u8, point: ParamPoint) -> Visit
     }
 }
 
-// One sample: a break flushes the pending line, a leg is walked along.
+// Sample number `sample`: a break flushes the pending line, a leg is walked along.
 fn trace_sample(
     lambdas: &mut [f64],
     codes: &mut [u32],
     grid: &[f64],
     cells: Cells,
     visit: Visit,
+    sample: usize,
     points: &mut [f64],
     starts: &mut [usize],
     sides: &mut [usize],
     fractions: &mut [f64],
+    samples: &mut [usize],
     pen: Pen,
 ) -> Penned
     requires { ⌜ (length (now lambdas) ≡ 1023) × (length (now codes) ≡ 1023) ⌝ }
     requires { ⌜ GridFits (now grid) cells ⌝ }
     requires { ⌜ PenFits (now points) pen ⌝ }
     ensures { λ r. ⌜ afterwards r
-        (lists (now (points .exit)) (now (starts .exit)) (now (sides .exit)) (now (fractions .exit)))
-        ≡ pageAfter (onPage eps (visitMoves (now (grid .entry)) cells visit)
-        (page (lists (now (points .entry)) (now (starts .entry)) (now (sides .entry)) (now (fractions .entry)))
-        pen)) ⌝ }
+        (lists (now (points .exit)) (now (starts .exit)) (now (sides .exit)) (now (fractions .exit))
+        (now (samples .exit)))
+        ≡ pageAfter (onPage eps (movesBy sample (visitMoves (now (grid .entry)) cells visit))
+        (page (lists (now (points .entry)) (now (starts .entry)) (now (sides .entry)) (now (fractions .entry))
+        (now (samples .entry))) pen)) ⌝ }
 {
     match visit {
         Visit::Break => flush_segment(starts, pen),
@@ -96,10 +99,12 @@ fn trace_sample(
             grid,
             cells,
             leg,
+            sample,
             points,
             starts,
             sides,
             fractions,
+            samples,
             pen,
         ),
         Visit::First => Penned::Down(pen),
@@ -117,15 +122,17 @@ pub fn trace_parametric_edge_curve(
     starts: &mut [usize],
     sides: &mut [usize],
     fractions: &mut [f64],
+    samples: &mut [usize],
 ) -> Penned
     requires { ⌜ GridFits (now grid) cells ⌝ }
     requires { ⌜ (length (now pairs) ≡ 2 * length (now marks)) × (length (now marks) ≤ 65537) ⌝ }
     ensures { λ r. ⌜ afterwards r
-        (lists (now (points .exit)) (now (starts .exit)) (now (sides .exit)) (now (fractions .exit)))
-        ≡ pageAfter (onPage eps (traceMoves (now (grid .entry)) cells
+        (lists (now (points .exit)) (now (starts .exit)) (now (sides .exit)) (now (fractions .exit))
+        (now (samples .exit)))
+        ≡ pageAfter (onPage eps (traceMoves (now (grid .entry)) cells 0
         (samplesOf (now (marks .entry)) (now (pairs .entry))) Previous.Nowhere)
-        (page (lists (now (points .entry)) (now (starts .entry)) (now (sides .entry)) (now (fractions .entry)))
-        (penAt 0 0 0))) ⌝ }
+        (page (lists (now (points .entry)) (now (starts .entry)) (now (sides .entry)) (now (fractions .entry))
+        (now (samples .entry))) (penAt 0 0 0))) ⌝ }
 {
     let mut lambdas = [0.0; MAX_EVENTS];
     let mut codes = [0u32; MAX_EVENTS];
@@ -146,10 +153,12 @@ pub fn trace_parametric_edge_curve(
             grid,
             cells,
             visit,
+            i,
             points,
             starts,
             sides,
             fractions,
+            samples,
             pen,
         ) {
             Penned::Down(traced) => {

@@ -13,6 +13,7 @@ ghost use Rattle.page.specs.Page.{lists};
 ghost use Rattle.trace.specs.Ended.{countIn, linesIn, answerOf};
 ghost use Rattle.trace.specs.Trace.{statedTrace, traceFlat};
 ghost use Rattle.trace.specs.Demand.{Demand3};
+ghost use Rattle.trace.specs.Numbers.{NumbersMet};
 
 // The counts of points and lines, or a refusal.
 pub enum Trace {
@@ -50,9 +51,9 @@ fn answer_of(ended: Penned) -> Trace
     }
 }
 
-// Traces a curve across the cells of a grid and draws its lines into the four lent lists: x, y, z of
-// each point, the number of each line's first point, the two grid points that each point lies
-// between, and the fraction between them.
+// Traces a curve across the cells of a grid and draws its lines into the five lent lists: x, y, z of each point, the
+// number of each line's first point, the two grid points that each point lies between, the fraction between them, and
+// the number of the sample that each point was made by.
 pub fn trace_flat(
     grid: &[f64],
     m: usize,
@@ -63,12 +64,16 @@ pub fn trace_flat(
     starts: &mut [usize],
     sides: &mut [usize],
     fractions: &mut [f64],
+    samples: &mut [usize],
 ) -> Trace
     ensures answer { λ r. ⌜ afterwards (statedTrace r)
-        (lists (now (points .exit)) (now (starts .exit)) (now (sides .exit)) (now (fractions .exit)))
+        (lists (now (points .exit)) (now (starts .exit)) (now (sides .exit)) (now (fractions .exit))
+        (now (samples .exit)))
         ≡ traceFlat (now (grid .entry)) m n (now (pairs .entry)) (now (marks .entry))
-        (lists (now (points .entry)) (now (starts .entry)) (now (sides .entry)) (now (fractions .entry))) ⌝ }
+        (lists (now (points .entry)) (now (starts .entry)) (now (sides .entry)) (now (fractions .entry))
+        (now (samples .entry))) ⌝ }
     ensures demand { λ _. ⌜ Demand3 (now (grid .entry)) m n ⌝ }
+    ensures numbers { λ _. ⌜ NumbersMet (now (grid .entry)) m n ⌝ }
 {
     if let Check::Failed(refusal) = check_trace(grid, m, n, pairs, marks) {
         return Trace::Refused(refusal);
@@ -83,11 +88,13 @@ pub fn trace_flat(
         starts,
         sides,
         fractions,
+        samples,
     );
     let count = count_in(ended);
     zero_floats(points, 3 * count);
     zero_numbers(starts, lines_in(ended));
     zero_numbers(sides, 2 * count);
     zero_floats(fractions, count);
+    zero_numbers(samples, count);
     answer_of(ended)
 }

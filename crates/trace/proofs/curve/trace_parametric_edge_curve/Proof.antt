@@ -6,7 +6,7 @@ use native.Mathlib.Omega.{arith}
 use denote.Ref.{now}
 use lib.ListN.{length, drop}
 use Rattle.float.specs.Consts.{eps}
-use Rattle.page.specs.Page.{Lists, lists, penAt, Page, page, onPage, PenFits}
+use Rattle.page.specs.Page.{Lists, lists, movesBy, penAt, Page, page, onPage, PenFits}
 use Rattle.page.proofs.Follow.{down-holds}
 use Rattle.page.proofs.Fits.{Fitting, moves-fit, Sized, SizedPage, moves-sized}
 use Rattle.trace.specs.declared.curve.Previous.the-variants.{Nowhere}
@@ -17,45 +17,51 @@ use Rattle.trace.proofs.curve.trace_parametric_edge_curve.Statement.{st
 use Rattle.trace.proofs.curve.trace_parametric_edge_curve.Tie as tie
 
 abbrev Inv-loop : tie.InvT-loop
-Inv-loop grid cells pairs marks points₀ starts₀ sides₀ fractions₀ lambdas₀ codes₀ pen₀ previous₀ i₀ points starts
-    sides fractions lambdas codes pen previous i =
+Inv-loop grid cells pairs marks points₀ starts₀ sides₀ fractions₀ samples₀ lambdas₀ codes₀ pen₀ previous₀ i₀ points
+    starts sides fractions samples lambdas codes pen previous i =
     (i ≤ length marks) × (length lambdas ≡ 1023) × (length codes ≡ 1023)
-    × Sized (lists points₀ starts₀ sides₀ fractions₀) (lists points starts sides fractions) × PenFits points pen
-    × (onPage eps (traceMoves grid cells (samplesOf marks pairs) Nowhere)
-    (page (lists points₀ starts₀ sides₀ fractions₀) (penAt 0 0 0))
-    ≡ onPage eps (traceMoves grid cells (drop i (samplesOf marks pairs)) previous)
-    (page (lists points starts sides fractions) pen))
+    × Sized (lists points₀ starts₀ sides₀ fractions₀ samples₀) (lists points starts sides fractions samples)
+    × PenFits points pen
+    × (onPage eps (traceMoves grid cells 0 (samplesOf marks pairs) Nowhere)
+    (page (lists points₀ starts₀ sides₀ fractions₀ samples₀) (penAt 0 0 0))
+    ≡ onPage eps (traceMoves grid cells i (drop i (samplesOf marks pairs)) previous)
+    (page (lists points starts sides fractions samples) pen))
 
 abbrev μ-loop : tie.MeasureT-loop
-μ-loop grid cells pairs marks points₀ starts₀ sides₀ fractions₀ lambdas₀ codes₀ pen₀ previous₀ i₀ points starts sides
-    fractions lambdas codes pen previous i = length marks - i
+μ-loop grid cells pairs marks points₀ starts₀ sides₀ fractions₀ samples₀ lambdas₀ codes₀ pen₀ previous₀ i₀ points
+    starts sides fractions samples lambdas codes pen previous i = length marks - i
 
 -- ---- places
 
 abbrev started : tie.At-loop Inv-loop μ-loop → tie.Start Inv-loop μ-loop
-started l = l .before .before .before .before .before .before .before .before
+started l = l .before .before .before .before .before .before .before .before .before
 
 -- where it is known what the sample is, and the loop
-abbrev visited : tie.After-trace-sample-arg4 Inv-loop μ-loop → tie.After-visit-of Inv-loop μ-loop
-visited t = t .before .before .before .before .before .before
+abbrev visited : tie.After-trace-sample-arg5 Inv-loop μ-loop → tie.After-visit-of Inv-loop μ-loop
+visited t = t .before .before .before .before .before .before .before
 
 abbrev looped : tie.After-visit-of Inv-loop μ-loop → tie.In-loop Inv-loop μ-loop
 looped v = v .before .before .before
 
 -- the lists as they were lent; and they and the pen as they stand at the loop
 abbrev lent : tie.Start Inv-loop μ-loop → Lists
-lent s = let a = s .args in lists (now (a .points)) (now (a .starts)) (now (a .sides)) (now (a .fractions))
+lent s =
+    let a = s .args in
+    lists (now (a .points)) (now (a .starts)) (now (a .sides)) (now (a .fractions)) (now (a .samples))
 
 abbrev held : tie.At-loop Inv-loop μ-loop → Page
-held l = let o = l .loop in page (lists (o .points) (o .starts) (o .sides) (o .fractions)) (o .pen)
+held l = let o = l .loop in page (lists (o .points) (o .starts) (o .sides) (o .fractions) (o .samples)) (o .pen)
 
 -- the place where a sample is refused, and where the trace goes on after it
 abbrev refused : tie.After-known-told2 Inv-loop μ-loop → tie.After-trace-sample Inv-loop μ-loop
-refused c = c .before .before .before .before .before .before .before .before .before .before .before .before .before
+refused c =
+    c .before .before .before .before .before .before .before .before
+    .before .before .before .before .before .before .before
 
 abbrev went-on : tie.After-after-sample Inv-loop μ-loop → tie.After-trace-sample Inv-loop μ-loop
 went-on c =
-    c .before .before .before .before .before .before .before .before .before .before .before .before .before .before
+    c .before .before .before .before .before .before .before .before
+    .before .before .before .before .before .before .before .before
 
 trace-sample-requires : tie.Need-trace-sample-requires Inv-loop μ-loop
 trace-sample-requires c κs =
@@ -85,7 +91,7 @@ loop-again c =
     let l = looped v .before in
     let s = started l in
     let a = s .args in
-    let ms = visitMoves (now (a .grid)) (a .cells) (v .visit-of .result) in
+    let ms = movesBy (l .loop .i) (visitMoves (now (a .grid)) (a .cells) (v .visit-of .result)) in
     let first = lent s in (
       omega (arith, looped v .loop-test .taken),
       search needs,
@@ -129,16 +135,18 @@ trace-parametric-edge-curve-spec =
     trace-sample-requires
     (λ c. search needs)
     (λ c. search needs)
-    (λ c. search needs)
-    (λ c. search needs)
-    (λ c. search needs)
-    (λ c. search needs)
+    (λ c. search (needs, looped (visited (refused c .before)) .before .loop .inv .3))
+    (λ c. search (needs, looped (visited (refused c .before)) .before .loop .inv .3))
+    (λ c. search (needs, looped (visited (refused c .before)) .before .loop .inv .3))
+    (λ c. search (needs, looped (visited (refused c .before)) .before .loop .inv .3))
+    (λ c. search (needs, looped (visited (refused c .before)) .before .loop .inv .3))
     returns
     (λ c κs. search needs)
     add-i
     (λ c. search needs)
     loop-again
     flush-segment-requires
+    (λ c. search needs)
     (λ c. search needs)
     (λ c. search needs)
     (λ c. search needs)

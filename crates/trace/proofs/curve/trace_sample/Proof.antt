@@ -10,33 +10,39 @@ use Rattle.trace.proofs.curve.trace_sample.Tie as tie
 -- the lists as they were lent
 abbrev lent : tie.Start → Page
 lent s =
-    let a = s .args in page (lists (now (a .points)) (now (a .starts)) (now (a .sides)) (now (a .fractions))) (a .pen)
+    let a = s .args in
+    page (lists (now (a .points)) (now (a .starts)) (now (a .sides)) (now (a .fractions)) (now (a .samples))) (a .pen)
 
 -- the start, from where it is asked what the visit is; where it is known to be a leg, and where that is walked
-abbrev started : tie.After-slice-known6 → tie.Start
-started c = c .before .before .before .before .before .before .before
+abbrev started : tie.After-slice-known7 → tie.Start
+started c = c .before .before .before .before .before .before .before .before
 
 abbrev visited : tie.After-append-edge-crossings → tie.After-visit
-visited c = c .before .before .before .before .before .before .before .before
+visited c = c .before .before .before .before .before .before .before .before .before
 
-abbrev walked : tie.After-slice-known13 → tie.After-append-edge-crossings
-walked c = c .before .before .before .before .before .before .before .before .before .before .before .before
+abbrev walked : tie.After-slice-known15 → tie.After-append-edge-crossings
+walked c =
+    c .before .before .before .before .before .before .before .before .before .before .before .before .before .before
 
 returns : tie.Need-returns
 returns c =
     let f = c .before .before in
     let e = f .before .before in
-    let w = lent (started (e .before .before)) in
-    sample-break eps _ _ w (e .enum-told .given .1) (f .flush-segment .ensures (w .lists))
+    let s = started (e .before .before) in
+    let w = lent s in
+    sample-break eps (s .args .sample) _ _ w (e .enum-told .given .1) (f .flush-segment .ensures (w .lists))
 
 returns-2 : tie.Need-returns-2
 returns-2 c =
     let t = walked c in
     let v = visited t in
-    sample-leg eps _ _ (lent (started (v .before .before))) (v .visit .given .1) (t .append-edge-crossings .ensures)
+    let s = started (v .before .before) in
+    sample-leg eps (s .args .sample) _ _ (lent s) (v .visit .given .1) (t .append-edge-crossings .ensures)
 
 returns-3 : tie.Need-returns-3
-returns-3 c = sample-first eps _ _ (lent (started (c .before .before))) (c .enum-told2 .given .1)
+returns-3 c =
+    let s = started (c .before .before) in
+    sample-first eps (s .args .sample) _ _ (lent s) (c .enum-told2 .given .1)
 
 pub trace-sample-spec : {M : Type 1} → statement M
 trace-sample-spec =
@@ -49,6 +55,7 @@ trace-sample-spec =
     (λ c. search needs)
     (λ c. search needs)
     returns
+    (λ c. search needs)
     (λ c. search needs)
     (λ c. search needs)
     (λ c. search needs)
