@@ -148,7 +148,7 @@ def end_lifetime(w, name):
     w.now(1, "dead")
 
 
-# ---- `flatten`: samples in local 1, pairs in 2, marks in 3, i in 4
+# ---- `flatten`: records in local 1, pairs in 2, marks in 3, i in 4
 
 FLATTEN_LOCALS = 13
 SAMPLE_TYPED = "(LL.lawful T.the-type T′.the-laws 𝓤 H A W .typed (elem i) _ is .0)"
@@ -169,7 +169,7 @@ def flatten_framed():
 
 
 def flatten_test(w, outcome):
-    """`i < samples.len()`, whose outcome is known."""
+    """`i < records.len()`, whose outcome is known."""
     w.assign("of-opd ! (" + w.field(1, 1) + ")", 6, "(tt, record { fits = g₀ .0 })")
     w.assign(f"bin ! ({w.load(4)}) ({w.load(6)}) tt", 7, "(tt, tt)")
     w.line()
@@ -177,8 +177,8 @@ def flatten_test(w, outcome):
 
 
 def flatten_copy(w):
-    """`let sample = samples[i]`: the place, and the record there, for which the slice is opened."""
-    w.note("the place of `samples[i]`")
+    """`let sample = records[i]`: the place, and the record there, for which the slice is opened."""
+    w.note("the place of `records[i]`")
     times = f"bin ! ({w.load(4)}) (lit ! tt) (record {{ fits = scaled }})"
     w.assign(times, 6, "(tt, record { fits = scaled })", "store")
     w.assign(f"bin ! ({w.field(1, 0)}) ({w.load(6)}) tt", 8, "(tt, tt)")
@@ -314,14 +314,14 @@ def flatten_start():
     return w.text(6)
 
 
-# ---- the entries. Their parameters, in locals 1 to 8: grid, m, n, samples, points, starts, sides,
-# fractions
+# ---- the entries. Their parameters, in locals 1 to 9: grid, m, n, records, points, starts, sides,
+# fractions, samples
 
-PARAMETERS = range(8)
+PARAMETERS = range(9)
 NUMBERS = [1, 2]
-OUTPUTS = [4, 5, 6, 7]
+OUTPUTS = [4, 5, 6, 7, 8]
 SLICES = [0, 3] + OUTPUTS
-SAMPLES = 3
+RECORDS = 3
 M, N = ("d₁", "g₁"), ("d₂", "g₂")
 
 
@@ -388,6 +388,11 @@ def last_lists(name, before):
     return " ".join(f"({name}{' .1' * (before + j)} .0)" for j in range(len(OUTPUTS)))
 
 
+def lengths():
+    """That these lists are as long as those that were lent."""
+    return " ".join(f"e{sub(p)}" for p in OUTPUTS)
+
+
 def left():
     """What an entry leaves its caller, in the order of `Left`, and its answer."""
     return [*tokens(SLICES), "O0", "O3", *[f"fin{p}" for p in OUTPUTS], "answer"]
@@ -414,7 +419,7 @@ def leave(w, locals, rooms):
 
 # ---- `trace_samples`
 
-ENTRY_LOCALS = 25
+ENTRY_LOCALS = 28
 
 
 @dataclass
@@ -438,8 +443,8 @@ class Array:
 
 
 ARRAYS = [
-    Array(9, 1, "F", "f64", "AF", 131074, "xF", "vF", "P", "Float"),
-    Array(10, 2, "B", "u8", "AB", 65537, "xB", "vB", "N", "ℕ"),
+    Array(10, 1, "F", "f64", "AF", 131074, "xF", "vF", "P", "Float"),
+    Array(11, 2, "B", "u8", "AB", 65537, "xB", "vB", "N", "ℕ"),
 ]
 
 
@@ -450,14 +455,14 @@ def make_zeros(w):
     w.now(0, "oB")
     w.line()
     zero = "(float-lawful 𝓤 H A W binary64 .typed z _ (refl, zero-fits) .0)"
-    w.step(f"fills ! 131074 (tyFloat binary64) (float-lit ! tt) refl {w.at('l9')} refl {zero}")
-    w.step(f"fills ! 65537 (tyInt w8) (lit ! tt) refl {w.at('l10')} refl (tt, record {{ fits = lit< tt }})")
+    w.step(f"fills ! 131074 (tyFloat binary64) (float-lit ! tt) refl {w.at('l10')} refl {zero}")
+    w.step(f"fills ! 65537 (tyInt w8) (lit ! tt) refl {w.at('l11')} refl (tt, record {{ fits = lit< tt }})")
 
 
 def lend_zeros(w):
     """`&mut` of both lists."""
-    w.assign("addr ! (from ! (stop !))", 12, "(tt, tt)")
     w.assign("addr ! (from ! (stop !))", 13, "(tt, tt)")
+    w.assign("addr ! (from ! (stop !))", 14, "(tt, tt)")
     for a in ARRAYS:
         l, ν, δ = a.block, "ν" + sub(a.named), "δ" + sub(a.named)
         w.line()
@@ -530,13 +535,13 @@ def make_room(w):
 def call_flatten(w):
     w.note("`flatten`")
     take_parameters(w)
-    copy_slice(w, SAMPLES, 1, "T.the-row")
-    outer = "l₉ l₁₀ ν₁ ν₂ δ₁ δ₂"
-    call(w, "Flat", f"(to-flat {outer})", ["t3", "ν₁", "ν₂", "O3", "MF", "MB"], f"goes-flat {outer}", [4, 12, 13], "u")
+    copy_slice(w, RECORDS, 1, "T.the-row")
+    outer = "l₁₀ l₁₁ ν₁ ν₂ δ₁ δ₂"
+    call(w, "Flat", f"(to-flat {outer})", ["t3", "ν₁", "ν₂", "O3", "MF", "MB"], f"goes-flat {outer}", [4, 13, 14], "u")
     hear(w, f"After-flat {outer} u", "y", f"Flat-said {outer}", "zs", {"e": "(zs .1 .0 ≡ P) × (zs .1 .1 .0 ≡ N)"})
     w.line()
     w.fsplit("lasts", "nothing", "rF", "rB")
-    land_unit(w, 11, "tokens of flatten")
+    land_unit(w, 12, "tokens of flatten")
 
     w.note("the lifetimes end, and the lists are back, with the records in them")
     w.split("tokens of flatten", "t3", "ν₁", "ν₂")
@@ -545,21 +550,21 @@ def call_flatten(w):
 
 def call_trace_flattened(w):
     w.note("what `trace_flattened` is passed")
-    w.assign("addr ! (from ! (stop !))", 14, "(tt, tt)")
     w.assign("addr ! (from ! (stop !))", 15, "(tt, tt)")
-    w.assign("of-opd ! (" + w.field(SAMPLES + 1, 1) + ")", 16, "(tt, record { fits = g₃ .0 })")
-    lent = lend_outputs(w, 17)
+    w.assign("addr ! (from ! (stop !))", 16, "(tt, tt)")
+    w.assign("of-opd ! (" + w.field(RECORDS + 1, 1) + ")", 17, "(tt, record { fits = g₃ .0 })")
+    lent = lend_outputs(w, 18)
 
     w.note("the lists are lent by `&`")
     share_lists(w)
 
     w.note("`trace_flattened`")
     copy_slice(w, 0, 0, "f64")
-    outer = "l₉ l₁₀ ν₃ ν₄ δ₃ δ₄"
+    outer = "l₁₀ l₁₁ ν₃ ν₄ δ₃ δ₄"
     lifetimes = ["t0", "ν₃", "ν₄", *tokens(OUTPUTS)]
     given = [*lifetimes, "O0", "SF", "SB", *owned(OUTPUTS)]
     goes = f"goes-traced g₁ g₂ (g₃ .0) {outer}"
-    call(w, "Traced", f"(to-traced {outer})", given, goes, [1, 2, 3, 14, 15, 16, *lent], "v")
+    call(w, "Traced", f"(to-traced {outer})", given, goes, [1, 2, 3, 15, 16, 17, *lent], "v")
     hear(w, f"After-traced {outer} v", "r", f"Traced-said {outer} r", "ws", {"said": f"Said r {last_lists('ws', 6)}"})
     outputs_after(w, 6)
     land_answer(w, 0, "tokens of the trace", "An", "r", "v", "is", "EL.lawful An.the-type An′.the-laws 𝓤 H A W tt")
@@ -579,13 +584,13 @@ def trace_samples_walk():
     call_flatten(w)
     call_trace_flattened(w)
     leave(w, ENTRY_LOCALS, [a.local for a in ARRAYS])
-    w.end(f"by ! (exits g₁ g₂ r v {last_lists('ws', 6)} said e₄ e₅ e₆ e₇)")
+    w.end(f"by ! (exits g₁ g₂ r v {last_lists('ws', 6)} said {lengths()})")
     return w.text(8)
 
 
-# ---- `mt_trace_samples`: the answer of `trace_samples` in local 9
+# ---- `mt_trace_samples`: the answer of `trace_samples` in local 10
 
-EXPORT_LOCALS = 18
+EXPORT_LOCALS = 21
 
 
 def mt_trace_samples_walk():
@@ -593,28 +598,32 @@ def mt_trace_samples_walk():
     enter(w, EXPORT_LOCALS)
 
     w.note("what `trace_samples` is passed")
-    lent = lend_outputs(w, 10)
+    lent = lend_outputs(w, 11)
     w.line()
     take_parameters(w)
     copy_slice(w, 0, 0, "f64")
-    copy_slice(w, SAMPLES, 1, "T.the-row")
+    copy_slice(w, RECORDS, 1, "T.the-row")
 
     w.note("`trace_samples`")
     call(w, "Rec", "to-rec", [*tokens(SLICES), *owned(SLICES)], "goes-rec g₁ g₂", [1, 2, 3, 4, *lent], "v")
-    facts = {"said": f"Said r {last_lists('ws', 4)}", "demand": "Demand3 d₀ d₁ d₂"}
+    facts = {
+        "said": f"Said r {last_lists('ws', 4)}",
+        "demand": "Demand3 d₀ d₁ d₂",
+        "numbers": "NumbersMet d₀ d₁ d₂",
+    }
     hear(w, "After-rec v", "r", "Rec-said r", "ws", facts)
     outputs_after(w, 4)
-    land_answer(w, 9, "tokens", "Tr", "r", "v", "is", "EL.lawful Tr.the-type Tr′.the-laws 𝓤 H A W tt")
+    land_answer(w, 10, "tokens", "Tr", "r", "v", "is", "EL.lawful Tr.the-type Tr′.the-laws 𝓤 H A W tt")
 
     w.note("`trace_to_c`")
-    call(w, "Conv", "(to-conv r v)", ["answer"], "goes-conv r v", [9], "u")
+    call(w, "Conv", "(to-conv r v)", ["answer"], "goes-conv r v", [10], "u")
     hear(w, "After-conv r u", "c", "Conv-said r c", "us", {"e": "c ≡ pathsAnswer (statedTrace r)"})
     land_answer(w, 0, "none", "An", "c", "u", "is′", "LL.lawful An.the-type An′.the-laws 𝓤 H A W")
 
     w.line()
     w.split("tokens", *tokens(SLICES))
     leave(w, EXPORT_LOCALS, [])
-    w.end(f"by ! (exits g₁ g₂ r c u {last_lists('ws', 4)} said demand e e₄ e₅ e₆ e₇)")
+    w.end(f"by ! (exits g₁ g₂ r c u {last_lists('ws', 4)} said demand numbers e {lengths()})")
     return w.text(8)
 
 

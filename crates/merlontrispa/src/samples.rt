@@ -4,6 +4,7 @@ use crate::traces::trace_to_c;
 use records::Sample;
 use records::trace_samples;
 ghost use Rattle.trace.specs.Demand.{Demand3};
+ghost use Rattle.trace.specs.Numbers.{NumbersMet};
 ghost use mathlib.Core.Path.{_≡_};
 ghost use Rattle.lent.specs.Lent.{afterwards, answering};
 ghost use Rattle.page.specs.Page.{lists};
@@ -16,18 +17,32 @@ pub extern "C" fn mt_trace_samples(
     grid: &[f64],
     m: usize,
     n: usize,
-    samples: &[Sample],
+    records: &[Sample],
     points: &mut [f64],
     starts: &mut [usize],
     sides: &mut [usize],
     fractions: &mut [f64],
+    samples: &mut [usize],
 ) -> PathsAnswer
     ensures answer { λ r. ⌜ afterwards r
-        (lists (now (points .exit)) (now (starts .exit)) (now (sides .exit)) (now (fractions .exit)))
+        (lists (now (points .exit)) (now (starts .exit)) (now (sides .exit)) (now (fractions .exit))
+        (now (samples .exit)))
         ≡ answering pathsAnswer (traceFlat (now (grid .entry)) m n
-        (pairsOf (now (samples .entry))) (marksOf (now (samples .entry)))
-        (lists (now (points .entry)) (now (starts .entry)) (now (sides .entry)) (now (fractions .entry)))) ⌝ }
+        (pairsOf (now (records .entry))) (marksOf (now (records .entry)))
+        (lists (now (points .entry)) (now (starts .entry)) (now (sides .entry)) (now (fractions .entry))
+        (now (samples .entry)))) ⌝ }
     ensures demand { λ _. ⌜ Demand3 (now (grid .entry)) m n ⌝ }
+    ensures numbers { λ _. ⌜ NumbersMet (now (grid .entry)) m n ⌝ }
 {
-    trace_to_c(trace_samples(grid, m, n, samples, points, starts, sides, fractions))
+    trace_to_c(trace_samples(
+        grid,
+        m,
+        n,
+        records,
+        points,
+        starts,
+        sides,
+        fractions,
+        samples,
+    ))
 }

@@ -3,6 +3,7 @@ use crate::lines::PathsAnswer;
 use trace::flat::Trace;
 ghost use mathlib.Core.Path.{_≡_};
 ghost use Rattle.trace.specs.Demand.{Demand3};
+ghost use Rattle.trace.specs.Numbers.{NumbersMet};
 ghost use Rattle.lent.specs.Lent.{afterwards, answering};
 ghost use Rattle.page.specs.Page.{lists};
 ghost use Rattle.trace.specs.Trace.{statedTrace, traceFlat};
@@ -36,12 +37,27 @@ pub extern "C" fn mt_trace_flat(
     starts: &mut [usize],
     sides: &mut [usize],
     fractions: &mut [f64],
+    samples: &mut [usize],
 ) -> PathsAnswer
     ensures answer { λ r. ⌜ afterwards r
-        (lists (now (points .exit)) (now (starts .exit)) (now (sides .exit)) (now (fractions .exit)))
+        (lists (now (points .exit)) (now (starts .exit)) (now (sides .exit)) (now (fractions .exit))
+        (now (samples .exit)))
         ≡ answering pathsAnswer (traceFlat (now (grid .entry)) m n (now (pairs .entry)) (now (marks .entry))
-        (lists (now (points .entry)) (now (starts .entry)) (now (sides .entry)) (now (fractions .entry)))) ⌝ }
+        (lists (now (points .entry)) (now (starts .entry)) (now (sides .entry)) (now (fractions .entry))
+        (now (samples .entry)))) ⌝ }
     ensures demand { λ _. ⌜ Demand3 (now (grid .entry)) m n ⌝ }
+    ensures numbers { λ _. ⌜ NumbersMet (now (grid .entry)) m n ⌝ }
 {
-    trace_to_c(trace::flat::trace_flat(grid, m, n, pairs, marks, points, starts, sides, fractions))
+    trace_to_c(trace::flat::trace_flat(
+        grid,
+        m,
+        n,
+        pairs,
+        marks,
+        points,
+        starts,
+        sides,
+        fractions,
+        samples,
+    ))
 }

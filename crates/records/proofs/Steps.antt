@@ -1,4 +1,4 @@
--- For going through MIR: where a contract has two clauses, both are shown at the exit; a local that is passed or read
+-- For going through MIR: where a contract has three clauses, all are shown at the exit; a local that is passed or read
 -- whole; and tuples with a line for each part. The two rules take `Given` as an argument.
 use mathlib.Core.Path.{_≡_}
 use mathlib.Core.List.{List, []}
@@ -21,12 +21,15 @@ abbrev pub _&_ {ℓ κ} : {A : Type ℓ} {B : Type κ} → A → B → A × B
 a & b = (a, b)
 
 module _ {M : Type 1} {𝓤 : URA M} {H : Heap 𝓤} {A : Atoms 𝓤} {K : Type 0} {W : Given 𝓤 H A} {Γ : List (Item 𝓤)} where
-  pub says-both : K → {φ ψ : Type 0} {P : SProp 𝓤} → φ → ψ →
-      Step K W Γ (prop P) Γ (prop (sep 𝓤 P (sep 𝓤 (fact 𝓤 φ) (fact 𝓤 ψ))))
-  says-both t {φ} {ψ} {P} x y =
+  pub says-three : K → {φ ψ χ : Type 0} {P : SProp 𝓤} → φ → ψ → χ →
+      Step K W Γ (prop P) Γ (prop (sep 𝓤 P (sep 𝓤 (fact 𝓤 φ) (sep 𝓤 (fact 𝓤 ψ) (fact 𝓤 χ)))))
+  says-three t {φ} {ψ} {χ} {P} x y z =
+      let X : SProp 𝓤 = fact 𝓤 φ in
+      let Y : SProp 𝓤 = fact 𝓤 ψ in
+      let Z : SProp 𝓤 = fact 𝓤 χ in
       step (λ s. record {
-        prf = via 𝓤 (sep 𝓤 (sep 𝓤 P (fact 𝓤 φ)) (fact 𝓤 ψ)) ((says t y $ says t x $ s) .prf)
-            (assoc∗ 𝓤 P (fact 𝓤 φ) (fact 𝓤 ψ));
+        prf = via 𝓤 (sep 𝓤 (sep 𝓤 (sep 𝓤 P X) Y) Z) ((says t z $ says t y $ says t x $ s) .prf)
+            (via 𝓤 (sep 𝓤 (sep 𝓤 P X) (sep 𝓤 Y Z)) (assoc∗ 𝓤 (sep 𝓤 P X) Y Z) (assoc∗ 𝓤 P X (sep 𝓤 Y Z)));
       })
 
   -- local i, whose cell is thing k of the context

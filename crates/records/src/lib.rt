@@ -9,6 +9,7 @@ ghost use mathlib.Core.Path.{_≡_};
 ghost use mathlib.Core.List.{List};
 ghost use lib.ListN.{length};
 ghost use Rattle.trace.specs.Demand.{Demand3};
+ghost use Rattle.trace.specs.Numbers.{NumbersMet};
 ghost use Rattle.lent.specs.Lent.{afterwards};
 ghost use Rattle.page.specs.Page.{lists};
 ghost use Rattle.trace.specs.Trace.{statedTrace, traceFlat};
@@ -40,15 +41,15 @@ fn put_sample(pairs: &mut [f64; MAX_NUMBERS], marks: &mut [u8; MAX_MARKS], i: us
 }
 
 // A slice of structs is read here alone.
-fn flatten(samples: &[Sample], pairs: &mut [f64; MAX_NUMBERS], marks: &mut [u8; MAX_MARKS])
+fn flatten(records: &[Sample], pairs: &mut [f64; MAX_NUMBERS], marks: &mut [u8; MAX_MARKS])
     ensures { λ _. ⌜ (now (pairs .exit)
-        ≡ pairsUpTo (now (samples .entry)) (now (pairs .entry)) (length (now (samples .entry))))
+        ≡ pairsUpTo (now (records .entry)) (now (pairs .entry)) (length (now (records .entry))))
         × (now (marks .exit)
-        ≡ marksUpTo (now (samples .entry)) (now (marks .entry)) (length (now (samples .entry)))) ⌝ }
+        ≡ marksUpTo (now (records .entry)) (now (marks .entry)) (length (now (records .entry)))) ⌝ }
 {
     let mut i: usize = 0;
-    while i < samples.len() {
-        let sample = samples[i];
+    while i < records.len() {
+        let sample = records[i];
         put_sample(pairs, marks, i, sample);
         i += 1;
     }
@@ -67,12 +68,15 @@ fn trace_flattened(
     starts: &mut [usize],
     sides: &mut [usize],
     fractions: &mut [f64],
+    samples: &mut [usize],
 ) -> Trace
     ensures { λ r. ⌜ ((ss : List Record) → length ss ≡ count → Flattened ss (now (pairs .entry)) (now (marks .entry)) →
         afterwards (statedTrace r)
-        (lists (now (points .exit)) (now (starts .exit)) (now (sides .exit)) (now (fractions .exit)))
+        (lists (now (points .exit)) (now (starts .exit)) (now (sides .exit)) (now (fractions .exit))
+        (now (samples .exit)))
         ≡ traceFlat (now (grid .entry)) m n (pairsOf ss) (marksOf ss)
-        (lists (now (points .entry)) (now (starts .entry)) (now (sides .entry)) (now (fractions .entry)))) ⌝ }
+        (lists (now (points .entry)) (now (starts .entry)) (now (sides .entry)) (now (fractions .entry))
+        (now (samples .entry)))) ⌝ }
 {
     if MAX_MARKS < count {
         if grid::steps_fit(m, n) {
@@ -95,40 +99,46 @@ fn trace_flattened(
         starts,
         sides,
         fractions,
+        samples,
     )
 }
 
 // Traces a curve, given as records, across the cells of a grid, as `trace_flat` does with their pairs
-// and marks.
+// and marks; the number of a sample is the index of its record.
 pub fn trace_samples(
     grid: &[f64],
     m: usize,
     n: usize,
-    samples: &[Sample],
+    records: &[Sample],
     points: &mut [f64],
     starts: &mut [usize],
     sides: &mut [usize],
     fractions: &mut [f64],
+    samples: &mut [usize],
 ) -> Trace
     ensures answer { λ r. ⌜ afterwards (statedTrace r)
-        (lists (now (points .exit)) (now (starts .exit)) (now (sides .exit)) (now (fractions .exit)))
-        ≡ traceFlat (now (grid .entry)) m n (pairsOf (now (samples .entry))) (marksOf (now (samples .entry)))
-        (lists (now (points .entry)) (now (starts .entry)) (now (sides .entry)) (now (fractions .entry))) ⌝ }
+        (lists (now (points .exit)) (now (starts .exit)) (now (sides .exit)) (now (fractions .exit))
+        (now (samples .exit)))
+        ≡ traceFlat (now (grid .entry)) m n (pairsOf (now (records .entry))) (marksOf (now (records .entry)))
+        (lists (now (points .entry)) (now (starts .entry)) (now (sides .entry)) (now (fractions .entry))
+        (now (samples .entry))) ⌝ }
     ensures demand { λ _. ⌜ Demand3 (now (grid .entry)) m n ⌝ }
+    ensures numbers { λ _. ⌜ NumbersMet (now (grid .entry)) m n ⌝ }
 {
     let mut pairs = [0.0; MAX_NUMBERS];
     let mut marks = [0; MAX_MARKS];
-    flatten(samples, &mut pairs, &mut marks);
+    flatten(records, &mut pairs, &mut marks);
     trace_flattened(
         grid,
         m,
         n,
         &pairs,
         &marks,
-        samples.len(),
+        records.len(),
         points,
         starts,
         sides,
         fractions,
+        samples,
     )
 }

@@ -288,7 +288,7 @@ module _ {M : Type 1} (𝓤 : URA M) (H : Heap 𝓤) (A : Atoms 𝓤) (W : Given
         assigns ! (bin ! (local ! 6 refl) (local ! 8 refl) tt) (from ! (stop !)) (init ! 9 refl (tt, tt)) $
         rewrite ! 9 (λ (t : Bool). ‵ (fat fullShare tyBool l₇ 0 (vbool t))) (lt-ltb i n small) refl $
         stays ! (local ! 9 refl) $
-        -- the place of `samples[i]`
+        -- the place of `records[i]`
         assigns ! (bin ! (local ! 6 refl) (lit ! tt) (record { fits = scaled })) (from ! (stop !))
         (store ! 8 refl (tt, record { fits = scaled })) $
         assigns ! (bin ! (load ! (from ! (fld ! refl (stop !))) (look-in ! 15 (sub ! 0 refl (whole !))))

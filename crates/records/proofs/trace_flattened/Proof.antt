@@ -11,11 +11,11 @@ use Rattle.records.proofs.trace_flattened.Tie as tie
 
 -- where the samples are few enough, from where they are traced
 abbrev few : tie.After-trace-flat → tie.Else1
-few t = t .before .before .before .before .before .before .before .before .before
+few t = t .before .before .before .before .before .before .before .before .before .before
 
 -- where they are traced, from the end
-abbrev traced : tie.After-slice-known8 → tie.After-trace-flat
-traced c = c .before .before .before .before .before .before .before .before
+abbrev traced : tie.After-slice-known10 → tie.After-trace-flat
+traced c = c .before .before .before .before .before .before .before .before .before .before
 
 returns : tie.Need-returns
 returns c ss e _ =
@@ -42,6 +42,7 @@ trace-flattened-spec =
     (λ c. sym (length-take-le _ _ (omega arith)))
     (λ c. sym (length-take-le _ _ (omega arith)))
     (λ c κs. search needs)
+    (λ c. search needs)
     (λ c. search needs)
     (λ c. search needs)
     (λ c. search needs)

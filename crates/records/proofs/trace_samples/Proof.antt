@@ -3,7 +3,7 @@
 -- It goes through the MIR by hand, since the borrow checker covers no slice of structs; tools/walks/walks.py writes it.
 -- The two lists are locals: they are lent by `&mut` to `flatten` and by `&` to `trace_flattened`, each for a lifetime
 -- made for the call. The outputs are given to `trace_flattened` for good. Subscripts are the parameters' places, from 0
--- for the grid to 7 for the fractions.
+-- for the grid to 8 for the samples.
 use mathlib.Core.Path.{_≡_, refl, sym, ap, subst}
 use Prim.Native.Nat.{ℕ, _<_, _^_}
 use mathlib.Core.List.{List, [], _∷_}
@@ -54,13 +54,14 @@ use Rattle.page.specs.Page.{lists}
 use Rattle.trace.specs.Trace.{statedTrace, traceFlat}
 use Rattle.trace.specs.declared.flat.Trace.{Trace}
 use Rattle.trace.proofs.Demands.{demand3}
+use Rattle.trace.proofs.Numbered.{numbers-met}
 use Rattle.trace.proofs.flat.Trace as An
 use Rattle.trace.proofs.flat.Trace.Laws as An′
 use Rattle.records.specs.Records.{pairsOf, marksOf}
 use Rattle.records.specs.Flattened.{pairsUpTo, marksUpTo, Flattened}
 use Rattle.records.specs.declared.Sample.{Sample}
 use Rattle.records.proofs.Sample as T
-use Rattle.records.proofs.Steps.{says-both, local, _&_}
+use Rattle.records.proofs.Steps.{says-three, local, _&_}
 use Rattle.records.proofs.Parameters.{stayed, all-go, vals, tell}
 use Rattle.records.proofs.Arrays.{zero-fits, in-mem, out-room}
 use Rattle.records.proofs.Zeros.{F, B, AF, AB, z, xF, xB, vF, vB, lF, lB, fills, owned-F, owned-B}
@@ -88,9 +89,10 @@ module _ {M : Type 1} (𝓤 : URA M) (H : Heap 𝓤) (A : Atoms 𝓤) (mem : Mem
 
 module _ {M : Type 1} (𝓤 : URA M) (H : Heap 𝓤) (A : Atoms 𝓤) (W : Given 𝓤 H A)
     (mem : Memory → SProp 𝓤) (run : Routine → Fun 𝓤)
-    (κ₀ κ₃ κ₄ κ₅ κ₆ κ₇ : Lft) (q₀ q₃ q₄ q₅ q₆ q₇ : Share)
-    (b₀ o₀ b₃ o₃ b₄ o₄ b₅ o₅ b₆ o₆ b₇ o₇ : ℕ) (γ₀ γ₃ γ₄ γ₅ γ₆ γ₇ : GName)
-    (d₀ : List Float) (d₁ d₂ : ℕ) (d₃ : List Sample) (d₄ : List Float) (d₅ d₆ : List ℕ) (d₇ : List Float) where
+    (κ₀ κ₃ κ₄ κ₅ κ₆ κ₇ κ₈ : Lft) (q₀ q₃ q₄ q₅ q₆ q₇ q₈ : Share)
+    (b₀ o₀ b₃ o₃ b₄ o₄ b₅ o₅ b₆ o₆ b₇ o₇ b₈ o₈ : ℕ) (γ₀ γ₃ γ₄ γ₅ γ₆ γ₇ γ₈ : GName)
+    (d₀ : List Float) (d₁ d₂ : ℕ) (d₃ : List Sample)
+    (d₄ : List Float) (d₅ d₆ : List ℕ) (d₇ : List Float) (d₈ : List ℕ) where
   abbrev n : ℕ
   n = length d₃
 
@@ -120,6 +122,9 @@ module _ {M : Type 1} (𝓤 : URA M) (H : Heap 𝓤) (A : Atoms 𝓤) (W : Given
   abbrev x₇ : RefT (List Float)
   x₇ = record { ptr = (b₇, o₇); name = γ₇; now = d₇ }
 
+  abbrev x₈ : RefT (List ℕ)
+  x₈ = record { ptr = (b₈, o₈); name = γ₈; now = d₈ }
+
   abbrev s₀ : Val
   s₀ = sliceVal (b₀, o₀) (length d₀)
 
@@ -138,20 +143,25 @@ module _ {M : Type 1} (𝓤 : URA M) (H : Heap 𝓤) (A : Atoms 𝓤) (W : Given
   abbrev s₇ : Val
   s₇ = sliceVal (b₇, o₇) (length d₇)
 
-  abbrev κs : Lfts 6
-  κs = (κ₀, (κ₃, (κ₄, (κ₅, (κ₆, (κ₇, tt))))))
+  abbrev s₈ : Val
+  s₈ = sliceVal (b₈, o₈) (length d₈)
+
+  abbrev κs : Lfts 7
+  κs = (κ₀, (κ₃, (κ₄, (κ₅, (κ₆, (κ₇, (κ₈, tt)))))))
 
   abbrev a : Args f.signature κs
-  a = (x₀, (d₁, (d₂, (x₃, (x₄, (x₅, (x₆, (x₇, tt))))))))
+  a = (x₀, (d₁, (d₂, (x₃, (x₄, (x₅, (x₆, (x₇, (x₈, tt)))))))))
 
   abbrev at : Vals f.signature κs
-  at = (s₀ ∷ [], (vint w64 d₁ ∷ [], (vint w64 d₂ ∷ [], (s₃ ∷ [], (s₄ ∷ [], (s₅ ∷ [], (s₆ ∷ [], (s₇ ∷ [], tt))))))))
+  at =
+      (s₀ ∷ []) & (vint w64 d₁ ∷ []) & (vint w64 d₂ ∷ []) & (s₃ ∷ [])
+      & (s₄ ∷ []) & (s₅ ∷ []) & (s₆ ∷ []) & (s₇ ∷ []) & (s₈ ∷ []) & tt
 
-  abbrev qs : Shares 6
-  qs = (q₀, (q₃, (q₄, (q₅, (q₆, (q₇, tt))))))
+  abbrev qs : Shares 7
+  qs = (q₀, (q₃, (q₄, (q₅, (q₆, (q₇, (q₈, tt)))))))
 
   abbrev args : List Val
-  args = s₀ ∷ vint w64 d₁ ∷ vint w64 d₂ ∷ s₃ ∷ s₄ ∷ s₅ ∷ s₆ ∷ s₇ ∷ []
+  args = s₀ ∷ vint w64 d₁ ∷ vint w64 d₂ ∷ s₃ ∷ s₄ ∷ s₅ ∷ s₆ ∷ s₇ ∷ s₈ ∷ []
 
   abbrev bound : walkOf 𝓤 H A f.ended stayed (f.clauses 𝓤 H A mem run) .Ghost
   bound = ((κs, qs, tt, a, at), tt)
@@ -177,46 +187,53 @@ module _ {M : Type 1} (𝓤 : URA M) (H : Heap 𝓤) (A : Atoms 𝓤) (W : Given
   abbrev O₇ : Fml
   O₇ = MutSlice (named 5) κ₇ f64 .own x₇ (s₇ ∷ [])
 
+  abbrev O₈ : Fml
+  O₈ = MutSlice (named 6) κ₈ usize .own x₈ (s₈ ∷ [])
+
   -- at the entry: the tokens, and the parameters' types
   abbrev Tokens : Item 𝓤
   Tokens =
       (‵ (flft κ₀ q₀) ⊛ (‵ (flft κ₃ q₃) ⊛ (‵ (flft κ₄ q₄)
-      ⊛ (‵ (flft κ₅ q₅) ⊛ (‵ (flft κ₆ q₆) ⊛ (‵ (flft κ₇ q₇) ⊛ ‵ ftrue))))))
+      ⊛ (‵ (flft κ₅ q₅) ⊛ (‵ (flft κ₆ q₆) ⊛ (‵ (flft κ₇ q₇) ⊛ (‵ (flft κ₈ q₈) ⊛ ‵ ftrue)))))))
 
   abbrev Types : List RattleType
   Types =
       ShrSlice (named 0) κ₀ f64 ∷ usize ∷ usize ∷ ShrSlice (named 1) κ₃ T.the-row
       ∷ MutSlice (named 2) κ₄ f64 ∷ MutSlice (named 3) κ₅ usize
-      ∷ MutSlice (named 4) κ₆ usize ∷ MutSlice (named 5) κ₇ f64 ∷ []
+      ∷ MutSlice (named 4) κ₆ usize ∷ MutSlice (named 5) κ₇ f64 ∷ MutSlice (named 6) κ₈ usize ∷ []
 
   -- at the exit, before the result: the tokens, the slices that are read, and the last lists of the others
-  abbrev Left : List Float → List ℕ → List ℕ → List Float → List (Item 𝓤) → List (Item 𝓤)
-  Left w₄ w₅ w₆ w₇ rest =
-      ‵ (flft κ₀ q₀) ∷ ‵ (flft κ₃ q₃) ∷ ‵ (flft κ₄ q₄) ∷ ‵ (flft κ₅ q₅) ∷ ‵ (flft κ₆ q₆) ∷ ‵ (flft κ₇ q₇)
+  abbrev Left : List Float → List ℕ → List ℕ → List Float → List ℕ → List (Item 𝓤) → List (Item 𝓤)
+  Left w₄ w₅ w₆ w₇ w₈ rest =
+      ‵ (flft κ₀ q₀) ∷ ‵ (flft κ₃ q₃)
+      ∷ ‵ (flft κ₄ q₄) ∷ ‵ (flft κ₅ q₅) ∷ ‵ (flft κ₆ q₆) ∷ ‵ (flft κ₇ q₇) ∷ ‵ (flft κ₈ q₈)
       ∷ ‵ O₀ ∷ ‵ O₃
       ∷ ‵ (finally f64 γ₄ w₄) ∷ ‵ (finally usize γ₅ w₅) ∷ ‵ (finally usize γ₆ w₆) ∷ ‵ (finally f64 γ₇ w₇)
-      ∷ rest
+      ∷ ‵ (finally usize γ₈ w₈) ∷ rest
 
   -- what `trace_flattened` ensures, at the last lists of the outputs
-  abbrev Said : Trace → List Float → List ℕ → List ℕ → List Float → Type 0
-  Said r w₄ w₅ w₆ w₇ =
+  abbrev Said : Trace → List Float → List ℕ → List ℕ → List Float → List ℕ → Type 0
+  Said r w₄ w₅ w₆ w₇ w₈ =
       (ss : List Sample) → length ss ≡ n → Flattened ss P N
-      → afterwards (statedTrace r) (lists w₄ w₅ w₆ w₇)
-      ≡ traceFlat d₀ d₁ d₂ (pairsOf ss) (marksOf ss) (lists d₄ d₅ d₆ d₇)
+      → afterwards (statedTrace r) (lists w₄ w₅ w₆ w₇ w₈)
+      ≡ traceFlat d₀ d₁ d₂ (pairsOf ss) (marksOf ss) (lists d₄ d₅ d₆ d₇ d₈)
 
-  exits : d₁ < 2 ^ 64 → d₂ < 2 ^ 64 → (r : Trace) (v : Val) (w₄ : List Float) (w₅ w₆ : List ℕ) (w₇ : List Float)
-      → Said r w₄ w₅ w₆ w₇
+  exits : d₁ < 2 ^ 64 → d₂ < 2 ^ 64
+      → (r : Trace) (v : Val) (w₄ : List Float) (w₅ w₆ : List ℕ) (w₇ : List Float) (w₈ : List ℕ)
+      → Said r w₄ w₅ w₆ w₇ w₈
       → length w₄ ≡ length d₄ → length w₅ ≡ length d₅ → length w₆ ≡ length d₆ → length w₇ ≡ length d₇
-      → ent 𝓤 (⋆ 𝓤 H A (Left w₄ w₅ w₆ w₇ (‵ (An.the-row .own r (v ∷ [])) ∷ []))) (Post v)
-  exits g₁ g₂ r v w₄ w₅ w₆ w₇ said e₄ e₅ e₆ e₇ =
-      qed W (Left w₄ w₅ w₆ w₇ (‵ (An.the-row .own r (v ∷ [])) ∷ [])) ∵
+      → length w₈ ≡ length d₈
+      → ent 𝓤 (⋆ 𝓤 H A (Left w₄ w₅ w₆ w₇ w₈ (‵ (An.the-row .own r (v ∷ [])) ∷ []))) (Post v)
+  exits g₁ g₂ r v w₄ w₅ w₆ w₇ w₈ said e₄ e₅ e₆ e₇ e₈ =
+      qed W (Left w₄ w₅ w₆ w₇ w₈ (‵ (An.the-row .own r (v ∷ [])) ∷ [])) ∵
       suffices ! _ (ends-at 𝓤 H A f.ended stayed (f.clauses 𝓤 H A mem run) W bound v r
-      (tt, (tt, (tt, (tt, (w₄, (w₅, (w₆, (w₇, tt)))))))) (tt, (tt, (tt, (tt, (e₄, (e₅, (e₆, (e₇, tt))))))))) $
-      says-both ! (said d₃ refl (flattened d₃ xF xB lF lB)) (demand3 d₀ d₁ d₂) $
-      nothing ! $ move ! (6 ∷ 0 ∷ []) $ join ! $ move ! (5 ∷ 0 ∷ []) $ join ! $ move ! (4 ∷ 0 ∷ []) $ join ! $
-      move ! (3 ∷ 0 ∷ []) $ join ! $ move ! (2 ∷ 0 ∷ []) $ join ! $ move ! (1 ∷ 0 ∷ []) $ join ! $ frame ! $
-      nothing ! $ move ! (6 ∷ 0 ∷ []) $ fjoin ! $ move ! (5 ∷ 0 ∷ []) $ fjoin ! $ move ! (4 ∷ 0 ∷ []) $ fjoin ! $
-      move ! (3 ∷ 0 ∷ []) $ fjoin ! $ move ! (2 ∷ 0 ∷ []) $ fjoin ! $
+      (tt & tt & tt & tt & w₄ & w₅ & w₆ & w₇ & w₈ & tt) (tt & tt & tt & tt & e₄ & e₅ & e₆ & e₇ & e₈ & tt)) $
+      says-three ! (said d₃ refl (flattened d₃ xF xB lF lB)) (demand3 d₀ d₁ d₂) (numbers-met d₀ d₁ d₂) $
+      nothing ! $ move ! (7 ∷ 0 ∷ []) $ join ! $ move ! (6 ∷ 0 ∷ []) $ join ! $ move ! (5 ∷ 0 ∷ []) $ join ! $
+      move ! (4 ∷ 0 ∷ []) $ join ! $ move ! (3 ∷ 0 ∷ []) $ join ! $ move ! (2 ∷ 0 ∷ []) $ join ! $ move ! (1 ∷ 0 ∷ []) $
+      join ! $ frame ! $
+      nothing ! $ move ! (7 ∷ 0 ∷ []) $ fjoin ! $ move ! (6 ∷ 0 ∷ []) $ fjoin ! $ move ! (5 ∷ 0 ∷ []) $ fjoin ! $
+      move ! (4 ∷ 0 ∷ []) $ fjoin ! $ move ! (3 ∷ 0 ∷ []) $ fjoin ! $ move ! (2 ∷ 0 ∷ []) $ fjoin ! $
       owned ! usize (Is usize) (uint-makes 𝓤 H A W w64) d₂ _ (refl, g₂) $ fjoin ! $
       owned ! usize (Is usize) (uint-makes 𝓤 H A W w64) d₁ _ (refl, g₁) $ fjoin ! $ move ! (1 ∷ 0 ∷ []) $ fjoin ! $
       frame ! $ done !
@@ -282,16 +299,16 @@ module _ {M : Type 1} (𝓤 : URA M) (H : Heap 𝓤) (A : Atoms 𝓤) (W : Given
       ⊛ raw (fact 𝓤 ((zs .1 .0 ≡ P) × (zs .1 .1 .0 ≡ N)))
 
   -- ---- `trace_flattened`, likewise
-  abbrev traced-lfts : ℕ → ℕ → Lfts 7
-  traced-lfts ν ν′ = (κ₀, (ν ∷ [], (ν′ ∷ [], (κ₄, (κ₅, (κ₆, (κ₇, tt)))))))
+  abbrev traced-lfts : ℕ → ℕ → Lfts 8
+  traced-lfts ν ν′ = (κ₀, (ν ∷ [], (ν′ ∷ [], (κ₄, (κ₅, (κ₆, (κ₇, (κ₈, tt))))))))
 
-  abbrev traced-shares : Shares 7
-  traced-shares = (q₀, (fullShare, (fullShare, (q₄, (q₅, (q₆, (q₇, tt)))))))
+  abbrev traced-shares : Shares 8
+  traced-shares = (q₀, (fullShare, (fullShare, (q₄, (q₅, (q₆, (q₇, (q₈, tt))))))))
 
   abbrev traced-args : ℕ → ℕ → GName → GName
       → RefT (List Float) × (ℕ × (ℕ × (RefT (List Float) × (RefT (List ℕ) × (ℕ
-      × (RefT (List Float) × (RefT (List ℕ) × (RefT (List ℕ) × (RefT (List Float) × Unit {0})))))))))
-  traced-args l l′ δ δ′ = (x₀, (d₁, (d₂, (aF l δ P, (aB l′ δ′ N, (n, (x₄, (x₅, (x₆, (x₇, tt))))))))))
+      × (RefT (List Float) × (RefT (List ℕ) × (RefT (List ℕ) × (RefT (List Float) × (RefT (List ℕ) × Unit {0}))))))))))
+  traced-args l l′ δ δ′ = (x₀, (d₁, (d₂, (aF l δ P, (aB l′ δ′ N, (n, (x₄, (x₅, (x₆, (x₇, (x₈, tt)))))))))))
 
   abbrev to-traced : ℕ → ℕ → ℕ → ℕ → GName → GName → Traced 𝓤 H A mem run .Ghost
   to-traced l l′ ν ν′ δ δ′ = (
@@ -301,7 +318,7 @@ module _ {M : Type 1} (𝓤 : URA M) (H : Heap 𝓤) (A : Atoms 𝓤) (W : Given
       tt,
       traced-args l l′ δ δ′,
       (s₀ ∷ []) & (vint w64 d₁ ∷ []) & (vint w64 d₂ ∷ []) & (vptr l 0 ∷ []) & (vptr l′ 0 ∷ []) & (vint w64 n ∷ [])
-          & (s₄ ∷ []) & (s₅ ∷ []) & (s₆ ∷ []) & (s₇ ∷ []) & tt,
+          & (s₄ ∷ []) & (s₅ ∷ []) & (s₆ ∷ []) & (s₇ ∷ []) & (s₈ ∷ []) & tt,
     ),
     tt,
   )
@@ -309,185 +326,198 @@ module _ {M : Type 1} (𝓤 : URA M) (H : Heap 𝓤) (A : Atoms 𝓤) (W : Given
   abbrev Traced-given : ℕ → ℕ → ℕ → ℕ → GName → GName → List (Item 𝓤)
   Traced-given l l′ ν ν′ δ δ′ =
       ‵ (flft κ₀ q₀) ∷ ‵ (flft (ν ∷ []) fullShare) ∷ ‵ (flft (ν′ ∷ []) fullShare)
-      ∷ ‵ (flft κ₄ q₄) ∷ ‵ (flft κ₅ q₅) ∷ ‵ (flft κ₆ q₆) ∷ ‵ (flft κ₇ q₇)
-      ∷ ‵ O₀ ∷ ‵ (SharedF l ν δ) ∷ ‵ (SharedB l′ ν′ δ′) ∷ ‵ O₄ ∷ ‵ O₅ ∷ ‵ O₆ ∷ ‵ O₇ ∷ []
+      ∷ ‵ (flft κ₄ q₄) ∷ ‵ (flft κ₅ q₅) ∷ ‵ (flft κ₆ q₆) ∷ ‵ (flft κ₇ q₇) ∷ ‵ (flft κ₈ q₈)
+      ∷ ‵ O₀ ∷ ‵ (SharedF l ν δ) ∷ ‵ (SharedB l′ ν′ δ′) ∷ ‵ O₄ ∷ ‵ O₅ ∷ ‵ O₆ ∷ ‵ O₇ ∷ ‵ O₈ ∷ []
 
   goes-traced : d₁ < 2 ^ 64 → d₂ < 2 ^ 64 → n < 2 ^ 64 → (l l′ ν ν′ : ℕ) (δ δ′ : GName)
       → ent 𝓤 (⋆ 𝓤 H A (Traced-given l l′ ν ν′ δ δ′)) (Traced 𝓤 H A mem run .pre (to-traced l l′ ν ν′ δ δ′))
   goes-traced g₁ g₂ gn l l′ ν ν′ δ δ′ =
       qed W (Traced-given l l′ ν ν′ δ δ′) ∵
-      nothing ! $ move ! (7 ∷ 0 ∷ []) $ join ! $ move ! (6 ∷ 0 ∷ []) $ join ! $ move ! (5 ∷ 0 ∷ []) $ join ! $
-      move ! (4 ∷ 0 ∷ []) $ join ! $ move ! (3 ∷ 0 ∷ []) $ join ! $ move ! (2 ∷ 0 ∷ []) $ join ! $ move ! (1 ∷ 0 ∷ []) $
-      join ! $
-      nothing ! $ move ! (8 ∷ 0 ∷ []) $ fjoin ! $ move ! (7 ∷ 0 ∷ []) $ fjoin ! $ move ! (6 ∷ 0 ∷ []) $ fjoin ! $
-      move ! (5 ∷ 0 ∷ []) $ fjoin ! $ owned ! usize (Is usize) (uint-makes 𝓤 H A W w64) n _ (refl, gn) $ fjoin ! $
-      move ! (4 ∷ 0 ∷ []) $ fjoin ! $ move ! (3 ∷ 0 ∷ []) $ fjoin ! $
-      owned ! usize (Is usize) (uint-makes 𝓤 H A W w64) d₂ _ (refl, g₂) $ fjoin ! $
+      nothing ! $ move ! (8 ∷ 0 ∷ []) $ join ! $ move ! (7 ∷ 0 ∷ []) $ join ! $ move ! (6 ∷ 0 ∷ []) $ join ! $
+      move ! (5 ∷ 0 ∷ []) $ join ! $ move ! (4 ∷ 0 ∷ []) $ join ! $ move ! (3 ∷ 0 ∷ []) $ join ! $ move ! (2 ∷ 0 ∷ []) $
+      join ! $ move ! (1 ∷ 0 ∷ []) $ join ! $
+      nothing ! $ move ! (9 ∷ 0 ∷ []) $ fjoin ! $ move ! (8 ∷ 0 ∷ []) $ fjoin ! $ move ! (7 ∷ 0 ∷ []) $ fjoin ! $
+      move ! (6 ∷ 0 ∷ []) $ fjoin ! $ move ! (5 ∷ 0 ∷ []) $ fjoin ! $
+      owned ! usize (Is usize) (uint-makes 𝓤 H A W w64) n _ (refl, gn) $ fjoin ! $ move ! (4 ∷ 0 ∷ []) $ fjoin ! $
+      move ! (3 ∷ 0 ∷ []) $ fjoin ! $ owned ! usize (Is usize) (uint-makes 𝓤 H A W w64) d₂ _ (refl, g₂) $ fjoin ! $
       owned ! usize (Is usize) (uint-makes 𝓤 H A W w64) d₁ _ (refl, g₁) $ fjoin ! $ move ! (2 ∷ 0 ∷ []) $ fjoin ! $
       move ! (1 ∷ 0 ∷ []) $ join ! $ frame ! $ nothing ! $ done !
 
   abbrev After-traced : ℕ → ℕ → ℕ → ℕ → GName → GName → Val → Trace → Item 𝓤
   After-traced l l′ ν ν′ δ δ′ v r =
       ((‵ (flft κ₀ q₀) ⊛ (‵ (flft (ν ∷ []) fullShare) ⊛ (‵ (flft (ν′ ∷ []) fullShare)
-      ⊛ (‵ (flft κ₄ q₄) ⊛ (‵ (flft κ₅ q₅) ⊛ (‵ (flft κ₆ q₆) ⊛ (‵ (flft κ₇ q₇) ⊛ ‵ ftrue)))))))
+      ⊛ (‵ (flft κ₄ q₄) ⊛ (‵ (flft κ₅ q₅) ⊛ (‵ (flft κ₆ q₆) ⊛ (‵ (flft κ₇ q₇) ⊛ (‵ (flft κ₈ q₈) ⊛ ‵ ftrue))))))))
       ⊛ ‵ (An.the-row .own r (v ∷ [])))
       ⊛ raw (ensured 𝓤 H A traced.ended (traced.clauses 𝓤 H A mem run) (traced-lfts ν ν′) (traced-args l l′ δ δ′) tt r)
 
   abbrev Traced-said : ℕ → ℕ → ℕ → ℕ → GName → GName → Trace
       → Unit {0} × (Unit {0} × (Unit {0} × (Unit {0} × (Unit {0} × (Unit {0}
-      × (List Float × (List ℕ × (List ℕ × (List Float × Unit {0}))))))))) → Item 𝓤
+      × (List Float × (List ℕ × (List ℕ × (List Float × (List ℕ × Unit {0})))))))))) → Item 𝓤
   Traced-said l l′ ν ν′ δ δ′ r ws =
       ‵ (lasts traced.ended (traced-lfts ν ν′) (traced-args l l′ δ δ′) ws)
       ⊛ raw (fact 𝓤 (Said r (ws .1 .1 .1 .1 .1 .1 .0) (ws .1 .1 .1 .1 .1 .1 .1 .0)
-      (ws .1 .1 .1 .1 .1 .1 .1 .1 .0) (ws .1 .1 .1 .1 .1 .1 .1 .1 .1 .0)))
+      (ws .1 .1 .1 .1 .1 .1 .1 .1 .0) (ws .1 .1 .1 .1 .1 .1 .1 .1 .1 .0)
+      (ws .1 .1 .1 .1 .1 .1 .1 .1 .1 .1 .0)))
 
   module _ (C : Calls 𝓤 H) (Λ : Loops 𝓤 H) (fm : FmC 𝓤 H (W .laws) C)
       (known-flat : Triple 𝓤 (C #records·flatten) (Flat 𝓤 H A mem run))
       (known-traced : Triple 𝓤 (C #records·trace-flattened) (Traced 𝓤 H A mem run)) where
     walk : Room f64 (length d₀) → d₁ < 2 ^ 64 → d₂ < 2 ^ 64 → Room T.the-row (length d₃)
         → Room f64 (length d₄) → Room usize (length d₅) → Room usize (length d₆) → Room f64 (length d₇)
+        → Room usize (length d₈)
         → ent 𝓤 (onEntry 𝓤 H A f.signature κs qs a at) (WpFn 𝓤 H C Λ code.function args Post)
-    walk g₀ g₁ g₂ g₃ g₄ g₅ g₆ g₇ =
+    walk g₀ g₁ g₂ g₃ g₄ g₅ g₆ g₇ g₈ =
         qed W (Tokens ∷ ‵ (owns Types a at) ∷ []) ∵ enter ! C Λ code.function args _ $
         alloc1 ! (λ l₀. alloc1 ! (λ l₁. alloc1 ! (λ l₂. alloc1 ! (λ l₃. alloc1 ! (λ l₄. alloc1 ! (λ l₅. alloc1 ! (λ l₆.
         alloc1 ! (λ l₇. alloc1 ! (λ l₈. alloc1 ! (λ l₉. alloc1 ! (λ l₁₀. alloc1 ! (λ l₁₁. alloc1 ! (λ l₁₂.
         alloc1 ! (λ l₁₃. alloc1 ! (λ l₁₄. alloc1 ! (λ l₁₅. alloc1 ! (λ l₁₆. alloc1 ! (λ l₁₇. alloc1 ! (λ l₁₈.
-        alloc1 ! (λ l₁₉. alloc1 ! (λ l₂₀. alloc1 ! (λ l₂₁. alloc1 ! (λ l₂₂. alloc1 ! (λ l₂₃. alloc1 ! (λ l₂₄. alloc0 ! $
-        params1 ! $
-        pass1 ! (init ! 46 refl (tt, (tt, (record { fits = g₀ .0 }, tt)))) $
-        pass1 ! (init ! 44 refl (tt, record { fits = g₁ })) $
-        pass1 ! (init ! 42 refl (tt, record { fits = g₂ })) $
-        pass1 ! (init ! 40 refl (tt, (tt, (record { fits = g₃ .0 }, tt)))) $
-        pass1 ! (init ! 38 refl (tt, (tt, (record { fits = g₄ .0 }, tt)))) $
-        pass1 ! (init ! 36 refl (tt, (tt, (record { fits = g₅ .0 }, tt)))) $
-        pass1 ! (init ! 34 refl (tt, (tt, (record { fits = g₆ .0 }, tt)))) $
-        pass1 ! (init ! 32 refl (tt, (tt, (record { fits = g₇ .0 }, tt)))) $ pass0 ! $
+        alloc1 ! (λ l₁₉. alloc1 ! (λ l₂₀. alloc1 ! (λ l₂₁. alloc1 ! (λ l₂₂. alloc1 ! (λ l₂₃. alloc1 ! (λ l₂₄.
+        alloc1 ! (λ l₂₅. alloc1 ! (λ l₂₆. alloc1 ! (λ l₂₇. alloc0 ! $ params1 ! $
+        pass1 ! (init ! 52 refl (tt, (tt, (record { fits = g₀ .0 }, tt)))) $
+        pass1 ! (init ! 50 refl (tt, record { fits = g₁ })) $
+        pass1 ! (init ! 48 refl (tt, record { fits = g₂ })) $
+        pass1 ! (init ! 46 refl (tt, (tt, (record { fits = g₃ .0 }, tt)))) $
+        pass1 ! (init ! 44 refl (tt, (tt, (record { fits = g₄ .0 }, tt)))) $
+        pass1 ! (init ! 42 refl (tt, (tt, (record { fits = g₅ .0 }, tt)))) $
+        pass1 ! (init ! 40 refl (tt, (tt, (record { fits = g₆ .0 }, tt)))) $
+        pass1 ! (init ! 38 refl (tt, (tt, (record { fits = g₇ .0 }, tt)))) $
+        pass1 ! (init ! 36 refl (tt, (tt, (record { fits = g₈ .0 }, tt)))) $ pass0 ! $
         -- two lists of zeros
         use0 W (‵ (F .own xF (vF ∷ []))) (owned-F 𝓤 H A W) $ use0 W (‵ (B .own xB (vB ∷ []))) (owned-B 𝓤 H A W) $
-        fills ! 131074 (tyFloat binary64) (float-lit ! tt) refl 32 refl
+        fills ! 131074 (tyFloat binary64) (float-lit ! tt) refl 36 refl
         (float-lawful 𝓤 H A W binary64 .typed z _ (refl, zero-fits) .0) $
-        fills ! 65537 (tyInt w8) (lit ! tt) refl 30 refl (tt, record { fits = lit< tt }) $
+        fills ! 65537 (tyInt w8) (lit ! tt) refl 34 refl (tt, record { fits = lit< tt }) $
         -- they are lent by `&mut`, each for a lifetime made for the call
-        assigns ! (addr ! (from ! (stop !))) (from ! (stop !)) (init ! 26 refl (tt, tt)) $
-        assigns ! (addr ! (from ! (stop !))) (from ! (stop !)) (init ! 24 refl (tt, tt)) $
-        move ! (32 ∷ 1 ∷ []) $ use2 W (‵ (partAt F fullShare xF l₉ 0)) (in-mem 𝓤 H A W f64 131074 xF vF l₉ 0) $
+        assigns ! (addr ! (from ! (stop !))) (from ! (stop !)) (init ! 30 refl (tt, tt)) $
+        assigns ! (addr ! (from ! (stop !))) (from ! (stop !)) (init ! 28 refl (tt, tt)) $
+        move ! (36 ∷ 1 ∷ []) $ use2 W (‵ (partAt F fullShare xF l₁₀ 0)) (in-mem 𝓤 H A W f64 131074 xF vF l₁₀ 0) $
         lft-new ! tt (λ ν₁. move ! (1 ∷ []) $
-        use1 W (later (some (λ (δ : GName). ‵ (LentF l₉ ν₁ δ) ⊛ ‵ (flent (ν₁ ∷ []) (Body (memOf F) l₉ 0 δ)))))
-        (lends-ref 𝓤 H A W F (named 1) (ν₁ ∷ []) xF l₉ 0) $
+        use1 W (later (some (λ (δ : GName). ‵ (LentF l₁₀ ν₁ δ) ⊛ ‵ (flent (ν₁ ∷ []) (Body (memOf F) l₁₀ 0 δ)))))
+        (lends-ref 𝓤 H A W F (named 1) (ν₁ ∷ []) xF l₁₀ 0) $
         await ! tt $ pick ! (λ δ₁. split ! $
-        move ! (32 ∷ 3 ∷ []) $ use2 W (‵ (partAt B fullShare xB l₁₀ 0)) (in-mem 𝓤 H A W u8 65537 xB vB l₁₀ 0) $
+        move ! (36 ∷ 3 ∷ []) $ use2 W (‵ (partAt B fullShare xB l₁₁ 0)) (in-mem 𝓤 H A W u8 65537 xB vB l₁₁ 0) $
         lft-new ! tt (λ ν₂. move ! (1 ∷ []) $
-        use1 W (later (some (λ (δ : GName). ‵ (LentB l₁₀ ν₂ δ) ⊛ ‵ (flent (ν₂ ∷ []) (Body (memOf B) l₁₀ 0 δ)))))
-        (lends-ref 𝓤 H A W B (named 2) (ν₂ ∷ []) xB l₁₀ 0) $
+        use1 W (later (some (λ (δ : GName). ‵ (LentB l₁₁ ν₂ δ) ⊛ ‵ (flent (ν₂ ∷ []) (Body (memOf B) l₁₁ 0 δ)))))
+        (lends-ref 𝓤 H A W B (named 2) (ν₂ ∷ []) xB l₁₁ 0) $
         await ! tt $ pick ! (λ δ₂. split ! $
         -- `flatten`
-        move ! (55 ∷ []) $ fsplit ! $ move ! (1 ∷ []) $ fsplit ! $ move ! (1 ∷ []) $ fsplit ! $ move ! (1 ∷ []) $
+        move ! (61 ∷ []) $ fsplit ! $ move ! (1 ∷ []) $ fsplit ! $ move ! (1 ∷ []) $ fsplit ! $ move ! (1 ∷ []) $
         fsplit ! $ move ! (1 ∷ []) $ fsplit ! $ move ! (1 ∷ []) $ fsplit ! $ move ! (1 ∷ []) $ fsplit ! $
-        move ! (1 ∷ []) $ fsplit ! $ move ! (63 ∷ []) $ split ! $ move ! (1 ∷ []) $ split ! $ move ! (1 ∷ []) $
-        split ! $ move ! (1 ∷ []) $ split ! $ move ! (1 ∷ []) $ split ! $ move ! (1 ∷ []) $ split ! $
-        move ! (12 ∷ []) $ use1 W (‵ O₃ ⊛ ‵ O₃) (shr-slice-copy 𝓤 H A W (named 1) κ₃ T.the-row .twice x₃ (s₃ ∷ [])) $
-        split ! $ move ! (7 ∷ 22 ∷ 19 ∷ 1 ∷ 20 ∷ 17 ∷ []) $ group ! 6 $
-        use1 W (raw (Flat 𝓤 H A mem run .pre (to-flat l₉ l₁₀ ν₁ ν₂ δ₁ δ₂))) (goes-flat l₉ l₁₀ ν₁ ν₂ δ₁ δ₂) $
-        calls-at ! fm (Flat 𝓤 H A mem run) known-flat (to-flat l₉ l₁₀ ν₁ ν₂ δ₁ δ₂) (and-then ! (local ! 56 refl)
-        (and-then ! (local ! 42 refl) (and-then ! (local ! 40 refl) (no-more !)))) (λ u.
-        use1 W (later (some (After-flat l₉ l₁₀ ν₁ ν₂ δ₁ δ₂ u))) (id⊢ 𝓤 _) $ await ! tt $ pick ! (λ y. split ! $
-        move ! (1 ∷ []) $ use1 W (some (Flat-said l₉ l₁₀ ν₁ ν₂ δ₁ δ₂)) (id⊢ 𝓤 _) $ pick ! (λ zs. split ! $
+        move ! (1 ∷ []) $ fsplit ! $ move ! (1 ∷ []) $ fsplit ! $ move ! (70 ∷ []) $ split ! $ move ! (1 ∷ []) $
+        split ! $ move ! (1 ∷ []) $ split ! $ move ! (1 ∷ []) $ split ! $ move ! (1 ∷ []) $ split ! $ move ! (1 ∷ []) $
+        split ! $ move ! (1 ∷ []) $ split ! $
+        move ! (14 ∷ []) $ use1 W (‵ O₃ ⊛ ‵ O₃) (shr-slice-copy 𝓤 H A W (named 1) κ₃ T.the-row .twice x₃ (s₃ ∷ [])) $
+        split ! $ move ! (8 ∷ 24 ∷ 21 ∷ 1 ∷ 22 ∷ 19 ∷ []) $ group ! 6 $
+        use1 W (raw (Flat 𝓤 H A mem run .pre (to-flat l₁₀ l₁₁ ν₁ ν₂ δ₁ δ₂))) (goes-flat l₁₀ l₁₁ ν₁ ν₂ δ₁ δ₂) $
+        calls-at ! fm (Flat 𝓤 H A mem run) known-flat (to-flat l₁₀ l₁₁ ν₁ ν₂ δ₁ δ₂) (and-then ! (local ! 64 refl)
+        (and-then ! (local ! 48 refl) (and-then ! (local ! 46 refl) (no-more !)))) (λ u.
+        use1 W (later (some (After-flat l₁₀ l₁₁ ν₁ ν₂ δ₁ δ₂ u))) (id⊢ 𝓤 _) $ await ! tt $ pick ! (λ y. split ! $
+        move ! (1 ∷ []) $ use1 W (some (Flat-said l₁₀ l₁₁ ν₁ ν₂ δ₁ δ₂)) (id⊢ 𝓤 _) $ pick ! (λ zs. split ! $
         move ! (1 ∷ []) $ heard ! ((zs .1 .0 ≡ P) × (zs .1 .1 .0 ≡ N)) (λ e.
         fsplit ! $ move ! (1 ∷ []) $ fsplit ! $ move ! (1 ∷ []) $ fsplit ! $ move ! (4 ∷ []) $ split ! $
         move ! (1 ∷ []) $ feqL ! (λ eu.
         land ! (from ! (stop !))
-        (init ! 48 refl (subst (λ (y : Val). Holds (hasTy tyUnit y) × WT y) (sym (ap only eu)) (tt, tt))) $
+        (init ! 54 refl (subst (λ (y : Val). Holds (hasTy tyUnit y) × WT y) (sym (ap only eu)) (tt, tt))) $
         -- the lifetimes end, and the lists are back, with the records in them
         split ! $ move ! (1 ∷ []) $ split ! $ move ! (1 ∷ []) $ split ! $
-        move ! (2 ∷ []) $ lft-end ! tt $ move ! (0 ∷ 24 ∷ 6 ∷ []) $
-        use3 W (later (‵ (partAt F fullShare (zs .1 .0) l₉ 0))) (ref-back 𝓤 H A W F (ν₁ ∷ []) δ₁ (zs .1 .0) l₉ 0) $
-        await ! tt $ rewrite ! 0 (λ (l : List Float). ‵ (partAt F fullShare l l₉ 0)) (e .0) refl $
-        move ! (1 ∷ []) $ lft-end ! tt $ move ! (0 ∷ 22 ∷ 4 ∷ []) $
-        use3 W (later (‵ (partAt B fullShare (zs .1 .1 .0) l₁₀ 0)))
-        (ref-back 𝓤 H A W B (ν₂ ∷ []) δ₂ (zs .1 .1 .0) l₁₀ 0) $
-        await ! tt $ rewrite ! 0 (λ (l : List ℕ). ‵ (partAt B fullShare l l₁₀ 0)) (e .1) refl $
+        move ! (2 ∷ []) $ lft-end ! tt $ move ! (0 ∷ 26 ∷ 6 ∷ []) $
+        use3 W (later (‵ (partAt F fullShare (zs .1 .0) l₁₀ 0))) (ref-back 𝓤 H A W F (ν₁ ∷ []) δ₁ (zs .1 .0) l₁₀ 0) $
+        await ! tt $ rewrite ! 0 (λ (l : List Float). ‵ (partAt F fullShare l l₁₀ 0)) (e .0) refl $
+        move ! (1 ∷ []) $ lft-end ! tt $ move ! (0 ∷ 24 ∷ 4 ∷ []) $
+        use3 W (later (‵ (partAt B fullShare (zs .1 .1 .0) l₁₁ 0)))
+        (ref-back 𝓤 H A W B (ν₂ ∷ []) δ₂ (zs .1 .1 .0) l₁₁ 0) $
+        await ! tt $ rewrite ! 0 (λ (l : List ℕ). ‵ (partAt B fullShare l l₁₁ 0)) (e .1) refl $
         -- what `trace_flattened` is passed
-        assigns ! (addr ! (from ! (stop !))) (from ! (stop !)) (init ! 41 refl (tt, tt)) $
-        assigns ! (addr ! (from ! (stop !))) (from ! (stop !)) (init ! 39 refl (tt, tt)) $
-        assigns ! (of-opd ! (load ! (from ! (fld ! refl (stop !))) (look-in ! 59 (sub ! 1 refl (whole !)))))
-        (from ! (stop !)) (init ! 37 refl (tt, record { fits = g₃ .0 })) $
+        assigns ! (addr ! (from ! (stop !))) (from ! (stop !)) (init ! 47 refl (tt, tt)) $
+        assigns ! (addr ! (from ! (stop !))) (from ! (stop !)) (init ! 45 refl (tt, tt)) $
+        assigns ! (of-opd ! (load ! (from ! (fld ! refl (stop !))) (look-in ! 67 (sub ! 1 refl (whole !)))))
+        (from ! (stop !)) (init ! 43 refl (tt, record { fits = g₃ .0 })) $
+        assigns ! (addr ! (from ! (fld ! refl (hop ! (look-in ! 65 (sub ! 0 refl (whole !))) (stop !)))))
+        (from ! (stop !)) (init ! 41 refl (tt, tt)) $
+        assigns ! (agg ! (and-then ! (local ! 41 refl)
+        (and-then ! (load ! (from ! (fld ! refl (stop !))) (look-in ! 65 (sub ! 1 refl (whole !)))) (no-more !))))
+        (from ! (stop !)) (init ! 39 refl (tt, (tt, (record { fits = g₄ .0 }, tt)))) $
+        assigns ! (addr ! (from ! (fld ! refl (hop ! (look-in ! 63 (sub ! 0 refl (whole !))) (stop !)))))
+        (from ! (stop !)) (init ! 37 refl (tt, tt)) $
+        assigns ! (agg ! (and-then ! (local ! 37 refl)
+        (and-then ! (load ! (from ! (fld ! refl (stop !))) (look-in ! 63 (sub ! 1 refl (whole !)))) (no-more !))))
+        (from ! (stop !)) (init ! 35 refl (tt, (tt, (record { fits = g₅ .0 }, tt)))) $
+        assigns ! (addr ! (from ! (fld ! refl (hop ! (look-in ! 61 (sub ! 0 refl (whole !))) (stop !)))))
+        (from ! (stop !)) (init ! 33 refl (tt, tt)) $
+        assigns ! (agg ! (and-then ! (local ! 33 refl)
+        (and-then ! (load ! (from ! (fld ! refl (stop !))) (look-in ! 61 (sub ! 1 refl (whole !)))) (no-more !))))
+        (from ! (stop !)) (init ! 31 refl (tt, (tt, (record { fits = g₆ .0 }, tt)))) $
+        assigns ! (addr ! (from ! (fld ! refl (hop ! (look-in ! 59 (sub ! 0 refl (whole !))) (stop !)))))
+        (from ! (stop !)) (init ! 29 refl (tt, tt)) $
+        assigns ! (agg ! (and-then ! (local ! 29 refl)
+        (and-then ! (load ! (from ! (fld ! refl (stop !))) (look-in ! 59 (sub ! 1 refl (whole !)))) (no-more !))))
+        (from ! (stop !)) (init ! 27 refl (tt, (tt, (record { fits = g₇ .0 }, tt)))) $
         assigns ! (addr ! (from ! (fld ! refl (hop ! (look-in ! 57 (sub ! 0 refl (whole !))) (stop !)))))
-        (from ! (stop !)) (init ! 35 refl (tt, tt)) $
-        assigns ! (agg ! (and-then ! (local ! 35 refl)
+        (from ! (stop !)) (init ! 25 refl (tt, tt)) $
+        assigns ! (agg ! (and-then ! (local ! 25 refl)
         (and-then ! (load ! (from ! (fld ! refl (stop !))) (look-in ! 57 (sub ! 1 refl (whole !)))) (no-more !))))
-        (from ! (stop !)) (init ! 33 refl (tt, (tt, (record { fits = g₄ .0 }, tt)))) $
-        assigns ! (addr ! (from ! (fld ! refl (hop ! (look-in ! 55 (sub ! 0 refl (whole !))) (stop !)))))
-        (from ! (stop !)) (init ! 31 refl (tt, tt)) $
-        assigns ! (agg ! (and-then ! (local ! 31 refl)
-        (and-then ! (load ! (from ! (fld ! refl (stop !))) (look-in ! 55 (sub ! 1 refl (whole !)))) (no-more !))))
-        (from ! (stop !)) (init ! 29 refl (tt, (tt, (record { fits = g₅ .0 }, tt)))) $
-        assigns ! (addr ! (from ! (fld ! refl (hop ! (look-in ! 53 (sub ! 0 refl (whole !))) (stop !)))))
-        (from ! (stop !)) (init ! 27 refl (tt, tt)) $
-        assigns ! (agg ! (and-then ! (local ! 27 refl)
-        (and-then ! (load ! (from ! (fld ! refl (stop !))) (look-in ! 53 (sub ! 1 refl (whole !)))) (no-more !))))
-        (from ! (stop !)) (init ! 25 refl (tt, (tt, (record { fits = g₆ .0 }, tt)))) $
-        assigns ! (addr ! (from ! (fld ! refl (hop ! (look-in ! 51 (sub ! 0 refl (whole !))) (stop !)))))
-        (from ! (stop !)) (init ! 23 refl (tt, tt)) $
-        assigns ! (agg ! (and-then ! (local ! 23 refl)
-        (and-then ! (load ! (from ! (fld ! refl (stop !))) (look-in ! 51 (sub ! 1 refl (whole !)))) (no-more !))))
-        (from ! (stop !)) (init ! 21 refl (tt, (tt, (record { fits = g₇ .0 }, tt)))) $
+        (from ! (stop !)) (init ! 23 refl (tt, (tt, (record { fits = g₈ .0 }, tt)))) $
         -- the lists are lent by `&`
         lft-new ! tt (λ ν₃. move ! (2 ∷ []) $
-        use1 W (later (some (λ (δ : GName). ‵ (SharedF l₉ ν₃ δ) ⊛ ‵ (flent (ν₃ ∷ []) (partAt F fullShare P l₉ 0)))))
-        (lends-shr 𝓤 H A W F (named 1) (ν₃ ∷ []) fullShare P l₉ 0) $
+        use1 W (later (some (λ (δ : GName). ‵ (SharedF l₁₀ ν₃ δ) ⊛ ‵ (flent (ν₃ ∷ []) (partAt F fullShare P l₁₀ 0)))))
+        (lends-shr 𝓤 H A W F (named 1) (ν₃ ∷ []) fullShare P l₁₀ 0) $
         await ! tt $ pick ! (λ δ₃. split ! $
         lft-new ! tt (λ ν₄. move ! (4 ∷ []) $
-        use1 W (later (some (λ (δ : GName). ‵ (SharedB l₁₀ ν₄ δ) ⊛ ‵ (flent (ν₄ ∷ []) (partAt B fullShare N l₁₀ 0)))))
-        (lends-shr 𝓤 H A W B (named 2) (ν₄ ∷ []) fullShare N l₁₀ 0) $
+        use1 W (later (some (λ (δ : GName). ‵ (SharedB l₁₁ ν₄ δ) ⊛ ‵ (flent (ν₄ ∷ []) (partAt B fullShare N l₁₁ 0)))))
+        (lends-shr 𝓤 H A W B (named 2) (ν₄ ∷ []) fullShare N l₁₁ 0) $
         await ! tt $ pick ! (λ δ₄. split ! $
         -- `trace_flattened`
-        move ! (24 ∷ []) $ use1 W (‵ O₀ ⊛ ‵ O₀) (shr-slice-copy 𝓤 H A W (named 0) κ₀ f64 .twice x₀ (s₀ ∷ [])) $
-        split ! $ move ! (18 ∷ 7 ∷ 4 ∷ 17 ∷ 16 ∷ 15 ∷ 13 ∷ 1 ∷ 5 ∷ 2 ∷ 23 ∷ 22 ∷ 21 ∷ 19 ∷ []) $ group ! 14 $
-        use1 W (raw (Traced 𝓤 H A mem run .pre (to-traced l₉ l₁₀ ν₃ ν₄ δ₃ δ₄)))
-        (goes-traced g₁ g₂ (g₃ .0) l₉ l₁₀ ν₃ ν₄ δ₃ δ₄) $
-        calls-at ! fm (Traced 𝓤 H A mem run) known-traced (to-traced l₉ l₁₀ ν₃ ν₄ δ₃ δ₄) (and-then ! (local ! 57 refl)
-        (and-then ! (local ! 55 refl) (and-then ! (local ! 53 refl) (and-then ! (local ! 33 refl)
-        (and-then ! (local ! 31 refl) (and-then ! (local ! 29 refl) (and-then ! (local ! 25 refl)
-        (and-then ! (local ! 21 refl) (and-then ! (local ! 17 refl)
-        (and-then ! (local ! 13 refl) (no-more !))))))))))) (λ v.
-        use1 W (later (some (After-traced l₉ l₁₀ ν₃ ν₄ δ₃ δ₄ v))) (id⊢ 𝓤 _) $ await ! tt $ pick ! (λ r. split ! $
-        move ! (1 ∷ []) $ use1 W (some (Traced-said l₉ l₁₀ ν₃ ν₄ δ₃ δ₄ r)) (id⊢ 𝓤 _) $ pick ! (λ ws. split ! $
+        move ! (26 ∷ []) $ use1 W (‵ O₀ ⊛ ‵ O₀) (shr-slice-copy 𝓤 H A W (named 0) κ₀ f64 .twice x₀ (s₀ ∷ [])) $
+        split ! $ move ! (19 ∷ 7 ∷ 4 ∷ 18 ∷ 17 ∷ 16 ∷ 15 ∷ 13 ∷ 1 ∷ 5 ∷ 2 ∷ 25 ∷ 24 ∷ 23 ∷ 22 ∷ 20 ∷ []) $ group ! 16 $
+        use1 W (raw (Traced 𝓤 H A mem run .pre (to-traced l₁₀ l₁₁ ν₃ ν₄ δ₃ δ₄)))
+        (goes-traced g₁ g₂ (g₃ .0) l₁₀ l₁₁ ν₃ ν₄ δ₃ δ₄) $
+        calls-at ! fm (Traced 𝓤 H A mem run) known-traced (to-traced l₁₀ l₁₁ ν₃ ν₄ δ₃ δ₄) (and-then ! (local ! 63 refl)
+        (and-then ! (local ! 61 refl) (and-then ! (local ! 59 refl) (and-then ! (local ! 37 refl)
+        (and-then ! (local ! 35 refl) (and-then ! (local ! 33 refl) (and-then ! (local ! 29 refl)
+        (and-then ! (local ! 25 refl) (and-then ! (local ! 21 refl) (and-then ! (local ! 17 refl)
+        (and-then ! (local ! 13 refl) (no-more !)))))))))))) (λ v.
+        use1 W (later (some (After-traced l₁₀ l₁₁ ν₃ ν₄ δ₃ δ₄ v))) (id⊢ 𝓤 _) $ await ! tt $ pick ! (λ r. split ! $
+        move ! (1 ∷ []) $ use1 W (some (Traced-said l₁₀ l₁₁ ν₃ ν₄ δ₃ δ₄ r)) (id⊢ 𝓤 _) $ pick ! (λ ws. split ! $
         move ! (1 ∷ []) $
         heard ! (Said r (ws .1 .1 .1 .1 .1 .1 .0) (ws .1 .1 .1 .1 .1 .1 .1 .0) (ws .1 .1 .1 .1 .1 .1 .1 .1 .0)
-        (ws .1 .1 .1 .1 .1 .1 .1 .1 .1 .0)) (λ said.
+        (ws .1 .1 .1 .1 .1 .1 .1 .1 .1 .0) (ws .1 .1 .1 .1 .1 .1 .1 .1 .1 .1 .0)) (λ said.
         fsplit ! $ move ! (1 ∷ []) $ fsplit ! $ move ! (1 ∷ []) $ fsplit ! $ move ! (1 ∷ []) $ fsplit ! $
         move ! (1 ∷ []) $ fsplit ! $ move ! (1 ∷ []) $ fsplit ! $ move ! (1 ∷ []) $ fsplit ! $ fsplit ! $
         move ! (1 ∷ []) $ feqL ! (λ e₄. move ! (1 ∷ []) $ fsplit ! $ fsplit ! $ move ! (1 ∷ []) $ feqL ! (λ e₅.
         move ! (1 ∷ []) $ fsplit ! $ fsplit ! $ move ! (1 ∷ []) $ feqL ! (λ e₆. move ! (1 ∷ []) $ fsplit ! $ fsplit ! $
-        move ! (1 ∷ []) $ feqL ! (λ e₇. move ! (11 ∷ []) $ split ! $ move ! (1 ∷ []) $
+        move ! (1 ∷ []) $ feqL ! (λ e₇. move ! (1 ∷ []) $ fsplit ! $ fsplit ! $ move ! (1 ∷ []) $ feqL ! (λ e₈.
+        move ! (12 ∷ []) $ split ! $ move ! (1 ∷ []) $
         peeks ! An.the-row (Is An.the-row) (shows 𝓤 H A An.the-row) r (v ∷ []) (λ is.
-        land ! (from ! (stop !)) (init ! 71 refl (EL.lawful An.the-type An′.the-laws 𝓤 H A W tt .typed r _ is .0)) $
+        land ! (from ! (stop !)) (init ! 78 refl (EL.lawful An.the-type An′.the-laws 𝓤 H A W tt .typed r _ is .0)) $
         -- the lists are room again
         move ! (1 ∷ []) $ split ! $ move ! (1 ∷ []) $ split ! $ move ! (1 ∷ []) $ split ! $ move ! (1 ∷ []) $ split ! $
-        move ! (1 ∷ []) $ split ! $ move ! (1 ∷ []) $ split ! $ move ! (1 ∷ []) $ split ! $
-        move ! (6 ∷ []) $ lft-end ! tt $ move ! (0 ∷ 22 ∷ []) $ lent-back ! tt $
-        use1 W (‵ (froom AF l₉ 0)) (out-room 𝓤 H A W f64 131074 P l₉ 0) $
-        move ! (6 ∷ []) $ lft-end ! tt $ move ! (0 ∷ 21 ∷ []) $ lent-back ! tt $
-        use1 W (‵ (froom AB l₁₀ 0)) (out-room 𝓤 H A W u8 65537 N l₁₀ 0) $
+        move ! (1 ∷ []) $ split ! $ move ! (1 ∷ []) $ split ! $ move ! (1 ∷ []) $ split ! $ move ! (1 ∷ []) $ split ! $
+        move ! (7 ∷ []) $ lft-end ! tt $ move ! (0 ∷ 24 ∷ []) $ lent-back ! tt $
+        use1 W (‵ (froom AF l₁₀ 0)) (out-room 𝓤 H A W f64 131074 P l₁₀ 0) $
+        move ! (7 ∷ []) $ lft-end ! tt $ move ! (0 ∷ 23 ∷ []) $ lent-back ! tt $
+        use1 W (‵ (froom AB l₁₁ 0)) (out-room 𝓤 H A W u8 65537 N l₁₁ 0) $
         -- the locals go
-        returns ! (look ! 76 refl) $
-        forget ! 76 refl $ forget ! 74 refl $ forget ! 72 refl $ forget ! 70 refl $ forget ! 68 refl $
-        forget ! 66 refl $ forget ! 64 refl $ forget ! 62 refl $ forget ! 60 refl $ forget ! 56 refl $
-        forget ! 54 refl $ forget ! 52 refl $ forget ! 50 refl $ forget ! 48 refl $ forget ! 46 refl $
-        forget ! 44 refl $ forget ! 42 refl $ forget ! 40 refl $ forget ! 38 refl $ forget ! 36 refl $
-        forget ! 34 refl $ forget ! 32 refl $ forget ! 30 refl $
-        move ! (76 ∷ 77 ∷ []) $ free1 ! $ move ! (74 ∷ 75 ∷ []) $ free1 ! $ move ! (72 ∷ 73 ∷ []) $ free1 ! $
-        move ! (70 ∷ 71 ∷ []) $ free1 ! $ move ! (68 ∷ 69 ∷ []) $ free1 ! $ move ! (66 ∷ 67 ∷ []) $ free1 ! $
-        move ! (64 ∷ 65 ∷ []) $ free1 ! $ move ! (62 ∷ 63 ∷ []) $ free1 ! $ move ! (60 ∷ 61 ∷ []) $ free1 ! $
-        move ! (1 ∷ 59 ∷ []) $ free1 ! $ move ! (0 ∷ 57 ∷ []) $ free1 ! $ move ! (54 ∷ 55 ∷ []) $ free1 ! $
-        move ! (52 ∷ 53 ∷ []) $ free1 ! $ move ! (50 ∷ 51 ∷ []) $ free1 ! $ move ! (48 ∷ 49 ∷ []) $ free1 ! $
-        move ! (46 ∷ 47 ∷ []) $ free1 ! $ move ! (44 ∷ 45 ∷ []) $ free1 ! $ move ! (42 ∷ 43 ∷ []) $ free1 ! $
-        move ! (40 ∷ 41 ∷ []) $ free1 ! $ move ! (38 ∷ 39 ∷ []) $ free1 ! $ move ! (36 ∷ 37 ∷ []) $ free1 ! $
-        move ! (34 ∷ 35 ∷ []) $ free1 ! $ move ! (32 ∷ 33 ∷ []) $ free1 ! $ move ! (30 ∷ 31 ∷ []) $ free1 ! $
-        move ! (28 ∷ 29 ∷ []) $ free1 ! $ free0 ! $
-        keep ! (5 ∷ 20 ∷ 4 ∷ 3 ∷ 2 ∷ 0 ∷ 18 ∷ 23 ∷ 11 ∷ 10 ∷ 9 ∷ 7 ∷ 6 ∷ []) $
+        returns ! (look ! 84 refl) $
+        forget ! 84 refl $ forget ! 82 refl $ forget ! 80 refl $ forget ! 78 refl $ forget ! 76 refl $
+        forget ! 74 refl $ forget ! 72 refl $ forget ! 70 refl $ forget ! 68 refl $ forget ! 66 refl $
+        forget ! 62 refl $ forget ! 60 refl $ forget ! 58 refl $ forget ! 56 refl $ forget ! 54 refl $
+        forget ! 52 refl $ forget ! 50 refl $ forget ! 48 refl $ forget ! 46 refl $ forget ! 44 refl $
+        forget ! 42 refl $ forget ! 40 refl $ forget ! 38 refl $ forget ! 36 refl $ forget ! 34 refl $
+        forget ! 32 refl $
+        move ! (84 ∷ 85 ∷ []) $ free1 ! $ move ! (82 ∷ 83 ∷ []) $ free1 ! $ move ! (80 ∷ 81 ∷ []) $ free1 ! $
+        move ! (78 ∷ 79 ∷ []) $ free1 ! $ move ! (76 ∷ 77 ∷ []) $ free1 ! $ move ! (74 ∷ 75 ∷ []) $ free1 ! $
+        move ! (72 ∷ 73 ∷ []) $ free1 ! $ move ! (70 ∷ 71 ∷ []) $ free1 ! $ move ! (68 ∷ 69 ∷ []) $ free1 ! $
+        move ! (66 ∷ 67 ∷ []) $ free1 ! $ move ! (1 ∷ 65 ∷ []) $ free1 ! $ move ! (0 ∷ 63 ∷ []) $ free1 ! $
+        move ! (60 ∷ 61 ∷ []) $ free1 ! $ move ! (58 ∷ 59 ∷ []) $ free1 ! $ move ! (56 ∷ 57 ∷ []) $ free1 ! $
+        move ! (54 ∷ 55 ∷ []) $ free1 ! $ move ! (52 ∷ 53 ∷ []) $ free1 ! $ move ! (50 ∷ 51 ∷ []) $ free1 ! $
+        move ! (48 ∷ 49 ∷ []) $ free1 ! $ move ! (46 ∷ 47 ∷ []) $ free1 ! $ move ! (44 ∷ 45 ∷ []) $ free1 ! $
+        move ! (42 ∷ 43 ∷ []) $ free1 ! $ move ! (40 ∷ 41 ∷ []) $ free1 ! $ move ! (38 ∷ 39 ∷ []) $ free1 ! $
+        move ! (36 ∷ 37 ∷ []) $ free1 ! $ move ! (34 ∷ 35 ∷ []) $ free1 ! $ move ! (32 ∷ 33 ∷ []) $ free1 ! $
+        move ! (30 ∷ 31 ∷ []) $ free1 ! $ free0 ! $
+        keep ! (6 ∷ 22 ∷ 5 ∷ 4 ∷ 3 ∷ 2 ∷ 0 ∷ 20 ∷ 25 ∷ 13 ∷ 12 ∷ 11 ∷ 10 ∷ 8 ∷ 7 ∷ []) $
         by ! (exits g₁ g₂ r v (ws .1 .1 .1 .1 .1 .1 .0) (ws .1 .1 .1 .1 .1 .1 .1 .0) (ws .1 .1 .1 .1 .1 .1 .1 .1 .0)
-        (ws .1 .1 .1 .1 .1 .1 .1 .1 .1 .0) said e₄ e₅ e₆ e₇))))))))))))))))))))))))))))))))))))))))))))))))
+        (ws .1 .1 .1 .1 .1 .1 .1 .1 .1 .0)
+        (ws .1 .1 .1 .1 .1 .1 .1 .1 .1 .1 .0) said e₄ e₅ e₆ e₇ e₈))))))))))))))))))))))))))))))))))))))))))))))))))))
 
 module _ {M : Type 1} (𝓤 : URA M) (H : Heap 𝓤) (A : Atoms 𝓤) (W : Given 𝓤 H A)
     (mem : Memory → SProp 𝓤) (run : Routine → Fun 𝓤) where
@@ -501,19 +531,24 @@ module _ {M : Type 1} (𝓤 : URA M) (H : Heap 𝓤) (A : Atoms 𝓤) (W : Given
       (λ κs qs bounds a g are. via 𝓤 _ (fst∗ 𝓤 _ (emp 𝓤))
       (walk 𝓤 H A W mem run
       (κs .0) (κs .1 .0) (κs .1 .1 .0) (κs .1 .1 .1 .0) (κs .1 .1 .1 .1 .0) (κs .1 .1 .1 .1 .1 .0)
+      (κs .1 .1 .1 .1 .1 .1 .0)
       (qs .0) (qs .1 .0) (qs .1 .1 .0) (qs .1 .1 .1 .0) (qs .1 .1 .1 .1 .0) (qs .1 .1 .1 .1 .1 .0)
+      (qs .1 .1 .1 .1 .1 .1 .0)
       (a .0 .ptr .0) (a .0 .ptr .1) (a .1 .1 .1 .0 .ptr .0) (a .1 .1 .1 .0 .ptr .1)
       (a .1 .1 .1 .1 .0 .ptr .0) (a .1 .1 .1 .1 .0 .ptr .1)
       (a .1 .1 .1 .1 .1 .0 .ptr .0) (a .1 .1 .1 .1 .1 .0 .ptr .1)
       (a .1 .1 .1 .1 .1 .1 .0 .ptr .0) (a .1 .1 .1 .1 .1 .1 .0 .ptr .1)
       (a .1 .1 .1 .1 .1 .1 .1 .0 .ptr .0) (a .1 .1 .1 .1 .1 .1 .1 .0 .ptr .1)
+      (a .1 .1 .1 .1 .1 .1 .1 .1 .0 .ptr .0) (a .1 .1 .1 .1 .1 .1 .1 .1 .0 .ptr .1)
       (a .0 .name) (a .1 .1 .1 .0 .name) (a .1 .1 .1 .1 .0 .name) (a .1 .1 .1 .1 .1 .0 .name)
-      (a .1 .1 .1 .1 .1 .1 .0 .name) (a .1 .1 .1 .1 .1 .1 .1 .0 .name)
+      (a .1 .1 .1 .1 .1 .1 .0 .name) (a .1 .1 .1 .1 .1 .1 .1 .0 .name) (a .1 .1 .1 .1 .1 .1 .1 .1 .0 .name)
       (a .0 .now) (a .1 .0) (a .1 .1 .0) (a .1 .1 .1 .0 .now)
       (a .1 .1 .1 .1 .0 .now) (a .1 .1 .1 .1 .1 .0 .now) (a .1 .1 .1 .1 .1 .1 .0 .now) (a .1 .1 .1 .1 .1 .1 .1 .0 .now)
+      (a .1 .1 .1 .1 .1 .1 .1 .1 .0 .now)
       C Λ fm known-flat known-traced
       (are .0 .0 .1) (are .1 .0 .1) (are .1 .1 .0 .1) (are .1 .1 .1 .0 .0 .1) (are .1 .1 .1 .1 .0 .0 .1)
-      (are .1 .1 .1 .1 .1 .0 .0 .1) (are .1 .1 .1 .1 .1 .1 .0 .0 .1) (are .1 .1 .1 .1 .1 .1 .1 .0 .0 .1)))
+      (are .1 .1 .1 .1 .1 .0 .0 .1) (are .1 .1 .1 .1 .1 .1 .0 .0 .1) (are .1 .1 .1 .1 .1 .1 .1 .0 .0 .1)
+      (are .1 .1 .1 .1 .1 .1 .1 .1 .0 .0 .1)))
 
 trace-samples-meets : {M : Type 1} (𝓤 : URA M) (H : Heap 𝓤) (A : Atoms 𝓤) → Given 𝓤 H A
     → (mem : Memory → SProp 𝓤) (run : Routine → Fun 𝓤) (𝓣 : Tables 𝓤 H)

@@ -1,4 +1,5 @@
--- `trace_to_c` is given what `trace_flat` answers, the lists are those that it leaves, and demand 3 is passed on.
+-- `trace_to_c` is given what `trace_flat` answers, the lists are those that it leaves, and its other two promises are
+-- passed on.
 use borrow.Author.Needs.{needs}
 use Rattle.lent.proofs.Laws.{answered-in}
 use Rattle.merlontrispa.specs.Lines.{pathsAnswer}
@@ -7,7 +8,7 @@ use Rattle.merlontrispa.proofs.traces.mt_trace_flat.Tie as tie
 
 -- where the lines are traced, from where their answer takes C's form
 abbrev traced : tie.After-trace-to-c → tie.After-trace-flat
-traced c = c .before .before .before .before .before .before .before .before .before
+traced c = c .before .before .before .before .before .before .before .before .before .before .before
 
 returns : tie.Need-returns
 returns c =
@@ -20,6 +21,7 @@ mt-trace-flat-spec =
     (tie.spec
     (λ c κs. search needs)
     (λ c κs. search needs)
+    (λ c. search needs)
     (λ c. search needs)
     (λ c. search needs)
     (λ c. search needs)
