@@ -225,11 +225,17 @@ mt_part mt_get(const double *points, size_t points_len,
  * of samples: `pairs` has u and v of each, and `marks` is 1 for a point and 0 for a break, whose
  * pair is not looked at. A line has at least two points.
  * Each drawn point is (1 - t) * p + t * q for two grid points p and q. It takes three numbers of
- * `points`, two of `sides` (the number of p, that of q) and one of `fractions` (t); an end of a
- * list that is too short for one more point holds none. Each line takes one of `starts`.
+ * `points`, two of `sides` (the number of p, that of q), one of `fractions` (t) and one of
+ * `samples`; an end of a list that is too short for one more point holds none. Each line takes one
+ * of `starts`.
+ * A point's number in `samples` says which leg of the curve made it, a leg being what lies between
+ * a sample and the next: it is the number of the leg's later sample, counted from 0, breaks too. So
+ * it is at least 1, samples k - 1 and k are points for a number k, and numbers never fall from a
+ * drawn point to the next, on into the next line too. A point that is left out, because it is close
+ * to the last one of its line, leaves that one's number as it is.
  * Leaves so many numbers for each point and line of the answer in the lists, and zeros after them.
  * Refusals: 1, 2 (`grid` has not 3 * (m + 1) * (n + 1) numbers, `pairs` not two for each mark, or
- * there are more than 65,537 marks), 4, 9, 10; 11 and 12, which leave all four lists zero.
+ * there are more than 65,537 marks), 4, 9, 10; 11 and 12, which leave all five lists zero.
  */
 mt_paths_answer mt_trace_flat(const double *grid, size_t grid_len, size_t m, size_t n,
                               const double *pairs, size_t pairs_len,
@@ -237,7 +243,8 @@ mt_paths_answer mt_trace_flat(const double *grid, size_t grid_len, size_t m, siz
                               double *points, size_t points_len,
                               size_t *starts, size_t starts_len,
                               size_t *sides, size_t sides_len,
-                              double *fractions, size_t fractions_len);
+                              double *fractions, size_t fractions_len,
+                              size_t *samples, size_t samples_len);
 
 /* A point of the parameter plane. */
 typedef struct mt_param_point {
@@ -253,17 +260,18 @@ typedef struct mt_sample {
 } mt_sample;
 
 /*
- * What mt_trace_flat does, with the samples as records. It needs 1.1 MB of stack, whatever the
- * number of samples: 1,114,129 bytes are lists of its own. A thread with a stack of less than 1,150
- * KiB calls mt_trace_flat, which needs 14 KB.
- * Refusals: those of mt_trace_flat; 2 where there are more than 65,537 samples.
+ * What mt_trace_flat does, with the samples as records; a number left in `samples` is the index of
+ * a record. It needs 1.1 MB of stack, whatever the number of records: 1,114,129 bytes are lists of
+ * its own. A thread with a stack of less than 1,150 KiB calls mt_trace_flat, which needs 14 KB.
+ * Refusals: those of mt_trace_flat; 2 where there are more than 65,537 records.
  */
 mt_paths_answer mt_trace_samples(const double *grid, size_t grid_len, size_t m, size_t n,
-                                 const mt_sample *samples, size_t samples_len,
+                                 const mt_sample *records, size_t records_len,
                                  double *points, size_t points_len,
                                  size_t *starts, size_t starts_len,
                                  size_t *sides, size_t sides_len,
-                                 double *fractions, size_t fractions_len);
+                                 double *fractions, size_t fractions_len,
+                                 size_t *samples, size_t samples_len);
 
 /* ---- Textures (Rules 10) --------------------------------------------------------------------- */
 

@@ -234,6 +234,8 @@ unsafe extern "C" {
         sides_len: usize,
         fractions: *mut f64,
         fractions_len: usize,
+        samples: *mut usize,
+        samples_len: usize,
     ) -> PathsAnswer;
 
     fn mt_trace_samples(
@@ -241,8 +243,8 @@ unsafe extern "C" {
         grid_len: usize,
         m: usize,
         n: usize,
-        samples: *const Sample,
-        samples_len: usize,
+        records: *const Sample,
+        records_len: usize,
         points: *mut f64,
         points_len: usize,
         starts: *mut usize,
@@ -251,6 +253,8 @@ unsafe extern "C" {
         sides_len: usize,
         fractions: *mut f64,
         fractions_len: usize,
+        samples: *mut usize,
+        samples_len: usize,
     ) -> PathsAnswer;
 }
 
@@ -318,21 +322,31 @@ pub fn trace_flat(
     marks: &[u8],
     lists: TraceLists<'_>,
 ) -> PathsAnswer {
-    let (points, starts) = (lists.points, lists.starts);
-    let (sides, fractions) = (lists.sides, lists.fractions);
-    call!(mt_trace_flat(grid; m, n; pairs, marks; points, starts, sides, fractions))
+    let TraceLists {
+        points,
+        starts,
+        sides,
+        fractions,
+        samples,
+    } = lists;
+    call!(mt_trace_flat(grid; m, n; pairs, marks; points, starts, sides, fractions, samples))
 }
 
 pub fn trace_samples(
     grid: &[f64],
     m: usize,
     n: usize,
-    samples: &[Sample],
+    records: &[Sample],
     lists: TraceLists<'_>,
 ) -> PathsAnswer {
-    let (points, starts) = (lists.points, lists.starts);
-    let (sides, fractions) = (lists.sides, lists.fractions);
-    call!(mt_trace_samples(grid; m, n; samples; points, starts, sides, fractions))
+    let TraceLists {
+        points,
+        starts,
+        sides,
+        fractions,
+        samples,
+    } = lists;
+    call!(mt_trace_samples(grid; m, n; records; points, starts, sides, fractions, samples))
 }
 
 #[cfg(test)]

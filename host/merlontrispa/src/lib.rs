@@ -25,6 +25,8 @@
 //! for line in &trace.lines {
 //!     assert_eq!(line.first(), line.last());
 //! }
+//! // Each of its points says which sample ends the leg that made it.
+//! assert!(trace.samples.iter().all(|&number| number == 1));
 //! # Ok::<(), merlontrispa::Refusal>(())
 //! ```
 //!

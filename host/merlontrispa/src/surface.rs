@@ -220,17 +220,19 @@ impl<'a> Surface<'a> {
     ///
     /// let grid = [0.0, 0.0, 0.0, 0.0, 1.0, 0.0, 1.0, 0.0, 0.0, 1.0, 1.0, 5.0];
     /// let (mut points, mut starts) = ([0.0; 6], [0; 1]);
-    /// let (mut sides, mut fractions) = ([0; 4], [0.0; 2]);
+    /// let (mut sides, mut fractions, mut samples) = ([0; 4], [0.0; 2], [0; 2]);
     /// let lists = TraceLists {
     ///     points: &mut points,
     ///     starts: &mut starts,
     ///     sides: &mut sides,
     ///     fractions: &mut fractions,
+    ///     samples: &mut samples,
     /// };
     /// let surface = Surface::new(&grid, 1, 1)?;
     /// let trace = surface.trace_into(&[0.0, 0.25, 0.75, 0.25], &[1, 1], lists)?;
     /// assert_eq!(trace.lines.iter().next(), Some(&[[0.0, 0.25, 0.0], [0.75, 0.25, 0.0]][..]));
     /// assert_eq!(trace.sides, [[0, 1], [2, 1]]);
+    /// assert_eq!(trace.samples, [1, 1]);
     /// # Ok::<(), merlontrispa::Refusal>(())
     /// ```
     pub fn trace_into<'b>(
@@ -250,6 +252,21 @@ impl<'a> Surface<'a> {
     /// # Errors
     /// 2 for more than 65,537 samples, 10 and 11. Never 12: while a trace is refused with it, it is
     /// done again with twice the room.
+    ///
+    /// ```
+    /// use merlontrispa::Surface;
+    ///
+    /// let grid = [0.0, 0.0, 0.0, 0.0, 1.0, 0.0, 1.0, 0.0, 0.0, 1.0, 1.0, 5.0];
+    /// // Two strokes with a break between them, in black and in red.
+    /// let black = [Some([0.0, 0.25]), Some([0.75, 0.25]), None];
+    /// let red = [Some([0.0, 0.75]), Some([1.0, 0.75])];
+    /// let trace = Surface::new(&grid, 1, 1)?.trace(&[&black[..], &red].concat())?;
+    /// assert_eq!(trace.samples, [1, 1, 4, 4, 4]);
+    /// // Numbers never fall, so that the points of the red stroke are the last ones.
+    /// let first = trace.samples.partition_point(|&number| number < black.len());
+    /// assert_eq!(trace.lines.points[first..].len(), 3);
+    /// # Ok::<(), merlontrispa::Refusal>(())
+    /// ```
     pub fn trace(self, samples: &[Option<[f64; 2]>]) -> Result<OwnedTrace, Refusal> {
         let pairs: Vec<_> = samples.iter().map(|s| s.unwrap_or_default()).collect();
         let marks: Vec<_> = samples.iter().map(|s| u8::from(s.is_some())).collect();
@@ -294,11 +311,34 @@ impl<'a> Surface<'a> {
         let plan = texture.plan(self.u_steps, self.v_steps)?;
         let mut lines = OwnedLines::default();
         for ray in 0..plan.rays {
-            let samples = (0..=plan.samples).map(|sample| self.sample(texture, ray, sample));
-            let samples: Vec<_> = samples.collect::<Result<_, _>>()?;
-            lines.extend(&self.trace(&samples)?.lines);
+            lines.extend(&self.trace_ray(texture, ray)?.lines);
         }
         Ok(lines)
+    }
+
+    /// One ray of a texture, counted from 0, by [`Surface::trace`] of its samples from first to
+    /// last. The number beside a point is that of the sample on the ray, from 1 to the plan's
+    /// `samples`.
+    ///
+    /// # Errors
+    /// Those of [`Surface::texture_lines`]; 8 where there is no such ray ([`Texture::Grid`] has
+    /// none).
+    ///
+    /// ```
+    /// use merlontrispa::{Surface, Texture};
+    ///
+    /// let grid = [0.0, 0.0, 0.0, 0.0, 1.0, 0.0, 1.0, 0.0, 0.0, 1.0, 1.0, 5.0];
+    /// let surface = Surface::new(&grid, 1, 1)?;
+    /// let trace = surface.trace_ray(Texture::Swirl { spacing: 1.0, twist: 0.0 }, 0)?;
+    /// // The leg from the centre to sample 1 makes the point there, that to sample 2 the other.
+    /// assert_eq!(trace.lines.points, [[0.5, 0.5, 0.0], [1.0, 0.5, 2.5]]);
+    /// assert_eq!(trace.samples, [1, 2]);
+    /// # Ok::<(), merlontrispa::Refusal>(())
+    /// ```
+    pub fn trace_ray(self, texture: Texture, ray: usize) -> Result<OwnedTrace, Refusal> {
+        let plan = texture.plan(self.u_steps, self.v_steps)?;
+        let samples = (0..=plan.samples).map(|sample| self.sample(texture, ray, sample));
+        self.trace(&samples.collect::<Result<Vec<_>, _>>()?)
     }
 
     /// A sample of a ray, as [`Surface::trace`] takes it.

@@ -2,9 +2,9 @@ use crate::boundary;
 use crate::lines::{Drawn, Lines, OwnedLines};
 use crate::refusal::Refusal;
 
-/// The lists that a trace is written to. A point takes three numbers of `points`, two of `sides`
-/// and one of `fractions`; an end of a list that is too short for one more point holds none (Rules
-/// 8.1).
+/// The lists that a trace is written to. A point takes three numbers of `points`, two of `sides`,
+/// one of `fractions` and one of `samples`; an end of a list that is too short for one more point
+/// holds none (Rules 8.1).
 #[derive(Debug, Default)]
 pub struct TraceLists<'a> {
     /// x, y and z of each point.
@@ -15,6 +15,9 @@ pub struct TraceLists<'a> {
     pub sides: &'a mut [usize],
     /// How far each point lies from p to q: t in `(1 - t) * p + t * q`.
     pub fractions: &'a mut [f64],
+    /// The number of the later sample of the leg that each point was made from, a leg being what
+    /// lies between a sample and the next; samples are counted from 0, breaks too.
+    pub samples: &'a mut [usize],
 }
 
 impl TraceLists<'_> {
@@ -25,6 +28,7 @@ impl TraceLists<'_> {
             starts: self.starts,
             sides: self.sides,
             fractions: self.fractions,
+            samples: self.samples,
         }
     }
 }
@@ -38,6 +42,15 @@ pub struct Trace<'a> {
     pub sides: &'a [[usize; 2]],
     /// How far each point lies from p to q: t in `(1 - t) * p + t * q`.
     pub fractions: &'a [f64],
+    /// The number of the later sample of the leg that each point was made from, counted from 0,
+    /// breaks too.
+    ///
+    /// Numbers never fall from a point to the next, on into the next line too. Each is at least 1
+    /// and less than the count of samples; for a number k, samples k - 1 and k are points. A point
+    /// that is left out, because it is close to the last one of its line, leaves that one's number as
+    /// it is: where a leg begins at the point at which the one before it ended, the number of the
+    /// earlier leg stands.
+    pub samples: &'a [usize],
 }
 
 impl<'a> Trace<'a> {
@@ -51,6 +64,7 @@ impl<'a> Trace<'a> {
             },
             sides: &lists.sides.as_chunks().0[..drawn.points],
             fractions: &lists.fractions[..drawn.points],
+            samples: &lists.samples[..drawn.points],
         }
     }
 }
@@ -64,6 +78,9 @@ pub struct OwnedTrace {
     pub sides: Vec<[usize; 2]>,
     /// How far each point lies from p to q: t in `(1 - t) * p + t * q`.
     pub fractions: Vec<f64>,
+    /// The number of the later sample of the leg that each point was made from, as
+    /// [`Trace::samples`] says.
+    pub samples: Vec<usize>,
 }
 
 impl OwnedTrace {
@@ -76,6 +93,7 @@ impl OwnedTrace {
             },
             sides: vec![[0; 2]; room],
             fractions: vec![0.0; room],
+            samples: vec![0; room],
         }
     }
 
@@ -86,6 +104,7 @@ impl OwnedTrace {
             starts: &mut self.lines.starts,
             sides: self.sides.as_flattened_mut(),
             fractions: &mut self.fractions,
+            samples: &mut self.samples,
         }
     }
 
@@ -95,6 +114,7 @@ impl OwnedTrace {
         self.lines.starts.truncate(drawn.lines);
         self.sides.truncate(drawn.points);
         self.fractions.truncate(drawn.points);
+        self.samples.truncate(drawn.points);
     }
 }
 
@@ -111,16 +131,19 @@ impl OwnedTrace {
 ///
 /// let grid = [0.0, 0.0, 0.0, 0.0, 1.0, 0.0, 1.0, 0.0, 0.0, 1.0, 1.0, 5.0];
 /// let (mut points, mut starts) = ([0.0; 6], [0; 1]);
-/// let (mut sides, mut fractions) = ([0; 4], [0.0; 2]);
+/// let (mut sides, mut fractions, mut samples) = ([0; 4], [0.0; 2], [0; 2]);
 /// let lists = TraceLists {
 ///     points: &mut points,
 ///     starts: &mut starts,
 ///     sides: &mut sides,
 ///     fractions: &mut fractions,
+///     samples: &mut samples,
 /// };
 /// let drawn = trace_flat(&grid, 1, 1, &[0.0, 0.25, 0.75, 0.25], &[1, 1], lists)?;
 /// assert_eq!((drawn.points, drawn.lines), (2, 1));
 /// assert_eq!((sides, fractions), ([0, 1, 2, 1], [0.25, 0.25]));
+/// // Both points were made from the leg that ends at sample 1.
+/// assert_eq!(samples, [1, 1]);
 /// # Ok::<(), merlontrispa::Refusal>(())
 /// ```
 pub fn trace_flat(
@@ -171,41 +194,45 @@ impl Sample {
     }
 }
 
-/// What [`trace_flat`] draws of the samples' points and marks, with the same refusals.
+/// What [`trace_flat`] draws of the records' points and marks, with the same refusals. A number in
+/// the list of samples is that of a record.
 ///
 /// # Stack
-/// The call needs 1.1 MB of the caller's stack, whatever the number of samples: it flattens them
+/// The call needs 1.1 MB of the caller's stack, whatever the number of records: it flattens them
 /// into lists of its own, of 1,114,129 bytes. A thread with less than 1,150 KiB calls
 /// [`trace_flat`], which needs 14 KB; a thread that Rust starts has 2 MiB unless it asks for less.
 ///
 /// # Errors
-/// 1, 2 (more than 65,537 samples), 4, 9 and 10, which leave the lists as they were; 11 and 12, which
+/// 1, 2 (more than 65,537 records), 4, 9 and 10, which leave the lists as they were; 11 and 12, which
 /// leave them all zero.
 ///
 /// ```
 /// use merlontrispa::{Sample, TraceLists, trace_samples};
 ///
 /// let grid = [0.0, 0.0, 0.0, 0.0, 1.0, 0.0, 1.0, 0.0, 0.0, 1.0, 1.0, 5.0];
-/// let samples = [Sample::at(0.0, 0.25), Sample::at(0.75, 0.25), Sample::BREAK];
+/// let records = [Sample::BREAK, Sample::at(0.0, 0.25), Sample::at(0.75, 0.25)];
 /// let (mut points, mut starts) = ([0.0; 6], [0; 1]);
-/// let (mut sides, mut fractions) = ([0; 4], [0.0; 2]);
+/// let (mut sides, mut fractions, mut samples) = ([0; 4], [0.0; 2], [0; 2]);
 /// let lists = TraceLists {
 ///     points: &mut points,
 ///     starts: &mut starts,
 ///     sides: &mut sides,
 ///     fractions: &mut fractions,
+///     samples: &mut samples,
 /// };
-/// let drawn = trace_samples(&grid, 1, 1, &samples, lists)?;
+/// let drawn = trace_samples(&grid, 1, 1, &records, lists)?;
 /// assert_eq!((drawn.points, drawn.lines), (2, 1));
 /// assert_eq!((sides, fractions), ([0, 1, 2, 1], [0.25, 0.25]));
+/// // The break is counted too.
+/// assert_eq!(samples, [2, 2]);
 /// # Ok::<(), merlontrispa::Refusal>(())
 /// ```
 pub fn trace_samples(
     grid: &[f64],
     u_steps: usize,
     v_steps: usize,
-    samples: &[Sample],
+    records: &[Sample],
     lists: TraceLists<'_>,
 ) -> Result<Drawn, Refusal> {
-    boundary::trace_samples(grid, u_steps, v_steps, samples, lists).into()
+    boundary::trace_samples(grid, u_steps, v_steps, records, lists).into()
 }

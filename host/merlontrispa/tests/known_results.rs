@@ -69,21 +69,60 @@ fn sides_of_a_trace() {
     assert_eq!(trace.fractions, [0.25, 0.25]);
 }
 
+#[test]
+fn samples_of_a_trace() {
+    let surface = Surface::new(&CELL, 1, 1).expect("a grid");
+    let samples = |curve: &[_]| surface.trace(curve).expect("a trace").samples;
+    let (from, to) = (Some([0.0, 0.25]), Some([0.75, 0.25]));
+    assert_eq!(samples(&[from, to, Some([1.0, 0.25])]), [1, 1, 2]);
+    // A break has a number too.
+    let (next_from, next_to) = (Some([0.0, 0.75]), Some([1.0, 0.75]));
+    let curve = [from, to, None, next_from, next_to];
+    assert_eq!(samples(&curve), [1, 1, 4, 4, 4]);
+    // The second leg makes the first point again, which is left out.
+    assert_eq!(samples(&[from, from, to]), [1, 2]);
+}
+
 /// What a curve from one point to another answers and leaves in lists for so many points, which had a 9
-/// in each place.
-fn traced(from: [f64; 2], to: [f64; 2], room: usize) -> (Result<Drawn, Refusal>, Vec<f64>) {
+/// in each place; the list of samples has room of its own.
+fn traced_with(
+    from: [f64; 2],
+    to: [f64; 2],
+    room: usize,
+    samples_room: usize,
+) -> (Result<Drawn, Refusal>, Vec<f64>) {
     let (mut points, mut starts) = (vec![9.0; 3 * room], vec![9; room]);
     let (mut sides, mut fractions) = (vec![9; 2 * room], vec![9.0; room]);
+    let mut samples = vec![9; samples_room];
     let lists = TraceLists {
         points: &mut points,
         starts: &mut starts,
         sides: &mut sides,
         fractions: &mut fractions,
+        samples: &mut samples,
     };
     let answer = trace_flat(&CELL, 1, 1, [from, to].as_flattened(), &[1, 1], lists);
-    let numbers = starts.iter().chain(&sides).map(|&number| number as f64);
+    let numbers = starts.iter().chain(&sides).chain(&samples);
+    let numbers = numbers.map(|&number| number as f64);
     let left = points.iter().chain(&fractions).copied().chain(numbers);
     (answer, left.collect())
+}
+
+/// The same where each list has room for so many points.
+fn traced(from: [f64; 2], to: [f64; 2], room: usize) -> (Result<Drawn, Refusal>, Vec<f64>) {
+    traced_with(from, to, room, room)
+}
+
+#[test]
+fn a_full_list_of_samples_leaves_all_five_zero() {
+    let (from, to) = ([0.0, 0.25], [0.75, 0.25]);
+    let full = traced_with(from, to, 8, 1);
+    assert_eq!(full, (Err(Refusal::Full), vec![0.0; 8 * 7 + 1]));
+    let drawn = Drawn {
+        points: 2,
+        lines: 1,
+    };
+    assert_eq!(traced_with(from, to, 8, 2).0, Ok(drawn));
 }
 
 #[test]
@@ -95,7 +134,7 @@ fn one_event_is_no_line() {
     };
     // One point is pushed: it asks for room, and more than it is not asked for.
     assert_eq!(traced(from, to, 0), (Err(Refusal::Full), vec![]));
-    assert_eq!(traced(from, to, 1), (Ok(drawn), vec![0.0; 7]));
+    assert_eq!(traced(from, to, 1), (Ok(drawn), vec![0.0; 8]));
 }
 
 #[test]
@@ -103,7 +142,7 @@ fn a_step_that_is_not_there_is_refused() {
     let (from, to) = ([1.0, 1_048_576.0], [1.0, 1.0 + EPS]);
     assert_eq!(
         traced(from, to, 8),
-        (Err(Refusal::NoStep), vec![0.0; 8 * 7])
+        (Err(Refusal::NoStep), vec![0.0; 8 * 8])
     );
     let surface = Surface::new(&CELL, 1, 1).expect("a grid");
     let refused = surface.trace(&[Some(from), Some(to)]);

@@ -132,10 +132,12 @@ fn a_trace_finds_its_room() {
         lines,
         sides,
         fractions,
+        samples,
     } = surface.trace(&SAMPLES).expect("a trace");
     let count = lines.points.len();
     assert!(count > 700, "{count} points");
     assert_eq!((sides.len(), fractions.len()), (count, count));
+    assert_eq!(samples, vec![1; count]);
     for ((point, side), t) in lines.points.iter().zip(sides).zip(fractions) {
         let [p, q] = side.map(|number| surface.points()[number]);
         assert_eq!(*point, [0, 1, 2].map(|i| (1.0 - t) * p[i] + t * q[i]));
@@ -150,11 +152,13 @@ fn a_trace_into_lists_that_just_hold_it_is_the_same() {
     let count = owned.lines.points.len();
     let (mut points, mut starts) = (vec![0.0; 3 * count + 2], vec![0; 1]);
     let (mut sides, mut fractions) = (vec![0; 2 * count + 1], vec![0.0; count + 1]);
+    let mut samples = vec![0; count];
     let mut lists = TraceLists {
         points: &mut points,
         starts: &mut starts,
         sides: &mut sides,
         fractions: &mut fractions,
+        samples: &mut samples,
     };
     let pairs = [0.25, 0.5, 254.0, 253.0, f64::NAN, f64::NAN, 1.0, 1.0];
     let refused = surface.trace_into(&pairs, &[1, 1, 0, 2], lists.reborrow());
@@ -164,9 +168,47 @@ fn a_trace_into_lists_that_just_hold_it_is_the_same() {
         .expect("a trace");
     assert!(lent.lines.iter().eq(&owned.lines));
     assert_eq!(
-        (lent.sides, lent.fractions),
-        (&owned.sides[..], &owned.fractions[..])
+        (lent.sides, lent.fractions, lent.samples),
+        (&owned.sides[..], &owned.fractions[..], &owned.samples[..])
     );
+}
+
+/// Strokes on a surface of 5 by 3 cells: breaks first, in a row and last, a sample that is there
+/// again, and one that is alone.
+const STROKES: [Option<[f64; 2]>; 14] = [
+    None,
+    None,
+    Some([0.5, 0.5]),
+    Some([0.5, 0.5]),
+    Some([4.5, 2.5]),
+    Some([4.5, 0.25]),
+    None,
+    Some([1.0, 1.0]),
+    None,
+    None,
+    Some([-1.0, 1.5]),
+    Some([2.5, 1.5]),
+    Some([6.0, 1.5]),
+    None,
+];
+
+#[test]
+fn numbers_of_samples_never_fall_and_are_those_of_legs() {
+    let grid = joined(None, false);
+    let surface = Surface::new(&grid, 5, 3).expect("a grid");
+    let trace = surface.trace(&STROKES).expect("a trace");
+    let numbers = &trace.samples;
+    assert!(numbers.is_sorted());
+    for &number in numbers {
+        let [Some(_), Some(_)] = STROKES[number - 1..=number] else {
+            panic!("{number} ends no leg")
+        };
+    }
+    // The leg without length lies on a diagonal. The next leg makes its point again, which is left out.
+    let mut legs = numbers.clone();
+    legs.dedup();
+    assert_eq!(legs, [3, 4, 5, 11, 12]);
+    assert_eq!(numbers[..2], [3, 4]);
 }
 
 #[test]
@@ -188,7 +230,12 @@ fn the_lines_of_a_texture_are_those_of_its_rays_in_turn() {
         };
         let samples = (0..=plan.samples).map(|i| Some(sample(i).expect("a sample")));
         let samples: Vec<_> = samples.collect();
-        rays.push(surface.trace(&samples).expect("a trace").lines);
+        let trace = surface.trace(&samples).expect("a trace");
+        assert_eq!(surface.trace_ray(spiral, ray), Ok(trace.clone()));
+        rays.push(trace.lines);
+    }
+    for (texture, ray) in [(spiral, plan.rays), (Texture::Grid, 0)] {
+        assert_eq!(surface.trace_ray(texture, ray), Err(Refusal::NotThere));
     }
     let lines = surface.texture_lines(spiral).expect("lines");
     assert!(lines.iter().len() > plan.rays);
