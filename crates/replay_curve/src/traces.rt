@@ -20,6 +20,7 @@ fn compare_trace(
     starts: &mut [usize],
     sides: &mut [usize],
     fractions: &mut [f64],
+    samples: &mut [usize],
 ) -> bool {
     let numbers = field(case, 0);
     let recorded = field(case, 4);
@@ -35,6 +36,7 @@ fn compare_trace(
         starts,
         sides,
         fractions,
+        samples,
     );
     let told = match answer {
         Trace::Drawn(drawn, lines) => is_told(recorded, drawn, lines),
@@ -42,7 +44,7 @@ fn compare_trace(
     };
     let lines = same_floats(points, field(case, 5)) & same_numbers(starts, field(case, 6));
     let edges = same_numbers(sides, field(case, 7)) & same_floats(fractions, field(case, 8));
-    told & lines & edges
+    told & lines & edges & same_numbers(samples, field(case, 9))
 }
 
 // With the lists that are lent for output.
@@ -51,10 +53,12 @@ fn draw(case: &[u64], grid: &[f64], pairs: &[f64], marks: &[u8]) -> bool {
     let mut starts = rooms::numbers();
     let mut sides = rooms::numbers();
     let mut fractions = rooms::floats();
+    let mut samples = rooms::numbers();
     let p = rooms::of_floats(&points, number(field(case, 5), 0));
     let s = rooms::of_numbers(&starts, number(field(case, 6), 0));
     let e = rooms::of_numbers(&sides, number(field(case, 7), 0));
     let f = rooms::of_floats(&fractions, number(field(case, 8), 0));
+    let k = rooms::of_numbers(&samples, number(field(case, 9), 0));
     compare_trace(
         case,
         grid,
@@ -64,6 +68,7 @@ fn draw(case: &[u64], grid: &[f64], pairs: &[f64], marks: &[u8]) -> bool {
         &mut starts[..s],
         &mut sides[..e],
         &mut fractions[..f],
+        &mut samples[..k],
     )
 }
 

@@ -14,7 +14,7 @@ use stand_ins::{bounding_box, common, filter, hit, matrix, mesh, ray, shape};
 // path.rs, util.rs and vector.rs as modules of this crate.
 include!(concat!(env!("OUT_DIR"), "/larnt.rs"));
 
-pub use parametric::surface::{Made, Sample, Side, Surface, step_index};
+pub use parametric::surface::{Made, Sample, Side, Surface, Walk, step_index};
 pub use parametric::textures::{radial_sample_count, spiral_sample_count, texture_spacing};
 pub use parametric::{CyclicMapping, ParametricSurfaceTexture, seams};
 pub use path::Paths;

@@ -2,7 +2,7 @@
 #![cfg(larnt)]
 
 use original::CyclicMapping::{Forward, Reverse};
-use original::{CyclicMapping, Sample, Surface, Vector, seams, step_index};
+use original::{CyclicMapping, Sample, Side, Surface, Vector, seams, step_index};
 
 const EPS: f64 = 1e-9;
 
@@ -72,7 +72,7 @@ fn flipped_pairs_of_a_twisted_band() {
 
 /// p, q and t of each event of a walk.
 fn sides(samples: &[Sample]) -> Vec<(usize, usize, f64)> {
-    let sides = cell().walk(samples).into_iter().map(|made| {
+    let sides = cell().walk(samples).made.into_iter().map(|made| {
         let (_, side) = made.point.expect("no panic");
         (side.p, side.q, side.t)
     });
@@ -87,6 +87,46 @@ fn sides_of_a_trace() {
         cell().trace(&samples).map(|paths| paths.total_len()),
         Some(2)
     );
+}
+
+/// The numbers of the samples at the ends of the legs that made the points of a trace.
+fn numbers(samples: &[Sample]) -> Vec<usize> {
+    let kept = cell().walk(samples).kept;
+    kept.iter().map(|made| made.sample).collect()
+}
+
+#[test]
+fn samples_of_a_trace() {
+    let [from, to] = [Some((0.0, 0.25)), Some((0.75, 0.25))];
+    assert_eq!(numbers(&[from, to, Some((1.0, 0.25))]), [1, 1, 2]);
+    let [next_from, next_to] = [Some((0.0, 0.75)), Some((1.0, 0.75))];
+    let curve = [from, to, None, next_from, next_to];
+    assert_eq!(numbers(&curve), [1, 1, 4, 4, 4]);
+    assert_eq!(numbers(&[from, from, to]), [1, 2]);
+}
+
+/// A point has the number of the leg that makes it where it is alone: the walk of that leg.
+#[test]
+fn each_leg_makes_the_points_of_its_number() {
+    let curve: [Sample; 8] = [
+        None,
+        Some((0.0, 0.25)),
+        Some((0.0, 0.25)),
+        Some((0.75, 0.25)),
+        None,
+        None,
+        Some((-0.5, 0.5)),
+        Some((1.5, 0.75)),
+    ];
+    let sides = |samples: &[Sample], number: Option<usize>| -> Vec<Option<Side>> {
+        let made = cell().walk(samples).made.into_iter();
+        let made = made.filter(|made| number.is_none_or(|number| made.sample == number));
+        made.map(|made| Some(made.point?.1)).collect()
+    };
+    for number in 1..curve.len() {
+        let leg = &curve[number - 1..=number];
+        assert_eq!(sides(&curve, Some(number)), sides(leg, None), "{number}");
+    }
 }
 
 /// V(0) at -0 comes before U(0) at 0, which is less than EPS from it and dropped.
@@ -107,5 +147,5 @@ fn a_step_that_is_not_there_panics() {
     let samples: [Sample; 2] = [Some((1.0, 1048576.0)), Some((1.0, 1.0 + EPS))];
     assert!(cell().trace(&samples).is_none());
     let walk = cell().walk(&samples);
-    assert!(walk.iter().any(|made| made.point.is_none()));
+    assert!(walk.made.iter().any(|made| made.point.is_none()));
 }

@@ -87,9 +87,9 @@ impl Case for Input {
 }
 
 fn library(input: &Input) -> Output {
-    let samples = input.records();
+    let records = input.records();
     called(&input.0, |grid, lists| {
-        trace_samples(&grid.numbers, grid.u_steps, grid.v_steps, &samples, lists)
+        trace_samples(&grid.numbers, grid.u_steps, grid.v_steps, &records, lists)
     })
 }
 
@@ -107,13 +107,13 @@ fn counted() -> impl Iterator<Item = Input> {
     scenes.flat_map(|scene| {
         COUNTS.into_iter().flat_map(move |count| {
             let scene = Rc::clone(&scene);
-            (0..4).map(move |more| around(&scene, count, more))
+            (0..5).map(move |more| around(&scene, count, more))
         })
     })
 }
 
 /// So many samples on a circle around the first cells, with a break now and then. The lists have up
-/// to two places more than are needed; at 3 the fractions have one too few.
+/// to two places more than are needed; at 3 the fractions have one too few, at 4 the samples.
 fn around(scene: &Rc<Scene>, count: usize, more: usize) -> Input {
     let pairs = (0..count).flat_map(|i| {
         let angle = i as f64 * 0.7;
@@ -123,8 +123,10 @@ fn around(scene: &Rc<Scene>, count: usize, more: usize) -> Input {
     let (pairs, marks) = (pairs.collect(), marks.collect());
     Input(curves::Input::new(scene, pairs, marks, |need| {
         let mut room = spare(need, more % 3);
-        if more == 3 {
-            room.fractions = room.fractions.saturating_sub(1);
+        match more {
+            3 => room.fractions = need.points.saturating_sub(1),
+            4 => room.samples = need.points.saturating_sub(1),
+            _ => {}
         }
         room
     }))
@@ -148,15 +150,16 @@ mod tests {
     fn told(count: usize) -> Result<usize, Refusal> {
         let scene = Scene::new(bent(1, 1));
         let (mut points, mut starts) = ([7.0], [7]);
-        let (mut sides, mut fractions) = ([7], [7.0]);
+        let (mut sides, mut fractions, mut samples) = ([7], [7.0], [7]);
         let lists = TraceLists {
             points: &mut points,
             starts: &mut starts,
             sides: &mut sides,
             fractions: &mut fractions,
+            samples: &mut samples,
         };
-        let samples = vec![Sample::BREAK; count];
-        trace_samples(&scene.grid.numbers, 1, 1, &samples, lists).map(|drawn| drawn.points)
+        let records = vec![Sample::BREAK; count];
+        trace_samples(&scene.grid.numbers, 1, 1, &records, lists).map(|drawn| drawn.points)
     }
 
     #[test]

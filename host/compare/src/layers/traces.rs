@@ -1,5 +1,6 @@
-//! The trace of flat samples against the original's, bit by bit, with the sides and fractions of
-//! its points.
+//! The trace of flat samples against the original's, bit by bit, with the sides, fractions and sample
+//! numbers of its points. The original hands out no such lists: they are kept beside its points as it
+//! makes them.
 
 pub mod curves;
 mod walks;
@@ -14,7 +15,7 @@ use crate::record::{Call, Record, Recorded};
 use crate::value::{Show, Value};
 use curves::{FAR, Input, Room, Scene, Scenes, bent, faulty, legs_between_edges, spare, traced};
 use merlontrispa::{Drawn, Refusal, TraceLists, trace_flat};
-use original::{Paths, Side, Vector};
+use original::{Made, Paths, Side, Vector};
 use std::rc::Rc;
 use walks::replay;
 
@@ -55,14 +56,17 @@ pub fn compare(driver: &mut Driver) -> Compared {
     driver.compare("trace_flat, refusals", 200_000, faulty, library, original)
 }
 
-/// An answer, the four lists after the call, and the points made again from p, q and t.
+/// An answer, the five lists after the call, the points made again from p, q and t, and the law that
+/// the numbers of samples break, if any.
 pub struct Output {
     told: Result<Drawn, Refusal>,
     points: Vec<f64>,
     starts: Vec<usize>,
     sides: Vec<usize>,
     fractions: Vec<f64>,
+    samples: Vec<usize>,
     remade: Vec<f64>,
+    broken: &'static str,
 }
 
 impl Output {
@@ -74,7 +78,9 @@ impl Output {
             starts: numbers(room.starts),
             sides: numbers(room.sides),
             fractions: floats(room.fractions),
+            samples: numbers(room.samples),
             remade: Vec::new(),
+            broken: "",
         }
     }
 
@@ -83,10 +89,11 @@ impl Output {
         self.starts.fill(0);
         self.sides.fill(0);
         self.fractions.fill(0.0);
+        self.samples.fill(0);
     }
 
-    /// The lists after the original drew these paths, its points on these sides.
-    fn draw(&mut self, paths: &Paths<Vector>, sides: &[Side]) {
+    /// The lists after the original drew these paths, whose points were made so.
+    fn draw(&mut self, paths: &Paths<Vector>, kept: &[Made]) {
         self.told = Ok(Drawn {
             points: paths.total_len(),
             lines: paths.len(),
@@ -94,11 +101,11 @@ impl Output {
         self.remade = paths.iter_paths().flat_map(coordinates).collect();
         fill(&mut self.points, self.remade.iter().copied());
         fill(&mut self.starts, firsts(paths));
-        fill(
-            &mut self.sides,
-            sides.iter().flat_map(|side| [side.p, side.q]),
-        );
-        fill(&mut self.fractions, sides.iter().map(|side| side.t));
+        let sides = kept.iter().map(|made| made.point.expect("it is drawn").1);
+        let numbers = sides.clone().flat_map(|side| [side.p, side.q]);
+        fill(&mut self.sides, numbers);
+        fill(&mut self.fractions, sides.map(|side| side.t));
+        fill(&mut self.samples, kept.iter().map(|made| made.sample));
     }
 }
 
@@ -110,8 +117,10 @@ impl Show for Output {
             self.starts.show(),
             self.sides.show(),
             self.fractions.show(),
+            self.samples.show(),
         ];
-        format!("{}; made again {}", parts.join("; "), self.remade.show())
+        let (parts, remade) = (parts.join("; "), self.remade.show());
+        format!("{parts}; made again {remade}{}", self.broken)
     }
 }
 
@@ -122,7 +131,9 @@ impl Value for Output {
             && self.starts == other.starts
             && self.sides == other.sides
             && self.fractions.same(&other.fractions)
+            && self.samples == other.samples
             && self.remade.same(&other.remade)
+            && self.broken == other.broken
     }
 }
 
@@ -153,6 +164,7 @@ pub fn called(
         starts: &mut output.starts,
         sides: &mut output.sides,
         fractions: &mut output.fractions,
+        samples: &mut output.samples,
     };
     output.told = call(grid, lists);
     if let Ok(drawn) = output.told {
@@ -163,8 +175,24 @@ pub fn called(
         });
         let made: Vec<_> = made.collect();
         output.remade = coordinates(&made).collect();
+        let numbers = output.samples.get(..drawn.points);
+        output.broken = broken_law(numbers.unwrap_or(&output.samples), &input.marks);
     }
     output
+}
+
+/// The law that these numbers of samples break: each is that of a sample at the end of a leg, and none
+/// is less than the one before it.
+fn broken_law(numbers: &[usize], marks: &[u8]) -> &'static str {
+    let ends_a_leg = |&number: &usize| {
+        let before = number.checked_sub(1);
+        before.and_then(|before| marks.get(before..=number)) == Some(&[1, 1])
+    };
+    match (numbers.iter().all(ends_a_leg), numbers.is_sorted()) {
+        (false, _) => "; a number is of no leg",
+        (_, false) => "; numbers fall",
+        _ => "",
+    }
 }
 
 /// What the original's trace leaves, in lists that are lent, and the refusals of Rules 11.
@@ -178,48 +206,30 @@ pub fn original(input: &Input) -> Output {
         }
     };
     let paths = input.scene.surface().trace(&input.samples());
-    let stops = walk.iter().any(|made| made.point.is_none());
+    let stops = walk.made.iter().any(|made| made.point.is_none());
     assert_eq!(
         paths.is_none(),
         stops,
         "the original panics where its walk has no step"
     );
-    let Room {
-        points,
-        starts,
-        sides,
-        fractions,
-    } = input.room;
-    match replay(walk, (points / 3).min(sides / 2).min(fractions), starts) {
+    match replay(&walk.made, input.room.for_points(), input.room.starts) {
         Err(refusal) => {
             output.told = Err(refusal);
             output.clear();
         }
-        Ok(sides) => output.draw(&paths.expect("the walk has come to its end"), &sides),
+        Ok(drawn) => {
+            let paths = paths.expect("the walk has come to its end");
+            let kept = [walk.kept.len(), paths.total_len()];
+            assert_eq!(kept, [drawn; 2], "the original keeps these points");
+            output.draw(&paths, &walk.kept);
+        }
     }
     output
 }
 
 /// Traces for the record.
 pub fn record(record: &mut Record) {
-    let cell = Rc::new(Scene::new(bent(1, 1)));
-    for [from, to] in [
-        [[0.0, 0.25], [0.75, 0.25]],
-        [[0.0, 0.0], [0.5, -0.5]],
-        [[0.25, 0.25], [0.75, 0.75]],
-        [[1.0, FAR], [1.0, 1.0 + EPS]],
-    ] {
-        let input = Input::new(&cell, [from, to].concat(), vec![1, 1], |need| {
-            spare(need, 1)
-        });
-        record.keep(input.recorded());
-    }
-    for count in [65_537, 65_538] {
-        let breaks = Input::new(&cell, vec![0.0; 2 * count], vec![0; count], |need| {
-            spare(need, 1)
-        });
-        record.keep(breaks.recorded());
-    }
+    record_known(record);
     let mut random = record.random();
     let mut few = Scenes::new(60, |random: &mut Random| 1 + random.below(4) as usize);
     for _ in 0..20_000 {
@@ -236,6 +246,37 @@ pub fn record(record: &mut Record) {
     }
 }
 
+/// The traces among the known results of Rules 6 and 7, on a bent cell; as many samples as there may
+/// be, and one more.
+fn record_known(record: &mut Record) {
+    let cell = Rc::new(Scene::new(bent(1, 1)));
+    let [from, to] = [[0.0, 0.25], [0.75, 0.25]];
+    let apart = [[0.0, 0.75], [1.0, 0.75]];
+    for (curve, marks) in [
+        (vec![from, to], vec![1; 2]),
+        (vec![[0.0, 0.0], [0.5, -0.5]], vec![1; 2]),
+        (vec![[0.25, 0.25], [0.75, 0.75]], vec![1; 2]),
+        (vec![[1.0, FAR], [1.0, 1.0 + EPS]], vec![1; 2]),
+        (vec![from, to, [1.0, 0.25]], vec![1; 3]),
+        (
+            [&[from, to, [f64::NAN; 2]], &apart[..]].concat(),
+            vec![1, 1, 0, 1, 1],
+        ),
+        (vec![from, from, to], vec![1; 3]),
+        (vec![[0.0; 2]; 65_537], vec![0; 65_537]),
+        (vec![[0.0; 2]; 65_538], vec![0; 65_538]),
+    ] {
+        let input = Input::new(&cell, curve.concat(), marks, |need| spare(need, 1));
+        record.keep(input.recorded());
+    }
+    let room = |need| Room {
+        samples: 1,
+        ..spare(need, 1)
+    };
+    let full = Input::new(&cell, [from, to].concat(), vec![1, 1], room);
+    record.keep(full.recorded());
+}
+
 impl Input {
     fn recorded(&self) -> Recorded {
         let output = original(self);
@@ -247,25 +288,34 @@ impl Input {
             .floats(&output.points)
             .numbers(&output.starts)
             .numbers(&output.sides)
-            .floats(&output.fractions);
+            .floats(&output.fractions)
+            .numbers(&output.samples);
         match told {
-            Ok(drawn) => self.reached(case, drawn),
-            Err(_) => case,
+            Ok(drawn) => self.reached_by_samples(self.reached(case, drawn)),
+            Err(_) => case.reaching_if(self.full_of_samples(), "no room in the samples alone"),
         }
+    }
+
+    /// Whether it is refused with 12, and would not be so if the list of samples had room.
+    fn full_of_samples(&self) -> bool {
+        let mut roomy = self.clone();
+        roomy.room.samples = roomy.need().points;
+        let full = |input: &Self| original(input).told == Err(Refusal::Full);
+        full(self) && !full(&roomy)
     }
 
     /// What a trace that is drawn reaches: the kinds of its events, by their sides, where they lie
     /// on a leg, and how its lines end.
     fn reached(&self, case: Recorded, drawn: Drawn) -> Recorded {
-        let walk = self.walk.as_deref().unwrap_or_default();
-        let sides: Vec<_> = walk.iter().filter_map(|made| Some(made.point?.1)).collect();
+        let made = &self.walk.as_ref().expect("it is drawn").made;
+        let sides: Vec<_> = made.iter().filter_map(|made| Some(made.point?.1)).collect();
         let event = |on: &dyn Fn(&Side) -> bool| sides.iter().any(on);
         let v_steps = self.scene.grid.v_steps;
         let samples = self.samples();
         let legs = samples.windows(2).filter_map(|s| Some([s[0]?, s[1]?]));
         let legs: Vec<Leg> = legs.collect();
         let leg = |of: fn(&Leg) -> bool| drawn.points > 0 && legs.iter().any(of);
-        let kept = walk.iter().filter(|made| made.close != Some(true)).count();
+        let kept = made.iter().filter(|made| made.close != Some(true)).count();
         case.reaching_if(event(&|side| side.q == side.p + 1), "a U event")
             .reaching_if(event(&|side| side.q == side.p + v_steps + 1), "a V event")
             .reaching_if(
@@ -274,10 +324,26 @@ impl Input {
             )
             .reaching_if(leg(ends_on_a_line), "an event at an end")
             .reaching_if(leg(goes_down_from_a_line), "an event at -0")
-            .reaching_if(kept < walk.len(), "a point close to the last one")
+            .reaching_if(kept < made.len(), "a point close to the last one")
             .reaching_if(drawn.points < kept, "a line of one point")
             .reaching_if(drawn.lines > 1, "several lines")
             .reaching_if(drawn.lines > 0 && self.marks.contains(&0), "a break")
+    }
+
+    /// What the sample numbers of a trace that is drawn reach: breaks that they count, and a point
+    /// that is left out and does not change the number of the one before it.
+    fn reached_by_samples(&self, case: Recorded) -> Recorded {
+        let walk = self.walk.as_ref().expect("it is drawn");
+        let last = walk.kept.last().map_or(0, |made| made.sample);
+        let before = &self.marks[..last];
+        let of_another_leg = |made: &[Made]| made[0].sample < made[1].sample;
+        let left_out = |made: &[Made]| made[1].close == Some(true) && of_another_leg(made);
+        case.reaching_if(before.starts_with(&[0]), "a break before all points")
+            .reaching_if(before.windows(2).any(|m| m == [0, 0]), "breaks in a row")
+            .reaching_if(
+                last > 0 && walk.made.windows(2).any(left_out),
+                "a point close to the last one of another leg",
+            )
     }
 }
 
@@ -335,6 +401,61 @@ mod tests {
     }
 
     #[test]
+    fn the_list_of_samples_alone_is_often_full() {
+        let mut random = Random::new(1);
+        let mut few = Scenes::new(50, |random| 1 + random.below(4) as usize);
+        let inputs = (0..20_000).map(|_| traced(&mut random, &mut few));
+        let full = inputs.filter(Input::full_of_samples).count();
+        assert!(full > 200, "{full}");
+    }
+
+    /// A leg that is walked alone makes the points that have its number in the walk of all samples.
+    #[test]
+    fn the_judge_numbers_each_point_by_its_leg() {
+        let mut random = Random::new(1);
+        let mut few = Scenes::new(50, |random| 1 + random.below(4) as usize);
+        for _ in 0..5_000 {
+            let input = traced(&mut random, &mut few);
+            let walk = input.walk.as_ref().expect("it is not refused");
+            let side = |made: &Made| made.point.map(|(_, side)| side);
+            let mut count = 0;
+            for (leg, number) in input.samples().windows(2).zip(1..) {
+                let alone = input.scene.surface().walk(leg).made;
+                let numbered = walk.made.iter().filter(|made| made.sample == number);
+                assert!(numbered.map(side).eq(alone.iter().map(side)), "{number}");
+                count += alone.len();
+            }
+            assert_eq!(count, walk.made.len());
+        }
+    }
+
+    #[test]
+    fn the_judge_keeps_the_laws_of_the_numbers() {
+        let mut random = Random::new(2);
+        let mut few = Scenes::new(50, |random| 1 + random.below(4) as usize);
+        for _ in 0..20_000 {
+            let input = traced(&mut random, &mut few);
+            let output = original(&input);
+            let drawn = output.told.map_or(0, |drawn| drawn.points);
+            assert_eq!(broken_law(&output.samples[..drawn], &input.marks), "");
+        }
+    }
+
+    #[test]
+    fn laws_that_numbers_break_are_told() {
+        let marks = [1, 1, 0, 1, 1, 1];
+        for numbers in [&[][..], &[1, 1, 4, 4, 5], &[5]] {
+            assert_eq!(broken_law(numbers, &marks), "", "{numbers:?}");
+        }
+        // Of the first sample, a break, the one after it, and one that is not there.
+        for number in [0, 2, 3, 6, usize::MAX] {
+            let told = broken_law(&[1, number], &marks);
+            assert_eq!(told, "; a number is of no leg", "{number}");
+        }
+        assert_eq!(broken_law(&[1, 5, 4], &marks), "; numbers fall");
+    }
+
+    #[test]
     fn each_refusal_comes_before_the_walk() {
         let mut random = Random::new(1);
         let counts = refusals((0..20_000).map(|_| faulty(&mut random)));
@@ -371,6 +492,14 @@ mod tests {
         driver.compare("planted", 1_000, input, library, original)
     }
 
+    /// The words of a case on one cell.
+    fn on_a_cell(numbers: &str, curve: &str, room: &str) -> String {
+        format!("grid u_steps 1 v_steps 1 numbers [ {numbers} ] {curve} room {room}")
+    }
+
+    /// Room for one line of two points.
+    const TWO_POINTS: &str = "points 6 starts 1 sides 4 fractions 2 samples 2";
+
     /// A trace that forgets the last point of the last line.
     #[test]
     fn a_lost_point_is_found() {
@@ -385,10 +514,8 @@ mod tests {
             |driver| compare_up_to(20, driver, short),
             |driver| compare_up_to(20, driver, library),
         );
-        let grid = "u_steps 1 v_steps 1 numbers [ o o o 0.0 0.0 1.0 ]";
-        let curve = "pairs [ 1.0 1.0 0.0 0.0 ] marks [ 1 1 ]";
-        let room = "points 6 starts 1 sides 4 fractions 2";
-        assert_eq!(case, format!("grid {grid} {curve} room {room}"));
+        let curve = "pairs [ 0.0 0.0 1.0 1.0 ] marks [ 1 1 ]";
+        assert_eq!(case, on_a_cell("o o o 0.0 0.0 1.0", curve, TWO_POINTS));
     }
 
     /// A trace that says 12 where one list has just the room.
@@ -407,8 +534,139 @@ mod tests {
             |driver| compare_up_to(4, driver, early),
             |driver| compare_up_to(4, driver, library),
         );
-        let grid = "u_steps 1 v_steps 1 numbers [ o o o o ]";
-        let room = "points 0 starts 0 sides 0 fractions 0";
-        assert_eq!(case, format!("grid {grid} pairs [ ] marks [ ] room {room}"));
+        let room = "points 0 starts 0 sides 0 fractions 0 samples 0";
+        assert_eq!(case, on_a_cell("o o o o", "pairs [ ] marks [ ]", room));
+    }
+
+    /// The smallest case on which a library differs whose numbers of samples are other ones.
+    fn found_numbers(other: impl Fn(&Input, usize) -> usize) -> String {
+        let wrong = |input: &Input| {
+            let mut output = original(input);
+            let drawn = output.told.map_or(0, |drawn| drawn.points);
+            for number in &mut output.samples[..drawn] {
+                *number = other(input, *number);
+            }
+            output
+        };
+        found(
+            |driver| compare_up_to(4, driver, wrong),
+            |driver| compare_up_to(4, driver, library),
+        )
+    }
+
+    /// A trace that numbers the points among the samples, and no breaks.
+    #[test]
+    fn breaks_that_are_not_counted_are_found() {
+        let case = found_numbers(|input, number| {
+            let before = &input.marks[..number];
+            number - before.iter().filter(|&&mark| mark == 0).count()
+        });
+        let curve = "pairs [ 0.0 0.0 1.0 1.0 0.0 0.0 ] marks [ 0 1 1 ]";
+        assert_eq!(case, on_a_cell("o o o 0.0 0.0 1.0", curve, TWO_POINTS));
+    }
+
+    /// A trace that hands out the number of a leg's first sample.
+    #[test]
+    fn the_number_of_the_earlier_sample_is_found() {
+        let case = found_numbers(|_, number| number - 1);
+        let curve = "pairs [ 0.0 0.0 1.0 0.0 ] marks [ 1 1 ]";
+        assert_eq!(case, on_a_cell("o o 0.0 0.0 1.0 o", curve, TWO_POINTS));
+    }
+
+    /// The numbers of the points in lines, each that of the last point close to it.
+    fn overwritten(made: &[Made]) -> Vec<usize> {
+        let mut lines: Vec<Vec<usize>> = Vec::new();
+        for point in made {
+            match (point.close, lines.last_mut()) {
+                (Some(close), Some(line)) => {
+                    line.truncate(line.len() - usize::from(close));
+                    line.push(point.sample);
+                }
+                _ => lines.push(vec![point.sample]),
+            }
+        }
+        lines.retain(|line| line.len() > 1);
+        lines.concat()
+    }
+
+    /// A trace in which a point that is left out changes the number of the one before it.
+    #[test]
+    fn a_number_of_a_point_that_is_left_out_is_found() {
+        let wrong = |input: &Input| {
+            let mut output = original(input);
+            if let (Ok(_), Ok(walk)) = (output.told, &input.walk) {
+                fill(&mut output.samples, overwritten(&walk.made));
+            }
+            output
+        };
+        let case = found(
+            |driver| compare_up_to(4, driver, wrong),
+            |driver| compare_up_to(4, driver, library),
+        );
+        // There and back, so that the second leg begins at the point where the first one ends.
+        let curve = "pairs [ 0.0 0.0 1.0 o ] marks [ 1 1 1 ]";
+        let room = "points 9 starts 1 sides 6 fractions 3 samples 3";
+        assert_eq!(case, on_a_cell("o o 0.0 0.0 1.0 o", curve, room));
+    }
+
+    /// A trace that does not ask whether the list of samples has room.
+    #[test]
+    fn a_number_past_a_short_list_is_found() {
+        let wrong = |input: &Input| {
+            let mut roomy = input.clone();
+            roomy.room.samples = input.room.samples.max(input.need().points);
+            let mut output = original(&roomy);
+            if output.told.is_ok() {
+                output.samples.truncate(input.room.samples);
+            } else {
+                output.samples = original(input).samples;
+            }
+            output
+        };
+        let case = found(
+            |driver| compare_up_to(4, driver, wrong),
+            |driver| compare_up_to(4, driver, library),
+        );
+        let curve = "pairs [ o 0.0 ] marks [ 1 1 ]";
+        let room = "points 3 starts 0 sides 2 fractions 1 samples 0";
+        assert_eq!(case, on_a_cell("o o o o", curve, room));
+    }
+
+    /// A trace that leaves the list of samples as it was past the points that are drawn.
+    #[test]
+    fn a_tail_that_is_not_cleared_is_found() {
+        let wrong = |input: &Input| {
+            let mut output = original(input);
+            if let Ok(drawn) = output.told {
+                let before = numbers(input.room.samples);
+                output.samples[drawn.points..].copy_from_slice(&before[drawn.points..]);
+            }
+            output
+        };
+        let case = found(
+            |driver| compare_up_to(4, driver, wrong),
+            |driver| compare_up_to(4, driver, library),
+        );
+        let room = "points 0 starts 0 sides 0 fractions 0 samples 1";
+        assert_eq!(case, on_a_cell("o o o o", "pairs [ ] marks [ ]", room));
+    }
+
+    /// A trace that leaves the list of samples as it was where another one is full.
+    #[test]
+    fn a_list_that_is_not_cleared_is_found() {
+        let wrong = |input: &Input| {
+            let mut output = original(input);
+            if output.told == Err(Refusal::Full) {
+                output.samples = numbers(input.room.samples);
+            }
+            output
+        };
+        let case = found(
+            |driver| compare_up_to(4, driver, wrong),
+            |driver| compare_up_to(4, driver, library),
+        );
+        let curve = "pairs [ o 0.0 ] marks [ 1 1 ]";
+        let room = "points 0 starts 0 sides 0 fractions 0 samples 1";
+        assert_eq!(case, on_a_cell("o o o o", curve, room));
     }
 }

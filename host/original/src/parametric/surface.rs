@@ -30,8 +30,20 @@ pub struct Side {
 pub struct Made {
     /// The point and what it was made from, or nothing where the original panics.
     pub point: Option<(Vector, Side)>,
+    /// The number of the sample that the original took last before it made the point, from 0 on.
+    pub sample: usize,
     /// Whether it is close to the last pending point, or nothing where no point is pending.
     pub close: Option<bool>,
+}
+
+/// The walk of a trace. It goes on where the original panics.
+#[derive(Debug, Clone)]
+pub struct Walk {
+    /// The points that it makes, in order. A pending line was flushed before each one at which no
+    /// point is pending, and at the end.
+    pub made: Vec<Made>,
+    /// Those that the original's own lines keep.
+    pub kept: Vec<Made>,
 }
 
 /// A surface of `u_steps` by `v_steps` cells.
@@ -84,30 +96,38 @@ impl Surface {
         caught(|| self.0.trace_edge_curve(points(samples)))
     }
 
-    /// The points that the walk of `trace` makes, in order. It goes on where the original panics.
-    ///
-    /// A pending line was flushed before each point at which no point is pending, and at the end.
-    pub fn walk(&self, samples: &[Sample]) -> Vec<Made> {
-        let made = RefCell::new(Vec::new());
-        trace_parametric_edge_curve(
+    /// The walk of `trace`, in which a point is its place among those that are made. The original
+    /// takes a sample only when it is done with the leg before it, so that the samples it has taken
+    /// tell which leg makes a point.
+    pub fn walk(&self, samples: &[Sample]) -> Walk {
+        let made = RefCell::new(Vec::<Made>::new());
+        let taken = Cell::new(0);
+        let paths = trace_parametric_edge_curve(
             self.0.u_steps,
             self.0.v_steps,
-            points(samples),
+            points(samples).inspect(|_| taken.set(taken.get() + 1)),
             |edge, at| {
                 let side = self.side(edge, at);
-                let point = side.map(|side| (self.0.edge_point(edge, at), side));
-                made.borrow_mut().push(Made { point, close: None });
-                point
+                let mut made = made.borrow_mut();
+                made.push(Made {
+                    point: side.map(|side| (self.0.edge_point(edge, at), side)),
+                    sample: taken.get() - 1,
+                    close: None,
+                });
+                made.len() - 1
             },
-            |a: &Option<(Vector, Side)>, b| {
-                let close = a.zip(*b).is_some_and(|((a, _), (b, _))| a.all_close(b));
-                if let Some(last) = made.borrow_mut().last_mut() {
-                    last.close = Some(close);
-                }
+            |last: &usize, place| {
+                let mut made = made.borrow_mut();
+                let both = made[*last].point.zip(made[*place].point);
+                let close = both.is_some_and(|((a, _), (b, _))| a.all_close(b));
+                made[*place].close = Some(close);
                 close
             },
         );
-        made.into_inner()
+        let made = made.into_inner();
+        let kept = paths.iter_paths().flatten().map(|&place| made[place]);
+        let kept = kept.collect();
+        Walk { made, kept }
     }
 
     /// What `edge_point` reads, by its own `step_index` and `grid_index`, or nothing where it panics.

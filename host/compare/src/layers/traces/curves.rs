@@ -8,7 +8,7 @@ use crate::inputs::{EPS, near};
 use crate::random::Random;
 use crate::text::{Text, Words};
 use merlontrispa::Refusal;
-use original::{Made, Sample, Surface, Vector, vectors};
+use original::{Sample, Surface, Vector, Walk, vectors};
 use std::rc::Rc;
 
 /// The largest magnitude of a sample's coordinate.
@@ -46,16 +46,24 @@ pub struct Room {
     pub starts: usize,
     pub sides: usize,
     pub fractions: usize,
+    pub samples: usize,
 }
 
 case!(Room {
     points,
     starts,
     sides,
-    fractions
+    fractions,
+    samples
 });
 
 impl Room {
+    /// For how many points there is room in all lists but the starts.
+    pub fn for_points(self) -> usize {
+        let whole = (self.points / 3).min(self.sides / 2);
+        whole.min(self.fractions).min(self.samples)
+    }
+
     /// Room that is as far from what is needed `after` as this is from what was needed `before`.
     fn as_far(self, before: Need, after: Need) -> Self {
         Self {
@@ -63,6 +71,7 @@ impl Room {
             starts: as_far(self.starts, before.lines, after.lines),
             sides: as_far(self.sides, 2 * before.points, 2 * after.points),
             fractions: as_far(self.fractions, before.points, after.points),
+            samples: as_far(self.samples, before.points, after.points),
         }
     }
 }
@@ -107,7 +116,7 @@ pub struct Input {
     pub marks: Vec<u8>,
     pub room: Room,
     /// What the original's walk makes, unless the call is refused before it.
-    pub walk: Result<Vec<Made>, Refusal>,
+    pub walk: Result<Walk, Refusal>,
 }
 
 impl Input {
@@ -150,8 +159,9 @@ impl Input {
     }
 }
 
-fn need(walk: &Result<Vec<Made>, Refusal>) -> Need {
-    walk.as_deref().map_or_else(|_| Need::default(), Need::of)
+fn need(walk: &Result<Walk, Refusal>) -> Need {
+    let made = walk.as_ref().map(|walk| &walk.made);
+    made.map_or_else(|_| Need::default(), |made| Need::of(made))
 }
 
 impl Case for Input {
@@ -296,6 +306,7 @@ pub fn spare(need: Need, more: usize) -> Room {
         starts: need.lines + more,
         sides: 2 * need.points + more,
         fractions: need.points + more,
+        samples: need.points + more,
     }
 }
 
@@ -309,28 +320,30 @@ pub fn traced(random: &mut Random, scenes: &mut Scenes<impl Fn(&mut Random) -> u
 
 /// Room that is mostly enough; where it is not, one list is the shortest.
 fn any_room(random: &mut Random, need: Need) -> Room {
-    let mut more = [0; 4].map(|_| random.below(4) as usize);
-    let mut least = [need.points, need.lines, need.points, need.points];
+    let mut more = [0; 5].map(|_| random.below(4) as usize);
+    let mut least = [need.points; 5];
+    least[1] = need.lines;
     if random.below(3) == 0 {
-        let list = random.below(4) as usize;
+        let list = random.below(5) as usize;
         more[list] = 0;
         least[list] = match random.below(4) {
             0 => random.below(least[list] as u64 + 1) as usize,
             _ => least[list].saturating_sub(random.below(3) as usize),
         };
     }
-    let [points, starts, sides, fractions] = least;
+    let [points, starts, sides, fractions, samples] = least;
     Room {
         points: 3 * points + more[0],
         starts: starts + more[1],
         sides: 2 * sides + more[2],
         fractions: fractions + more[3],
+        samples: samples + more[4],
     }
 }
 
-/// 1 to 300 samples, mostly few, with breaks. The original takes a millisecond for a leg that goes as
-/// far away as it may, so that such legs are few, but more on the large grids, of which there are
-/// fewer.
+/// 1 to 300 samples, mostly few, with breaks, which on some curves are half of them. The original
+/// takes a millisecond for a leg that goes as far away as it may, so that such legs are few, but
+/// more on the large grids, of which there are fewer.
 fn any_samples(random: &mut Random, m: usize, n: usize) -> (Vec<f64>, Vec<u8>) {
     let count = 1 + match random.below(256) {
         0 => random.below(300),
@@ -345,9 +358,10 @@ fn any_samples(random: &mut Random, m: usize, n: usize) -> (Vec<f64>, Vec<u8>) {
     };
     let (mut pairs, mut marks) = (Vec::new(), Vec::new());
     let mut last = [0.5, 0.5];
+    let one_break_in = if random.below(6) == 0 { 2 } else { 12 };
     for _ in 0..count {
         last = any_sample(random, last, [m, n], far);
-        let marked = random.below(12) != 0;
+        let marked = random.below(one_break_in) != 0;
         if marked {
             pairs.extend(last);
         } else {

@@ -1,7 +1,7 @@
 //! The walk of a trace again, over the points that the original makes, with room for so many.
 
 use merlontrispa::Refusal;
-use original::{Made, Side};
+use original::Made;
 
 /// The least room that a walk needs to come as far as it can.
 #[derive(Debug, Clone, Copy, Default)]
@@ -13,19 +13,19 @@ pub struct Need {
 }
 
 impl Need {
-    pub fn of(walk: &[Made]) -> Self {
+    pub fn of(made: &[Made]) -> Self {
         let mut pen = Pen::new(usize::MAX, usize::MAX);
         // Where the original panics the room up to there is what matters.
-        let _ = pen.walk(walk);
+        let _ = pen.walk(made);
         pen.need
     }
 }
 
-/// The sides of the points that are drawn, or what ends the walk: 11 where the original panics, 12
-/// where a point or a line is past the room.
-pub fn replay(walk: &[Made], points: usize, lines: usize) -> Result<Vec<Side>, Refusal> {
+/// What ends the walk: 11 where the original panics, 12 where a point or a line is past the room. Else
+/// the number of points that are drawn.
+pub fn replay(made: &[Made], points: usize, lines: usize) -> Result<usize, Refusal> {
     let mut pen = Pen::new(points, lines);
-    pen.walk(walk)?;
+    pen.walk(made)?;
     Ok(pen.kept)
 }
 
@@ -33,8 +33,9 @@ pub fn replay(walk: &[Made], points: usize, lines: usize) -> Result<Vec<Side>, R
 struct Pen {
     points: usize,
     lines: usize,
-    kept: Vec<Side>,
-    pending: Vec<Side>,
+    /// The points of the lines that are kept, and of the one that is pending.
+    kept: usize,
+    pending: usize,
     need: Need,
 }
 
@@ -43,45 +44,45 @@ impl Pen {
         Self {
             points,
             lines,
-            kept: Vec::new(),
-            pending: Vec::new(),
+            kept: 0,
+            pending: 0,
             need: Need::default(),
         }
     }
 
-    fn walk(&mut self, walk: &[Made]) -> Result<(), Refusal> {
-        for made in walk {
+    fn walk(&mut self, made: &[Made]) -> Result<(), Refusal> {
+        for point in made {
             // Where nothing is pending the line before was flushed.
-            if made.close.is_none() {
+            if point.close.is_none() {
                 self.flush()?;
             }
-            let (_, side) = made.point.ok_or(Refusal::NoStep)?;
-            if made.close != Some(true) {
-                self.push(side)?;
+            point.point.ok_or(Refusal::NoStep)?;
+            if point.close != Some(true) {
+                self.push()?;
             }
         }
         self.flush()
     }
 
-    fn push(&mut self, side: Side) -> Result<(), Refusal> {
-        let count = self.kept.len() + self.pending.len();
+    fn push(&mut self) -> Result<(), Refusal> {
+        let count = self.kept + self.pending;
         if count >= self.points {
             return Err(Refusal::Full);
         }
-        self.pending.push(side);
+        self.pending += 1;
         self.need.points = self.need.points.max(count + 1);
         Ok(())
     }
 
     fn flush(&mut self) -> Result<(), Refusal> {
-        if self.pending.len() >= 2 {
+        if self.pending >= 2 {
             if self.need.lines >= self.lines {
                 return Err(Refusal::Full);
             }
             self.need.lines += 1;
-            self.kept.append(&mut self.pending);
+            self.kept += self.pending;
         }
-        self.pending.clear();
+        self.pending = 0;
         Ok(())
     }
 }
