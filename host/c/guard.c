@@ -13,7 +13,7 @@
 #include <string.h>
 #include <sys/mman.h>
 
-enum { PAGE = 4096, PAGES = 4, ROOM = PAGE * PAGES, LISTS = 7, TRIALS = 4000, PATTERN = 0xA5 };
+enum { PAGE = 4096, PAGES = 4, ROOM = PAGE * PAGES, LISTS = 8, TRIALS = 4000, PATTERN = 0xA5 };
 
 /* A list, as it is lent to one call. */
 typedef struct list {
@@ -238,29 +238,44 @@ static bool draws_and_reads_lines(void) {
         && part.offset + part.length <= points_len;
 }
 
-/* The lists that a trace is drawn into: points, starts, sides and fractions. */
+/* The lists that a trace is drawn into: points, starts, sides, fractions and samples. */
 typedef struct page {
     double *points, *fractions;
-    size_t *starts, *sides;
+    size_t *starts, *sides, *samples;
 } page;
 
-/* Lists 3 to 6, to be written, of these lengths. */
-static page writes_page(const size_t lens[4]) {
+/* Lists 3 to 7, to be written, of these lengths. */
+static page writes_page(const size_t lens[5]) {
     return (page){.points = writes(3, lens[0] * sizeof(double)),
                   .starts = writes(4, lens[1] * sizeof(size_t)),
                   .sides = writes(5, lens[2] * sizeof(size_t)),
-                  .fractions = writes(6, lens[3] * sizeof(double))};
+                  .fractions = writes(6, lens[3] * sizeof(double)),
+                  .samples = writes(7, lens[4] * sizeof(size_t))};
 }
 
 static bool page_left(mt_paths_answer drawn) {
     return paths_fit(drawn) && left(3, drawn.refusal, 3 * drawn.points * sizeof(double))
         && left(4, drawn.refusal, drawn.lines * sizeof(size_t))
         && left(5, drawn.refusal, 2 * drawn.points * sizeof(size_t))
-        && left(6, drawn.refusal, drawn.points * sizeof(double));
+        && left(6, drawn.refusal, drawn.points * sizeof(double))
+        && left(7, drawn.refusal, drawn.points * sizeof(size_t));
+}
+
+/* Whether each number is that of a sample at the end of a leg, and none is less than the one before
+ * it. */
+static bool numbers_fit(const size_t *samples, mt_paths_answer drawn, size_t count) {
+    for (size_t i = 0; i < drawn.points; i++) {
+        size_t number = samples[i];
+        if (number == 0 || number >= count || marks[number - 1] != 1 || marks[number] != 1
+            || (i > 0 && number < samples[i - 1])) {
+            return false;
+        }
+    }
+    return true;
 }
 
 /* The first pairs and marks as records. */
-static bool traces_records(size_t count, const size_t lens[4]) {
+static bool traces_records(size_t count, const size_t lens[5]) {
     mt_sample records[16] = {{0}};
     for (size_t i = 0; i < count; i++) {
         records[i].mark = marks[i];
@@ -268,9 +283,11 @@ static bool traces_records(size_t count, const size_t lens[4]) {
     }
     const mt_sample *lent_records = reads(1, records, count * sizeof *records);
     page page = writes_page(lens);
-    return page_left(mt_trace_samples(lent_grid(), grid_len, m, n, lent_records, count,
-                                      page.points, lens[0], page.starts, lens[1],
-                                      page.sides, lens[2], page.fractions, lens[3]));
+    mt_paths_answer drawn = mt_trace_samples(lent_grid(), grid_len, m, n, lent_records, count,
+                                             page.points, lens[0], page.starts, lens[1],
+                                             page.sides, lens[2], page.fractions, lens[3],
+                                             page.samples, lens[4]);
+    return page_left(drawn) && numbers_fit(page.samples, drawn, count);
 }
 
 static bool traces(void) {
@@ -281,17 +298,19 @@ static bool traces(void) {
         next_without_step();
     }
     size_t room = below(40), points_len = near(3 * room), starts_len = below(6);
-    size_t sides_len = near(2 * room), fractions_len = near(room);
-    const size_t lens[4] = {points_len, starts_len, sides_len, fractions_len};
+    size_t sides_len = near(2 * room), fractions_len = near(room), samples_len = near(room);
+    const size_t lens[5] = {points_len, starts_len, sides_len, fractions_len, samples_len};
     const double *lent_pairs = reads(1, pairs, pairs_len * sizeof *pairs);
     const uint8_t *lent_marks = reads(2, marks, count);
     page page = writes_page(lens);
     mt_paths_answer drawn = mt_trace_flat(lent_grid(), grid_len, m, n,
                                           lent_pairs, pairs_len, lent_marks, count,
                                           page.points, lens[0], page.starts, lens[1],
-                                          page.sides, lens[2], page.fractions, lens[3]);
+                                          page.sides, lens[2], page.fractions, lens[3],
+                                          page.samples, lens[4]);
     ended[drawn.refusal]++;
-    return page_left(drawn) && traces_records(count, lens);
+    return page_left(drawn) && numbers_fit(page.samples, drawn, count)
+        && traces_records(count, lens);
 }
 
 /* Whether all trials of a call go well, and some end with each of these refusals. */

@@ -116,28 +116,31 @@ static void lines(void) {
     EXPECT(part.offset == 0 && part.length == 0);
 }
 
+/* The lists that a trace is drawn into, in the order in which they are lent. */
+#define LISTS LENT(points), LENT(starts), LENT(sides), LENT(fractions), LENT(samples)
+
 static void traces(void) {
     const double pairs[] = {0, 0.25, 0.75, 0.25};
     const uint8_t marks[] = {1, 1}, wrong[] = {1, 2};
     double points[7] = {9, 9, 9, 9, 9, 9, 9}, fractions[3] = {9, 9, 9};
-    size_t starts[2] = {9, 9}, sides[5] = {9, 9, 9, 9, 9};
+    size_t starts[2] = {9, 9}, sides[5] = {9, 9, 9, 9, 9}, samples[3] = {9, 9, 9};
 
-    mt_paths_answer drawn = mt_trace_flat(LENT(cell), 1, 1, LENT(pairs), LENT(wrong),
-                                          LENT(points), LENT(starts), LENT(sides), LENT(fractions));
+    mt_paths_answer drawn = mt_trace_flat(LENT(cell), 1, 1, LENT(pairs), LENT(wrong), LISTS);
     EXPECT(drawn.refusal == MT_MARK && drawn.points == 0 && drawn.lines == 0);
     EXPECT(SAME(sides, (size_t[]){9, 9, 9, 9, 9}) && SAME(fractions, (double[]){9, 9, 9}));
+    EXPECT(SAME(samples, (size_t[]){9, 9, 9}));
 
-    drawn = mt_trace_flat(LENT(cell), 1, 1, LENT(pairs), LENT(marks),
-                          LENT(points), LENT(starts), LENT(sides), LENT(fractions));
+    drawn = mt_trace_flat(LENT(cell), 1, 1, LENT(pairs), LENT(marks), LISTS);
     EXPECT(drawn.refusal == MT_OK && drawn.points == 2 && drawn.lines == 1);
     EXPECT(SAME(points, (double[]){0, 0.25, 0, 0.75, 0.25, 0, 0}));
     EXPECT(SAME(starts, (size_t[]){0, 0}) && SAME(sides, (size_t[]){0, 1, 2, 1, 0}));
-    EXPECT(SAME(fractions, (double[]){0.25, 0.25, 0}));
+    EXPECT(SAME(fractions, (double[]){0.25, 0.25, 0}) && SAME(samples, (size_t[]){1, 1, 0}));
 
-    drawn = mt_trace_flat(LENT(cell), 1, 1, LENT(pairs), LENT(marks),
-                          points, 5, LENT(starts), LENT(sides), LENT(fractions));
+    drawn = mt_trace_flat(LENT(cell), 1, 1, LENT(pairs), LENT(marks), points, 5,
+                          LENT(starts), LENT(sides), LENT(fractions), LENT(samples));
     EXPECT(drawn.refusal == MT_FULL && drawn.points == 0 && drawn.lines == 0);
     EXPECT(SAME(sides, (size_t[]){0, 0, 0, 0, 0}) && SAME(fractions, (double[]){0, 0, 0}));
+    EXPECT(SAME(samples, (size_t[]){0, 0, 0}));
 
     const double lost[] = {no_step[0].point.u, no_step[0].point.v,
                            no_step[1].point.u, no_step[1].point.v};
@@ -145,43 +148,101 @@ static void traces(void) {
     memset(starts, 9, sizeof starts);
     memset(sides, 9, sizeof sides);
     memset(fractions, 9, sizeof fractions);
-    drawn = mt_trace_flat(LENT(cell), 1, 1, LENT(lost), LENT(marks),
-                          LENT(points), LENT(starts), LENT(sides), LENT(fractions));
+    memset(samples, 9, sizeof samples);
+    drawn = mt_trace_flat(LENT(cell), 1, 1, LENT(lost), LENT(marks), LISTS);
     EXPECT(drawn.refusal == MT_NO_STEP && drawn.points == 0 && drawn.lines == 0);
     EXPECT(SAME(points, (double[7]){0}) && SAME(starts, (size_t[2]){0}));
     EXPECT(SAME(sides, (size_t[5]){0}) && SAME(fractions, (double[3]){0}));
+    EXPECT(SAME(samples, (size_t[3]){0}));
 
-    drawn = mt_trace_flat(LENT(cell), 1, 1, NULL, 0, NULL, 0, NULL, 0, NULL, 0, NULL, 0, NULL, 0);
+    drawn = mt_trace_flat(LENT(cell), 1, 1, NULL, 0, NULL, 0,
+                          NULL, 0, NULL, 0, NULL, 0, NULL, 0, NULL, 0);
     EXPECT(drawn.refusal == MT_OK && drawn.points == 0 && drawn.lines == 0);
 }
 
-static void samples(void) {
-    const mt_sample curve[] = {{1, {0, 0.25}}, {1, {0.75, 0.25}}, {0, {NAN, NAN}}};
+static void records(void) {
+    const mt_sample curve[] = {{0, {NAN, NAN}}, {1, {0, 0.25}}, {1, {0.75, 0.25}}};
     const mt_sample wrong[] = {{1, {0, 0.25}}, {2, {0.75, 0.25}}};
     double points[7] = {9, 9, 9, 9, 9, 9, 9}, fractions[3] = {9, 9, 9};
-    size_t starts[2] = {9, 9}, sides[5] = {9, 9, 9, 9, 9};
+    size_t starts[2] = {9, 9}, sides[5] = {9, 9, 9, 9, 9}, samples[3] = {9, 9, 9};
 
-    mt_paths_answer drawn =
-        mt_trace_samples(LENT(cell), 1, 1, LENT(wrong),
-                         LENT(points), LENT(starts), LENT(sides), LENT(fractions));
+    mt_paths_answer drawn = mt_trace_samples(LENT(cell), 1, 1, LENT(wrong), LISTS);
     EXPECT(drawn.refusal == MT_MARK && drawn.points == 0 && drawn.lines == 0);
     EXPECT(SAME(sides, (size_t[]){9, 9, 9, 9, 9}) && SAME(fractions, (double[]){9, 9, 9}));
+    EXPECT(SAME(samples, (size_t[]){9, 9, 9}));
 
-    drawn = mt_trace_samples(LENT(cell), 1, 1, LENT(no_step),
-                             LENT(points), LENT(starts), LENT(sides), LENT(fractions));
+    drawn = mt_trace_samples(LENT(cell), 1, 1, LENT(no_step), LISTS);
     EXPECT(drawn.refusal == MT_NO_STEP && drawn.points == 0 && drawn.lines == 0);
     EXPECT(SAME(points, (double[7]){0}) && SAME(starts, (size_t[2]){0}));
     EXPECT(SAME(sides, (size_t[5]){0}) && SAME(fractions, (double[3]){0}));
+    EXPECT(SAME(samples, (size_t[3]){0}));
 
-    drawn = mt_trace_samples(LENT(cell), 1, 1, LENT(curve),
-                             LENT(points), LENT(starts), LENT(sides), LENT(fractions));
+    drawn = mt_trace_samples(LENT(cell), 1, 1, LENT(curve), LISTS);
     EXPECT(drawn.refusal == MT_OK && drawn.points == 2 && drawn.lines == 1);
     EXPECT(SAME(points, (double[]){0, 0.25, 0, 0.75, 0.25, 0, 0}));
     EXPECT(SAME(starts, (size_t[]){0, 0}) && SAME(sides, (size_t[]){0, 1, 2, 1, 0}));
-    EXPECT(SAME(fractions, (double[]){0.25, 0.25, 0}));
+    EXPECT(SAME(fractions, (double[]){0.25, 0.25, 0}) && SAME(samples, (size_t[]){2, 2, 0}));
 
-    drawn = mt_trace_samples(LENT(cell), 1, 1, NULL, 0, NULL, 0, NULL, 0, NULL, 0, NULL, 0);
+    drawn = mt_trace_samples(LENT(cell), 1, 1, NULL, 0,
+                             NULL, 0, NULL, 0, NULL, 0, NULL, 0, NULL, 0);
     EXPECT(drawn.refusal == MT_OK && drawn.points == 0 && drawn.lines == 0);
+}
+
+/* Room for the points of a curve on one cell. */
+enum { ROOM = 8 };
+
+/* What a trace leaves, and what it answers. */
+typedef struct page {
+    double points[3 * ROOM], fractions[ROOM];
+    size_t starts[ROOM], sides[2 * ROOM], samples[ROOM];
+    mt_paths_answer drawn;
+} page;
+
+/* A curve of up to ROOM samples on one flat cell, with so much room in `samples`: as records, or
+ * flat. */
+static page traced(bool flat, const mt_sample *curve, size_t count, size_t samples_len) {
+    const double grid[] = {0, 0, 0, 0, 1, 0, 1, 0, 0, 1, 1, 0};
+    double pairs[2 * ROOM];
+    uint8_t marks[ROOM];
+    for (size_t i = 0; i < count; i++) {
+        pairs[2 * i] = curve[i].point.u;
+        pairs[2 * i + 1] = curve[i].point.v;
+        marks[i] = curve[i].mark;
+    }
+    page p;
+    memset(&p, 9, sizeof p);
+    p.drawn = flat ? mt_trace_flat(LENT(grid), 1, 1, pairs, 2 * count, marks, count, LENT(p.points),
+                                   LENT(p.starts), LENT(p.sides), LENT(p.fractions),
+                                   p.samples, samples_len)
+                   : mt_trace_samples(LENT(grid), 1, 1, curve, count, LENT(p.points),
+                                      LENT(p.starts), LENT(p.sides), LENT(p.fractions),
+                                      p.samples, samples_len);
+    return p;
+}
+
+/* The known results of Rules 7.5, by one of the two traces. */
+static void sample_numbers(bool flat) {
+    const mt_sample from = {1, {0, 0.25}}, to = {1, {0.75, 0.25}}, apart = {0, {NAN, NAN}};
+    const mt_sample two_legs[] = {from, to, {1, {1, 0.25}}};
+    page p = traced(flat, LENT(two_legs), ROOM);
+    EXPECT(p.drawn.refusal == MT_OK && p.drawn.points == 3 && p.drawn.lines == 1);
+    EXPECT(SAME(p.samples, (size_t[ROOM]){1, 1, 2}));
+
+    const mt_sample two_lines[] = {from, to, apart, {1, {0, 0.75}}, {1, {1, 0.75}}};
+    p = traced(flat, LENT(two_lines), ROOM);
+    EXPECT(p.drawn.refusal == MT_OK && p.drawn.points == 5 && p.drawn.lines == 2);
+    EXPECT(SAME(p.samples, (size_t[ROOM]){1, 1, 4, 4, 4}));
+
+    const mt_sample twice[] = {from, from, to};
+    p = traced(flat, LENT(twice), ROOM);
+    EXPECT(p.drawn.refusal == MT_OK && p.drawn.points == 2 && p.drawn.lines == 1);
+    EXPECT(SAME(p.samples, (size_t[ROOM]){1, 2}));
+
+    p = traced(flat, two_legs, 2, 1);
+    EXPECT(p.drawn.refusal == MT_FULL && p.drawn.points == 0 && p.drawn.lines == 0);
+    EXPECT(SAME(p.points, (double[3 * ROOM]){0}) && SAME(p.starts, (size_t[ROOM]){0}));
+    EXPECT(SAME(p.sides, (size_t[2 * ROOM]){0}) && SAME(p.fractions, (double[ROOM]){0}));
+    EXPECT(p.samples[0] == 0 && p.samples[1] != 0);
 }
 
 static bool same_plan(mt_ray_counts plan, uint8_t refusal, size_t rays, size_t samples) {
@@ -272,7 +333,9 @@ int main(void) {
     triangles();
     lines();
     traces();
-    samples();
+    records();
+    sample_numbers(true);
+    sample_numbers(false);
     textures();
     vectors();
     numbers();

@@ -247,14 +247,15 @@ static void read_line(struct input *input) {
 }
 
 /* What a curve is drawn into. */
-struct page { struct list points, starts, sides, fractions; };
+struct page { struct list points, starts, sides, fractions, samples; };
 
 /* Lists of so many numbers each, in the places from this one on. */
-static struct page lend_page(int place, const size_t lens[4], int front) {
+static struct page lend_page(int place, const size_t lens[5], int front) {
     return (struct page){lend(place, lens[0] * sizeof(double), front),
                          lend(place + 1, lens[1] * sizeof(size_t), front),
                          lend(place + 2, lens[2] * sizeof(size_t), front),
-                         lend(place + 3, lens[3] * sizeof(double), front)};
+                         lend(place + 3, lens[3] * sizeof(double), front),
+                         lend(place + 4, lens[4] * sizeof(size_t), front)};
 }
 
 static int same_bytes(const struct list *a, const struct list *b) {
@@ -263,12 +264,13 @@ static int same_bytes(const struct list *a, const struct list *b) {
 
 static int same_page(const struct page *a, const struct page *b) {
     return same_bytes(&a->points, &b->points) && same_bytes(&a->starts, &b->starts)
-        && same_bytes(&a->sides, &b->sides) && same_bytes(&a->fractions, &b->fractions);
+        && same_bytes(&a->sides, &b->sides) && same_bytes(&a->fractions, &b->fractions)
+        && same_bytes(&a->samples, &b->samples);
 }
 
 static int page_untouched(const struct page *page) {
     return untouched(&page->points) && untouched(&page->starts) && untouched(&page->sides)
-        && untouched(&page->fractions);
+        && untouched(&page->fractions) && untouched(&page->samples);
 }
 
 /* Whether all places past so many points and lines are zero. */
@@ -276,7 +278,8 @@ static int page_zero(const struct page *page, size_t points, size_t lines) {
     return zero_from(&page->points, 3 * points * sizeof(double))
         && zero_from(&page->starts, lines * sizeof(size_t))
         && zero_from(&page->sides, 2 * points * sizeof(size_t))
-        && zero_from(&page->fractions, points * sizeof(double));
+        && zero_from(&page->fractions, points * sizeof(double))
+        && zero_from(&page->samples, points * sizeof(size_t));
 }
 
 /* Each line has two points or more; each point is (1 - t) p + t q of two points of the grid. */
@@ -297,6 +300,16 @@ static void drawn_holds(const struct grid *grid, const struct page *page, size_t
             double made = p * (1.0 - t) + q * t;
             HOLDS(!memcmp(&made, &points_at[3 * i + axis], sizeof made));
         }
+    }
+}
+
+/* Each number is that of a sample at the end of a leg, and none is less than the one before it. */
+static void numbers_hold(const struct page *page, size_t points, const uint8_t *marks, size_t samples) {
+    const size_t *numbers = page->samples.at;
+    for (size_t i = 0; i < points; i++) {
+        HOLDS(0 < numbers[i] && numbers[i] < samples);
+        HOLDS(marks[numbers[i] - 1] == 1 && marks[numbers[i]] == 1);
+        HOLDS(!i || numbers[i - 1] <= numbers[i]);
     }
 }
 
@@ -329,18 +342,19 @@ static struct list any_marks(struct input *input, size_t samples, int front) {
 
 /* The records of these pairs and marks are traced as the pairs and marks were. */
 static void records_hold(const struct grid *grid, const double *pairs, const uint8_t *marks, size_t samples,
-                         const size_t lens[4], int front, const struct page *flat, mt_paths_answer told) {
-    struct list list = lend(7, samples * sizeof(mt_sample), front);
+                         const size_t lens[5], int front, const struct page *flat, mt_paths_answer told) {
+    struct list list = lend(8, samples * sizeof(mt_sample), front);
     mt_sample *records = list.at;
     for (size_t i = 0; i < samples; i++) {
         records[i].mark = marks[i];
         records[i].point = (mt_param_point){pairs[2 * i], pairs[2 * i + 1]};
     }
     keep(&list);
-    struct page page = lend_page(8, lens, front);
+    struct page page = lend_page(9, lens, front);
     mt_paths_answer again = mt_trace_samples(
         grid->list.at, grid->length, grid->m, grid->n, records, samples, page.points.at, lens[0],
-        page.starts.at, lens[1], page.sides.at, lens[2], page.fractions.at, lens[3]);
+        page.starts.at, lens[1], page.sides.at, lens[2], page.fractions.at, lens[3], page.samples.at,
+        lens[4]);
     HOLDS(untouched(&grid->list) && untouched(&list));
     HOLDS(again.refusal == told.refusal && again.points == told.points && again.lines == told.lines);
     HOLDS(same_page(&page, flat));
@@ -350,12 +364,13 @@ static void records_hold(const struct grid *grid, const double *pairs, const uin
    11 stays. */
 static void walk_refusal_holds(const struct grid *grid, const struct list *pairs,
                                const struct list *marks, uint8_t refusal) {
-    const size_t lens[4] = {3 * ROOM_FOR_ALL, ROOM_FOR_ALL, 2 * ROOM_FOR_ALL, ROOM_FOR_ALL};
-    struct page page = lend_page(8, lens, 0);
+    const size_t lens[5] = {3 * ROOM_FOR_ALL, ROOM_FOR_ALL, 2 * ROOM_FOR_ALL, ROOM_FOR_ALL,
+                            ROOM_FOR_ALL};
+    struct page page = lend_page(9, lens, 0);
     mt_paths_answer roomy = mt_trace_flat(
         grid->list.at, grid->length, grid->m, grid->n, pairs->at, pairs->bytes / sizeof(double),
         marks->at, marks->bytes, page.points.at, lens[0], page.starts.at, lens[1], page.sides.at,
-        lens[2], page.fractions.at, lens[3]);
+        lens[2], page.fractions.at, lens[3], page.samples.at, lens[4]);
     HOLDS(refusal == MT_NO_STEP ? roomy.refusal == MT_NO_STEP
                                 : refusal == MT_FULL && roomy.refusal != MT_FULL);
 }
@@ -367,14 +382,15 @@ static void trace(struct input *input) {
     size_t pairs_len = byte(input) % 8 ? 2 * samples : length(input, 2 * samples);
     struct list marks = any_marks(input, samples, front), pairs = floats(input, 1, pairs_len, front);
     /* Where the bytes have come to an end there is still room. */
-    size_t room = (byte(input) + 16) % 256, lens[4] = {3 * room, room, 2 * room, room};
-    for (int i = 0; i < 4; i++) {
+    size_t room = (byte(input) + 16) % 256, lens[5] = {3 * room, room, 2 * room, room, room};
+    for (int i = 0; i < 5; i++) {
         lens[i] = length(input, lens[i]);
     }
     struct page page = lend_page(3, lens, front);
     mt_paths_answer told = mt_trace_flat(
         grid.list.at, grid.length, grid.m, grid.n, pairs.at, pairs_len, marks.at, samples, page.points.at,
-        lens[0], page.starts.at, lens[1], page.sides.at, lens[2], page.fractions.at, lens[3]);
+        lens[0], page.starts.at, lens[1], page.sides.at, lens[2], page.fractions.at, lens[3],
+        page.samples.at, lens[4]);
     noted(told.refusal);
     HOLDS(untouched(&grid.list) && untouched(&pairs) && untouched(&marks));
     HOLDS(!told.refusal || (!told.points && !told.lines));
@@ -391,6 +407,7 @@ static void trace(struct input *input) {
         noted(told.lines);
         HOLDS(page_zero(&page, told.points, told.lines));
         drawn_holds(&grid, &page, told.points, told.lines);
+        numbers_hold(&page, told.points, marks.at, samples);
     }
     if (pairs_len == 2 * samples) {
         records_hold(&grid, pairs.at, marks.at, samples, lens, front, &page, told);

@@ -6,7 +6,7 @@
 #include <string.h>
 #include <sys/mman.h>
 
-enum { PLACES = 12, PAGE = 4096, ROOM = 256 * PAGE };
+enum { PLACES = 14, PAGE = 4096, ROOM = 256 * PAGE };
 
 uint8_t byte(struct input *input) {
     return input->next < input->end ? *input->next++ : 0;

@@ -23,7 +23,7 @@ double number(struct input *input);
 struct list { void *at, *copy; size_t bytes; };
 
 /* A list of so many bytes, each other than zero, that ends, or begins if `front`, at such a page.
-   There are twelve places for lists. */
+   There are fourteen places for lists. */
 struct list lend(int place, size_t bytes, int front);
 
 /* After the list was filled: what stands in it is what it is held to by `untouched`. */

@@ -36,6 +36,7 @@ pub struct Lists {
     pub starts: Vec<usize>,
     pub sides: Vec<usize>,
     pub fractions: Vec<f64>,
+    pub samples: Vec<usize>,
 }
 
 impl Lists {
@@ -46,6 +47,7 @@ impl Lists {
             starts: vec![0; room],
             sides: vec![0; 2 * room],
             fractions: vec![0.0; room],
+            samples: vec![0; room],
         }
     }
 
@@ -55,6 +57,7 @@ impl Lists {
             starts: &mut self.starts,
             sides: &mut self.sides,
             fractions: &mut self.fractions,
+            samples: &mut self.samples,
         }
     }
 }

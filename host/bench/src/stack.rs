@@ -201,9 +201,9 @@ fn flat_trace() -> Call {
 }
 
 fn trace_of_records() -> Call {
-    let samples = across().into_iter().map(|[u, v]| Sample::at(u, v));
-    let samples: Vec<_> = samples.collect();
-    drawing(move |grid, lists| trace_samples(grid, STEPS, STEPS, &samples, lists))
+    let records = across().into_iter().map(|[u, v]| Sample::at(u, v));
+    let records: Vec<_> = records.collect();
+    drawing(move |grid, lists| trace_samples(grid, STEPS, STEPS, &records, lists))
 }
 
 /// 100 samples from corner to corner and back.
