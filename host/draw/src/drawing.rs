@@ -1,5 +1,6 @@
 //! What the library makes of a grid: its seams, its lines, its rim and its flipped triangles.
 
+use crate::pieces::Parts;
 use merlontrispa::{Mapping, OwnedLines, Refusal, Seam, Seams, Surface, Texture, Vector};
 
 pub type Point = [f64; 3];
@@ -12,6 +13,9 @@ pub struct Drawing {
     pub triangles: usize,
     /// The lines of the texture.
     pub lines: OwnedLines,
+    /// For each of their points the number, on its ray, of the sample that made it; 0 on a grid,
+    /// which has no samples.
+    pub samples: Vec<usize>,
     /// The edges of the grid that no seam joins, but for those that are one point, as at a pole.
     pub rim: OwnedLines,
     /// The edges that a seam joins, and how.
@@ -24,7 +28,7 @@ impl Drawing {
     /// # Errors
     /// What the library refuses of the texture.
     pub fn new(surface: Surface<'_>, texture: Texture) -> Result<Self, Refusal> {
-        let lines = surface.texture_lines(texture)?;
+        let (lines, samples) = texture_lines(surface, texture)?;
         let mesh = surface.triangulate();
         let grid_lines = surface.grid_lines();
         let grid_lines: Vec<_> = grid_lines.iter().collect();
@@ -43,11 +47,40 @@ impl Drawing {
             seams: mesh.seams,
             triangles: mesh.triangles.len(),
             lines,
+            samples,
             rim,
             joined,
             flipped: flipped.collect(),
         })
     }
+
+    /// The lines of the texture in parts, of which some belong to the highlighted sample.
+    pub fn parts(&self, highlight: Option<usize>) -> Parts {
+        Parts::new(&self.lines.starts, &self.samples, highlight)
+    }
+}
+
+/// The lines of a texture, as [`Surface::texture_lines`] draws them, and the sample of each point.
+///
+/// Each ray is traced by itself: the rays together may have more samples than a trace takes, and the
+/// number of a sample is then its number on its ray.
+fn texture_lines(
+    surface: Surface<'_>,
+    texture: Texture,
+) -> Result<(OwnedLines, Vec<usize>), Refusal> {
+    if texture == Texture::Grid {
+        let lines = surface.grid_lines();
+        let samples = vec![0; lines.points.len()];
+        return Ok((lines, samples));
+    }
+    let plan = texture.plan(surface.u_steps(), surface.v_steps())?;
+    let (mut lines, mut samples) = (OwnedLines::default(), Vec::new());
+    for ray in 0..plan.rays {
+        let trace = surface.trace_ray(texture, ray)?;
+        lines.extend(&trace.lines);
+        samples.extend(trace.samples);
+    }
+    Ok((lines, samples))
 }
 
 /// Whether all points of a line are close to its first.
@@ -68,6 +101,16 @@ fn edges(surface: Surface<'_>, seams: Seams) -> [(Seam, [usize; 2]); 2] {
 mod tests {
     use super::*;
     use options::{ParametricSurface, names};
+
+    const SWIRL: Texture = Texture::Swirl {
+        spacing: 4.0,
+        twist: 0.5,
+    };
+
+    const SPIRAL: Texture = Texture::Spiral {
+        spacing: 6.0,
+        arms: 2,
+    };
 
     fn grid(name: &str, steps: [usize; 2]) -> Vec<f64> {
         ParametricSurface::named(name).expect("a name").grid(steps)
@@ -117,6 +160,63 @@ mod tests {
                     }
                 }
             }
+        }
+    }
+
+    #[test]
+    fn the_lines_are_those_that_the_library_draws() {
+        for name in names() {
+            let grid = grid(name, [24, 18]);
+            let surface = Surface::new(&grid, 24, 18).expect("a surface");
+            for texture in [Texture::Grid, SWIRL, SPIRAL] {
+                let drawing = Drawing::new(surface, texture).expect("a drawing");
+                let lines = surface.texture_lines(texture);
+                assert_eq!(Ok(drawing.lines), lines, "{name}, {texture:?}");
+            }
+        }
+    }
+
+    #[test]
+    fn each_point_has_its_sample_on_its_ray() {
+        for name in names() {
+            let grid = grid(name, [24, 18]);
+            let surface = Surface::new(&grid, 24, 18).expect("a surface");
+            for texture in [SWIRL, SPIRAL] {
+                let drawing = Drawing::new(surface, texture).expect("a drawing");
+                let plan = texture.plan(24, 18).expect("a plan");
+                assert_eq!(drawing.samples.len(), drawing.lines.points.len(), "{name}");
+                let on_a_ray = |sample: &usize| (1..=plan.samples).contains(sample);
+                assert!(drawing.samples.iter().all(on_a_ray), "{name}, {texture:?}");
+                // On a ray they rise, so they fall only where another ray begins.
+                let falls = drawing.samples.windows(2).filter(|pair| pair[1] < pair[0]);
+                assert_eq!(falls.count(), plan.rays - 1, "{name}, {texture:?}");
+            }
+            let drawing = Drawing::new(surface, Texture::Grid).expect("a drawing");
+            assert_eq!(drawing.samples, vec![0; drawing.lines.points.len()]);
+        }
+    }
+
+    #[test]
+    fn a_swirl_on_a_plane_has_its_points_at_the_distance_of_their_samples() {
+        let [m, n] = [24, 18];
+        let grid = ParametricSurface {
+            u: [0.0, 24.0],
+            v: [0.0, 18.0],
+            ..ParametricSurface::named("plane").expect("a name")
+        };
+        let grid = grid.grid([m, n]);
+        let surface = Surface::new(&grid, m, n).expect("a surface");
+        let drawing = Drawing::new(surface, SWIRL).expect("a drawing");
+        let plan = SWIRL.plan(m, n).expect("a plan");
+        let step = 12.0 * std::f64::consts::SQRT_2 / plan.samples as f64;
+        for (point, sample) in drawing.lines.points.iter().zip(drawing.samples) {
+            // The leg to a sample keeps between the distances of its ends, but that it is straight.
+            let steps = distance(*point, [12.0, 9.0, 0.0]) / step;
+            let sample = sample as f64;
+            assert!(
+                steps > sample - 1.1 && steps < sample + 1e-6,
+                "{sample}: {steps}"
+            );
         }
     }
 

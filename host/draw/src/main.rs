@@ -5,12 +5,13 @@
 
 mod camera;
 mod drawing;
+mod pieces;
 mod svg;
 
 use camera::Camera;
 use drawing::Drawing;
-use merlontrispa::{Mapping, Refusal, Seam, Surface, Texture};
-use options::{HELP, Options, Request};
+use merlontrispa::{Mapping, Plan, Refusal, Seam, Surface, Texture};
+use options::{HELP, Options, Request, Style};
 use std::io::Write;
 use std::process::ExitCode;
 
@@ -50,12 +51,7 @@ fn draw(options: &Options) -> Result<(), String> {
     let texture = texture(options);
     // The plan refuses bad steps before a grid of so many points is made.
     let plan = texture.plan(m, n).map_err(refused)?;
-    let samples = plan.rays * plan.samples;
-    if samples > SAMPLES {
-        return Err(format!(
-            "this texture has {samples} samples, and a card takes {SAMPLES}: widen --spacing"
-        ));
-    }
+    check_plan(plan, options.style)?;
     let grid = options.surface.grid(options.steps);
     let surface = Surface::new(&grid, m, n).map_err(|refusal| {
         let first = options.surface.first_refused(options.steps);
@@ -69,10 +65,32 @@ fn draw(options: &Options) -> Result<(), String> {
     let text = svg::card(&drawing, &camera, options.style, &title);
     write(&options.output, &text)?;
     eprintln!("{title}\n{}", summary(&drawing));
+    if let Some(sample) = options.style.highlight {
+        let pieces = drawing.parts(Some(sample)).highlighted_pieces();
+        eprintln!("sample {sample} of each ray: {pieces} pieces of lines");
+    }
     if options.output != STDOUT {
         eprintln!("written to {}", options.output);
     }
     Ok(())
+}
+
+/// What a card asks of a texture's plan beyond the library.
+fn check_plan(plan: Plan, style: Style) -> Result<(), String> {
+    let samples = plan.rays * plan.samples;
+    if samples > SAMPLES {
+        return Err(format!(
+            "this texture has {samples} samples, and a card takes {SAMPLES}: widen --spacing"
+        ));
+    }
+    let last = plan.samples;
+    match style.highlight {
+        Some(sample) if sample > last => Err(format!(
+            "the last sample of a ray of this texture is {last}: --highlight wants a number from 1 \
+             to {last}, not {sample}"
+        )),
+        _ => Ok(()),
+    }
 }
 
 /// The texture, as the library has it.

@@ -2,14 +2,18 @@
 
 use crate::camera::{CARD, Camera, Seen};
 use crate::drawing::{Drawing, Point};
+use crate::pieces::cut;
 use merlontrispa::{Mapping, OwnedLines};
 use options::Style;
 use std::fmt::{Arguments, Write};
+use std::ops::Range;
 
 const INK: &str = "#16324f";
 const FORWARD: &str = "#1b7fc4";
 const REVERSED: &str = "#d0392b";
 const FLIPPED: &str = "#f0a83c";
+/// Lighter than the ink by far, so that the two differ in grey print and to colour-blind eyes.
+const HIGHLIGHT: &str = "#e07b00";
 
 /// Widths of lines in mm.
 const THIN: f64 = 0.2;
@@ -26,12 +30,17 @@ pub fn card(drawing: &Drawing, camera: &Camera, style: Style, title: &str) -> St
     if style.flipped {
         sheet.triangles(drawing.flipped.iter().map(|t| t.map(|p| camera.see(p))));
     }
-    let lines = see_all(&drawing.lines);
+    let points = see(&drawing.lines.points);
+    let seen = |part: &Range<usize>| &points[part.clone()];
+    let parts = drawing.parts(style.highlight);
+    let lines: Vec<_> = parts.others.iter().map(seen).collect();
     if style.plain {
         sheet.lines("texture", Pen::new(INK, THIN), &lines);
     } else {
         sheet.faded("texture", Pen::new(INK, THIN), &lines);
     }
+    let lines: Vec<_> = parts.highlighted.iter().map(seen).collect();
+    sheet.lines("highlight", Pen::new(HIGHLIGHT, BOLD), &lines);
     sheet.lines("rim", Pen::new(INK, BOLD), &see_all(&drawing.rim));
     if style.seams {
         for (mapping, line) in &drawing.joined {
@@ -118,31 +127,18 @@ impl Sheet {
     }
 
     /// The lines in parts, the farthest first and faintest.
-    fn faded(&mut self, class: &str, pen: Pen, lines: &[Vec<Seen>]) {
+    fn faded(&mut self, class: &str, pen: Pen, lines: &[&[Seen]]) {
         let mut bands = STRENGTHS.map(|strength| (Pen { strength, ..pen }, Vec::new()));
         for line in lines {
-            for (band, part) in parts(line) {
-                bands[band].1.push(part);
+            let depth = |point: usize| (line[point - 1].depth + line[point].depth) / 2.0;
+            for (band, part) in cut(0..line.len(), |point| band(depth(point))) {
+                bands[band].1.push(&line[part]);
             }
         }
         for (pen, parts) in bands {
             self.lines(class, pen, &parts);
         }
     }
-}
-
-/// A line cut where it passes from one band of depth to another; each part starts where the last
-/// one ends.
-fn parts(line: &[Seen]) -> Vec<(usize, &[Seen])> {
-    let segment_band = |i: usize| band((line[i].depth + line[i + 1].depth) / 2.0);
-    let (mut parts, mut start) = (Vec::new(), 0);
-    for end in 1..line.len() {
-        if end + 1 == line.len() || segment_band(end) != segment_band(start) {
-            parts.push((segment_band(start), &line[start..=end]));
-            start = end;
-        }
-    }
-    parts
 }
 
 /// The number in `STRENGTHS` of a depth.
@@ -189,17 +185,23 @@ mod tests {
         seams: true,
         flipped: true,
         plain: false,
+        highlight: None,
     };
 
     const PLAIN: Style = Style { plain: true, ..ALL };
 
-    fn drawn(name: &str, texture: Texture, style: Style) -> (Drawing, String) {
+    fn seen(name: &str, texture: Texture) -> (Drawing, Camera) {
         let grid = ParametricSurface::named(name)
             .expect("a name")
             .grid([24, 18]);
         let surface = Surface::new(&grid, 24, 18).expect("a surface");
         let drawing = Drawing::new(surface, texture).expect("a drawing");
         let camera = Camera::fitting(surface.points()).expect("it is seen");
+        (drawing, camera)
+    }
+
+    fn drawn(name: &str, texture: Texture, style: Style) -> (Drawing, String) {
+        let (drawing, camera) = seen(name, texture);
         let text = card(&drawing, &camera, style, name);
         (drawing, text)
     }
@@ -259,20 +261,75 @@ mod tests {
         }
     }
 
+    /// The pieces that are drawn in the groups of a class, each as its two places.
+    fn segments(text: &str, class: &str) -> Vec<String> {
+        let lines = elements(text, class, "polyline");
+        let places = lines.into_iter().map(|line| line.split(' '));
+        let pairs = places.flat_map(|p| p.clone().zip(p.skip(1)).collect::<Vec<_>>());
+        let ends = pairs.map(|(a, b)| format!("{a} {b}"));
+        ends.filter(|ends| !is_dot(ends)).collect()
+    }
+
+    fn is_dot(ends: &str) -> bool {
+        ends.split_once(' ').is_some_and(|(a, b)| a == b)
+    }
+
+    fn sorted(mut segments: Vec<String>) -> Vec<String> {
+        segments.sort_unstable();
+        segments
+    }
+
     #[test]
     fn a_faded_card_has_the_segments_of_the_plain_one() {
         for texture in TEXTURES {
-            let [mut plain, mut faded] = [PLAIN, ALL].map(|style| {
+            let [plain, faded] = [PLAIN, ALL].map(|style| {
                 let (_, text) = drawn("klein-bottle", texture, style);
-                let lines = elements(&text, "texture", "polyline");
-                let places = lines.into_iter().map(|line| line.split(' '));
-                let pairs = places.flat_map(|p| p.clone().zip(p.skip(1)).collect::<Vec<_>>());
-                let ends = pairs.filter(|(a, b)| a != b);
-                ends.map(|(a, b)| format!("{a} {b}")).collect::<Vec<_>>()
+                sorted(segments(&text, "texture"))
             });
-            plain.sort_unstable();
-            faded.sort_unstable();
             assert_eq!(plain, faded);
+        }
+    }
+
+    #[test]
+    fn a_highlight_takes_its_pieces_from_the_texture_and_changes_nothing_else() {
+        for texture in &TEXTURES[1..] {
+            for style in [PLAIN, ALL] {
+                let (drawing, whole) = drawn("klein-bottle", *texture, style);
+                // A sample in the middle of the list of points, which made a point for certain.
+                let sample = drawing.samples[drawing.samples.len() / 2];
+                let highlight = Some(sample);
+                let (_, text) = drawn("klein-bottle", *texture, Style { highlight, ..style });
+                let taken = segments(&text, "highlight");
+                assert!(!taken.is_empty(), "sample {sample}");
+                let all = [segments(&text, "texture"), taken].concat();
+                assert_eq!(sorted(all), sorted(segments(&whole, "texture")));
+                for class in ["rim", "forward-seam", "reversed-seam"] {
+                    assert_eq!(segments(&text, class), segments(&whole, class), "{class}");
+                }
+                let [flipped, before] = [&text, &whole].map(|t| elements(t, "flipped", "polygon"));
+                assert_eq!(flipped, before);
+                assert!(segments(&whole, "highlight").is_empty());
+            }
+        }
+    }
+
+    #[test]
+    fn what_is_highlighted_leads_to_the_points_that_the_sample_made() {
+        for texture in &TEXTURES[1..] {
+            let (drawing, camera) = seen("torus", *texture);
+            let firsts = &drawing.lines.starts;
+            for sample in drawing.samples.iter().step_by(50).copied() {
+                let made = (0..drawing.samples.len())
+                    .filter(|point| drawing.samples[*point] == sample && !firsts.contains(point));
+                let ends = made.map(|point| [point - 1, point].map(|p| drawing.lines.points[p]));
+                let ends = ends.map(|ends| places(&ends.map(|p| camera.see(p))));
+                // What is seen as one place is no segment.
+                let ends = ends.filter(|ends| !is_dot(ends));
+                let highlight = Some(sample);
+                let text = card(&drawing, &camera, Style { highlight, ..ALL }, "");
+                let segments = segments(&text, "highlight");
+                assert_eq!(segments, ends.collect::<Vec<_>>(), "sample {sample}");
+            }
         }
     }
 

@@ -26,13 +26,16 @@ fn failure(words: &[&str]) -> (i32, String) {
 
 #[test]
 fn a_bad_option_ends_with_2_and_one_sentence() {
-    let cases: [&[&str]; 6] = [
+    let cases: [&[&str]; 9] = [
         &["tours"],
         &["--size", "3"],
         &["--steps", "forty"],
         &["torus", "--arms", "3"],
         &["--texture", "swirl", "--twist", "much"],
         &["--u", "0-1"],
+        &["torus", "--highlight", "20"],
+        &["--texture", "swirl", "--highlight", "0"],
+        &["--texture", "spiral", "--highlight", "2.5"],
     ];
     for words in cases {
         let (status, said) = failure(&[words, &["-o", "-"]].concat());
@@ -125,6 +128,48 @@ fn what_cannot_be_drawn_or_written_is_said() {
     );
 }
 
+/// Rays whose last sample is 90: they are 63·0.5·√2 steps long, in steps of half a step at most.
+const LAST_90: [&str; 8] = [
+    "plane",
+    "--steps",
+    "63x40",
+    "--texture",
+    "swirl",
+    "--twist",
+    "0",
+    "--highlight",
+];
+
+#[test]
+fn a_sample_that_no_ray_has_is_told_with_the_last_one() {
+    for sample in ["91", "200"] {
+        let (status, said) = failure(&[&LAST_90[..], &[sample, "-o", "-"]].concat());
+        assert_eq!(status, 1);
+        let expected = format!(
+            "draw: the last sample of a ray of this texture is 90: \
+             --highlight wants a number from 1 to 90, not {sample}\n"
+        );
+        assert_eq!(said, expected);
+    }
+}
+
+#[test]
+fn the_pieces_of_a_highlighted_sample_are_counted() {
+    for sample in ["1", "40", "90"] {
+        let output = draw(&[&LAST_90[..], &[sample, "-o", "-"]].concat());
+        assert!(output.status.success(), "{output:?}");
+        let said = String::from_utf8(output.stderr).expect("UTF-8");
+        let last = said.lines().last().expect("a line");
+        let pieces = last.strip_prefix(&format!("sample {sample} of each ray: "));
+        let pieces = pieces.and_then(|last| last.strip_suffix(" pieces of lines"));
+        let pieces: usize = pieces.expect("a count").parse().expect("a count");
+        let card = String::from_utf8(output.stdout).expect("UTF-8");
+        assert_eq!(card.contains(r#"class="highlight""#), pieces > 0, "{said}");
+        // The last sample lies beyond the corners of the plane.
+        assert_eq!(pieces > 0, sample != "90", "{said}");
+    }
+}
+
 /// The words of a command line in which values with spaces stand in single quotes.
 fn words(command: &str) -> Vec<String> {
     let parts = command.split('\'').enumerate();
@@ -149,7 +194,7 @@ fn examples(text: &str) -> Vec<Vec<String>> {
 #[test]
 fn every_example_of_the_help_draws() {
     let examples = examples(&stdout(&["--help"]));
-    assert!(examples.len() >= 13);
+    assert!(examples.len() >= 14);
     for mut example in examples {
         if let Some(at) = example.iter().position(|word| word == "-o") {
             example.truncate(at);

@@ -4,7 +4,7 @@ use crate::formula::{Formula, constant};
 use crate::parametric::{ParametricSurface, names};
 use std::collections::BTreeMap;
 
-const WITH_VALUE: [&str; 9] = [
+const WITH_VALUE: [&str; 10] = [
     "--formula",
     "--u",
     "--v",
@@ -13,10 +13,14 @@ const WITH_VALUE: [&str; 9] = [
     "--spacing",
     "--twist",
     "--arms",
+    "--highlight",
     "--output",
 ];
 
 const WITHOUT_VALUE: [&str; 4] = ["--seams", "--flipped", "--plain", "--help"];
+
+/// The most samples per ray: the library refuses a texture with more.
+const MOST_SAMPLES: usize = 65_536;
 
 /// The library takes 1 for a spacing that is not above this, or not finite.
 const LEAST_SPACING: f64 = 1e-9;
@@ -77,8 +81,10 @@ pub struct Style {
     pub seams: bool,
     /// Whether the triangles of flipped pairs are filled.
     pub flipped: bool,
-    /// Whether each line is one polyline, as strong as the others.
+    /// Whether each line is one polyline, but where a highlight cuts it, as strong as the others.
     pub plain: bool,
+    /// The sample of each ray whose pieces of lines are drawn in another colour.
+    pub highlight: Option<usize>,
 }
 
 impl Request {
@@ -109,6 +115,7 @@ impl Request {
                 seams: given.has("--seams"),
                 flipped: given.has("--flipped"),
                 plain: given.has("--plain"),
+                highlight: given.highlight()?,
             },
             output: given.value("--output").unwrap_or("card.svg").to_string(),
             surface,
@@ -263,6 +270,11 @@ impl Given {
             ("--spacing", swirl || spiral, "swirl or spiral"),
             ("--twist", swirl, "swirl"),
             ("--arms", spiral, "spiral"),
+            (
+                "--highlight",
+                swirl || spiral,
+                "swirl or spiral: a grid has no samples",
+            ),
         ];
         match uses.iter().find(|(name, used, _)| self.has(name) && !used) {
             None => Ok(texture),
@@ -286,6 +298,18 @@ impl Given {
         match text.parse() {
             Ok(arms) if arms > 0 => Ok(arms),
             _ => Err(format!("--arms wants a count from 1 to 64, not '{text}'")),
+        }
+    }
+
+    fn highlight(&self) -> Result<Option<usize>, String> {
+        let Some(text) = self.value("--highlight") else {
+            return Ok(None);
+        };
+        match text.parse() {
+            Ok(sample) if (1..=MOST_SAMPLES).contains(&sample) => Ok(Some(sample)),
+            _ => Err(format!(
+                "--highlight wants a whole number from 1 to {MOST_SAMPLES}, not '{text}'"
+            )),
         }
     }
 
@@ -345,6 +369,7 @@ mod tests {
             seams: true,
             plain: true,
             flipped: false,
+            highlight: None,
         };
         assert_eq!(options.style, style);
         assert_eq!(options.output, "-");
@@ -353,6 +378,10 @@ mod tests {
         assert_eq!(options.texture, Texture::Spiral { spacing, arms });
         assert!(options.style.flipped);
         assert_eq!(options.output, "a=b.svg");
+        for (texture, sample) in [("swirl", 1), ("spiral", 65_536)] {
+            let options = card(&format!("--texture {texture} --highlight {sample}"));
+            assert_eq!(options.style.highlight, Some(sample));
+        }
         assert_eq!(parse("torus -h"), Ok(Request::Help));
         assert_eq!(parse("--help"), Ok(Request::Help));
     }
@@ -416,6 +445,33 @@ mod tests {
             ("--texture swirl --twist much", "--twist wants a number"),
             ("--texture spiral --arms 0", "--arms wants a count"),
             ("--texture spiral --arms 1.5", "--arms wants a count"),
+            (
+                "--highlight 20",
+                "--highlight goes with --texture swirl or spiral: a grid has no samples",
+            ),
+            ("--texture swirl --highlight", "--highlight wants a value"),
+            (
+                "--texture swirl --highlight 0",
+                "--highlight wants a whole number from 1 to 65536, not '0'",
+            ),
+            (
+                "--texture swirl --highlight -1",
+                "from 1 to 65536, not '-1'",
+            ),
+            (
+                "--texture swirl --highlight 2.5",
+                "from 1 to 65536, not '2.5'",
+            ),
+            (
+                "--texture spiral --highlight all",
+                "from 1 to 65536, not 'all'",
+            ),
+            ("--texture spiral --highlight=", "from 1 to 65536, not ''"),
+            ("--texture spiral --highlight 65537", "not '65537'"),
+            (
+                "--texture spiral --highlight 99999999999999999999",
+                "not '99999999999999999999'",
+            ),
             ("--u 3", "--u wants a range"),
             ("--u 0..1/0", "--u wants finite ends, not '0..1/0'"),
             ("--v sqrt(-1)..1", "--v wants finite ends"),
