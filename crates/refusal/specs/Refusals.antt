@@ -5,7 +5,7 @@ use mathlib.Core.Bool.{Bool, true, false}
 use Rattle.refusal.specs.declared.Refusal.{Refusal}
 use Rattle.refusal.specs.declared.Refusal.the-variants.{Steps, Length, Room, Coordinate, Texture, Count}
 use Rattle.refusal.specs.declared.Refusal.the-variants.{Direction}
-use Rattle.refusal.specs.declared.Refusal.the-variants.{NotThere, Mark, Sample, NoStep, Full}
+use Rattle.refusal.specs.declared.Refusal.the-variants.{NotThere, Mark, Sample, NoStep, Full, Tolerance}
 use Rattle.refusal.specs.declared.Check.{Check}
 use Rattle.refusal.specs.declared.Check.the-variants.{Passed, Failed}
 
@@ -35,6 +35,8 @@ numberOf Sample = 10
 numberOf NoStep = 11
 -- a pushed point or a kept line has no room (Rules 7.4)
 numberOf Full = 12
+-- a tolerance is a NaN, infinite, not above zero, or above 1
+numberOf Tolerance = 13
 
 -- what a call answers: values, or the number of a refusal and nothing beside it (Rules 8.3)
 pub data Answer (A : Type 0) : Type 0 where
@@ -51,7 +53,7 @@ abbrev pub valuesOr : {A : Type 0} → A → Answer A → A
 valuesOr z (ok a) = a
 valuesOr z (refused k) = z
 
--- Rules 11.2. Tests stand in the order of their numbers, so the first that fails has the least.
+-- Rules 11.2. Tests stand in the order of the call, so the first that fails is the one given.
 -- One test: k where it does not hold, and what comes after it where it does
 abbrev pub unless : Bool → Refusal → Check → Check
 unless true k after = after

@@ -1,6 +1,6 @@
 // Rules 11: the refusals and their numbers, once for every call.
 ghost use mathlib.Core.Path.{_≡_};
-ghost use Rattle.refusal.specs.Refusals.{numberOf};
+ghost use Rattle.refusal.specs.Refusals.{numberOf, andThen};
 
 pub enum Refusal {
     Steps,
@@ -15,6 +15,7 @@ pub enum Refusal {
     Sample,
     NoStep,
     Full,
+    Tolerance,
 }
 
 impl Refusal {
@@ -34,6 +35,7 @@ impl Refusal {
             Refusal::Sample => 10,
             Refusal::NoStep => 11,
             Refusal::Full => 12,
+            Refusal::Tolerance => 13,
         }
     }
 }
@@ -42,4 +44,16 @@ impl Refusal {
 pub enum Check {
     Passed,
     Failed(Refusal),
+}
+
+impl Check {
+    // This test, and where it passes the one after it.
+    pub fn and_then(self, after: Check) -> Check
+        ensures { λ r. ⌜ r ≡ andThen self after ⌝ }
+    {
+        match self {
+            Check::Passed => after,
+            Check::Failed(refusal) => Check::Failed(refusal),
+        }
+    }
 }
