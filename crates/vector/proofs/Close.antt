@@ -2,14 +2,14 @@
 -- but `larger` leaves a NaN out: so a NaN difference is passed over, and only three of them are never close.
 use mathlib.Core.Path.{_≡_, refl, sym, _∙_}
 use mathlib.Core.Bool.{Bool, true, false, not, _&&_, _||_, or-true, or-false, and-true, and-false, true≢false}
-use lib.Ieee.{Float, nan, inf, fin, binary64, lt, le, eq, neg, sub, ofBits, isNan}
+use lib.Ieee.{Float, nan, inf, fin, binary64, lt, eq, neg, sub, ofBits, isNan}
 use borrow.Author.Tests.{not-true, not-false}
 use Rattle.float.specs.Consts.{eps, zero64, one64}
 use Rattle.float.specs.Sign.{absolute, isFinite}
 use Rattle.float.specs.Order.{larger}
 use Rattle.float.specs.Table.{computed}
 use Rattle.basics.proofs.Tests.{and-both, cannot}
-use Rattle.float.proofs.Less.{le-is, le-not-nan, eq-self}
+use Rattle.float.proofs.Less.{eq-self}
 use Rattle.float.proofs.Differences.{sub-swap, sub-not-nan, sub-self}
 use Rattle.float.proofs.Between.{abs-below}
 use Rattle.float.proofs.Larger.{abs-nan, larger-nan, larger-under, nan-not-below}
@@ -53,44 +53,21 @@ unfolding allClose
 close-by a b t = largest-below (minus a b) t
 
 -- ---- as `all_close` tests it
--- no value is at most a NaN, nor a NaN at most a value
-not-le-nan : (x y : Float) → isNan y ≡ true → (le x y ≡ false) × (le y x ≡ false)
-not-le-nan x y h = (
-  cannot (le x y) (λ e. true≢false (sym h ∙ le-not-nan x y e .1)),
-  cannot (le y x) (λ e. true≢false (sym h ∙ le-not-nan y x e .0)),
-)
-
-neg-nan : (x : Float) → isNan (neg x) ≡ isNan x
-unfolding neg isNan
-neg-nan nan = refl
-neg-nan (inf s) = refl
-neg-nan (fin s m e) = refl
-
-pub eps-not-nan : isNan eps ≡ false
-unfolding eps ofBits isNan
-eps-not-nan = refl
-
--- the tolerance or more in magnitude is what does not pass, where the tolerance is no NaN
-pub apart-is : (d t : Float) → isNan t ≡ false → le t d || le d (neg t) ≡ not (passes d t)
-apart-is d t k = go (isNan d) refl
+-- what does not pass is a number that is not between the tolerance and its negative
+pub apart-is : (d t : Float) → not (lt (neg t) d && lt d t) && eq d d ≡ not (passes d t)
+apart-is d t = rw (← abs-below d t, eq-self) (neither (lt (absolute d) t) (isNan d))
   where
-    both : (p q : Bool) → not p || not q ≡ not (q && p || false)
-    both true true = refl
-    both true false = refl
-    both false true = refl
-    both false false = refl
-
-    go : (n : Bool) → isNan d ≡ n → le t d || le d (neg t) ≡ not (lt (absolute d) t || n)
-    go true h = simp (not-le-nan t d h .0, not-le-nan (neg t) d h .1, or-true)
-    go false h = simp (le-is t d k h, le-is d (neg t) h (neg-nan t ∙ k), abs-below d t) (both (lt d t) (lt (neg t) d))
+    neither : (p q : Bool) → not p && not q ≡ not (p || q)
+    neither true q = refl
+    neither false q = refl
 
 -- r is the answer of `apart` of one difference
-module _ {r : Bool} (d t : Float) (k : isNan t ≡ false) (e : r ≡ le t d || le d (neg t)) where
+module _ {r : Bool} (d t : Float) (e : r ≡ not (passes d t)) where
   pub apart-fails : r ≡ true → passes d t ≡ false
-  apart-fails h = not-true _ (sym (e ∙ apart-is d t k) ∙ h)
+  apart-fails h = not-true _ (sym e ∙ h)
 
   pub near-passes : r ≡ false → passes d t ≡ true
-  near-passes h = not-false _ (sym (e ∙ apart-is d t k) ∙ h)
+  near-passes h = not-false _ (sym e ∙ h)
 
 module _ (a b d : Vector) (t : Float) (e : d ≡ minus a b) where
   close-differences : allClose a b t ≡ closeBy d t
@@ -161,6 +138,16 @@ close-self a t p h = close-finite a a t h h ∙ simp (none (a .x) (h .0), none (
 pub nan-not-close : (a b : Vector) (t : Float) → isNan (minus a b .x) ≡ true → isNan (minus a b .y) ≡ true →
     isNan (minus a b .z) ≡ true → allClose a b t ≡ false
 nan-not-close a b t h k l = close-by a b t ∙ simp (h, k, l, and-false)
+
+-- at a NaN nothing is close
+pub nan-tolerance : (a b : Vector) → allClose a b nan ≡ false
+unfolding allClose lt
+nan-tolerance a b = none (largest (absolutes (minus a b)))
+  where
+    none : (x : Float) → lt x nan ≡ false
+    none nan = refl
+    none (inf s) = refl
+    none (fin s m e) = refl
 
 nan-passed-over : allClose (vector nan zero64 zero64) (vector zero64 zero64 zero64) eps ≡ true
 unfolding computed allClose

@@ -30,6 +30,6 @@ largest a = larger (larger (a .x) (a .y)) (a .z)
 abbrev pub absolutes : Vector → Vector
 absolutes a = vector (absolute (a .x)) (absolute (a .y)) (absolute (a .z))
 
--- `all_close`: two points are close at a tolerance, for which the rules take EPS
+-- `all_close`: two points are close at a tolerance
 unfoldable pub allClose : Vector → Vector → Float → Bool
 allClose a b tolerance = lt (largest (absolutes (minus a b))) tolerance

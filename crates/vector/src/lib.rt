@@ -1,9 +1,8 @@
 // Rules 2: a point or direction of three f64, with operations that are called as in the original and give a new one.
-use float::consts::EPS;
 ghost use mathlib.Core.Path.{_≡_};
-ghost use mathlib.Core.Bool.{_||_};
-ghost use lib.Ieee.{le, neg};
-ghost use Rattle.float.specs.Consts.{eps};
+ghost use mathlib.Core.Bool.{not, _||_};
+ghost use lib.Ieee.{lt, isNan};
+ghost use Rattle.float.specs.Sign.{absolute};
 ghost use Rattle.vector.specs.Vectors.{plus, minus, scaled, allClose};
 
 pub struct Vector {
@@ -43,28 +42,29 @@ impl Vector {
         }
     }
 
-    // Whether two points are close: no difference is EPS or more in magnitude, and not all three are
-    // NaNs, which f64::max passes over.
-    pub fn all_close(self, other: Vector) -> bool
-        ensures { λ r. ⌜ r ≡ allClose self other eps ⌝ }
+    // Whether two points are close at a tolerance, whatever that is: no difference keeps them apart, and not all three
+    // are NaNs, which f64::max passes over.
+    pub fn all_close(self, other: Vector, tolerance: f64) -> bool
+        ensures { λ r. ⌜ r ≡ allClose self other tolerance ⌝ }
     {
         let d = self.sub(other);
-        if apart(d.x, EPS) {
+        if apart(d.x, tolerance) {
             return false;
         }
-        if apart(d.y, EPS) {
+        if apart(d.y, tolerance) {
             return false;
         }
-        if apart(d.z, EPS) {
+        if apart(d.z, tolerance) {
             return false;
         }
         (d.x == d.x) | (d.y == d.y) | (d.z == d.z)
     }
 }
 
-// Whether a difference is the tolerance or more in magnitude.
+// Whether a difference keeps two points apart: it is a number, and its magnitude is not below the tolerance. Nothing is
+// below a NaN.
 fn apart(d: f64, tolerance: f64) -> bool
-    ensures { λ r. ⌜ r ≡ (le tolerance d || le d (neg tolerance)) ⌝ }
+    ensures { λ r. ⌜ r ≡ not (lt (absolute d) tolerance || isNan d) ⌝ }
 {
-    (tolerance <= d) | (d <= -tolerance)
+    !((-tolerance < d) & (d < tolerance)) & (d == d)
 }

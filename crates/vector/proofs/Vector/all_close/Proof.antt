@@ -1,9 +1,7 @@
--- `vector::Vector::all_close` meets its contract: the largest of the three is below EPS where none is EPS or more, and
--- a NaN is passed over unless all three are (proofs/Close.antt).
+-- `vector::Vector::all_close` meets its contract: the largest of the three is below the tolerance where none keeps the
+-- points apart, and a NaN is passed over unless all three are (proofs/Close.antt).
 use borrow.Author.Needs.{needs}
-use Rattle.float.specs.Consts.{eps}
-use Rattle.vector.proofs.Close.{eps-not-nan, apart-fails, near-passes, apart-first, apart-second, apart-third}
-use Rattle.vector.proofs.Close.{none-apart}
+use Rattle.vector.proofs.Close.{apart-fails, near-passes, apart-first, apart-second, apart-third, none-apart}
 use Rattle.vector.proofs.Vector.all_close.Statement.{statement}
 use Rattle.vector.proofs.Vector.all_close.Tie as tie
 
@@ -15,34 +13,30 @@ abbrev x-near : tie.Else2 → tie.Else1
 x-near y = y .before .before
 
 returns : tie.Need-returns
-unfolding eps
 returns c =
     let s = c .before .before in
     let a = s .before .args in
     let d = s .sub .result in
-    apart-first (a .self) (a .other) d eps (s .sub .ensures)
-    (apart-fails (d .x) eps eps-not-nan (c .before .apart .ensures) (c .if1 .taken))
+    apart-first (a .self) (a .other) d (a .tolerance) (s .sub .ensures)
+    (apart-fails (d .x) (a .tolerance) (c .before .apart .ensures) (c .if1 .taken))
 
 returns-2 : tie.Need-returns-2
-unfolding eps
 returns-2 c =
     let s = subtracted (c .before .before) in
     let a = s .before .args in
     let d = s .sub .result in
-    apart-second (a .self) (a .other) d eps (s .sub .ensures)
-    (apart-fails (d .y) eps eps-not-nan (c .before .apart2 .ensures) (c .if2 .taken))
+    apart-second (a .self) (a .other) d (a .tolerance) (s .sub .ensures)
+    (apart-fails (d .y) (a .tolerance) (c .before .apart2 .ensures) (c .if2 .taken))
 
 returns-3 : tie.Need-returns-3
-unfolding eps
 returns-3 c =
     let s = subtracted (x-near (c .before .before)) in
     let a = s .before .args in
     let d = s .sub .result in
-    apart-third (a .self) (a .other) d eps (s .sub .ensures)
-    (apart-fails (d .z) eps eps-not-nan (c .before .apart3 .ensures) (c .if3 .taken))
+    apart-third (a .self) (a .other) d (a .tolerance) (s .sub .ensures)
+    (apart-fails (d .z) (a .tolerance) (c .before .apart3 .ensures) (c .if3 .taken))
 
 returns-4 : tie.Need-returns-4
-unfolding eps
 returns-4 c =
     let z = c .before .before .before in
     let y = z .before .before in
@@ -50,10 +44,10 @@ returns-4 c =
     let s = subtracted x in
     let a = s .before .args in
     let d = s .sub .result in
-    none-apart (a .self) (a .other) d eps (s .sub .ensures)
-    (near-passes (d .x) eps eps-not-nan (x .before .apart .ensures) (x .if1 .left))
-    (near-passes (d .y) eps eps-not-nan (y .before .apart2 .ensures) (y .if2 .left))
-    (near-passes (d .z) eps eps-not-nan (z .before .apart3 .ensures) (z .if3 .left))
+    none-apart (a .self) (a .other) d (a .tolerance) (s .sub .ensures)
+    (near-passes (d .x) (a .tolerance) (x .before .apart .ensures) (x .if1 .left))
+    (near-passes (d .y) (a .tolerance) (y .before .apart2 .ensures) (y .if2 .left))
+    (near-passes (d .z) (a .tolerance) (z .before .apart3 .ensures) (z .if3 .left))
 
 pub all-close-spec : {M : Type 1} → statement M
 all-close-spec =
