@@ -12,10 +12,11 @@ use lib.Ieee.{Float}
 use lib.ListN.{length}
 use borrow.Author.Tests.{lt-ltb, le-ltb, leb-true, eq-eqb, ne-eqb}
 use Rattle.basics.proofs.Tests.{and-both}
+use Rattle.tolerance.specs.Tolerance.{toleranceFits}
 use Rattle.grid.specs.Grid.{pointAt, coordinatesFit}
 use Rattle.refusal.specs.declared.Check.the-variants.{Passed, Failed}
 use Rattle.refusal.specs.declared.Refusal.{Refusal}
-use Rattle.refusal.specs.declared.Refusal.the-variants.{Length, Coordinate}
+use Rattle.refusal.specs.declared.Refusal.the-variants.{Length, Tolerance, Coordinate}
 use Rattle.refusal.specs.Refusals.{ok, refused, numberOf, unless}
 use Rattle.refusal.proofs.Laws.{unless-passed}
 use Rattle.cyclic.specs.declared.seam.Seam.the-variants.{Unjoined}
@@ -78,37 +79,43 @@ module _ (close : Closeness) (a b : Row) where
 
 -- Tests
 
-module _ (a b : List Float) where
-  pub no-length : rowFits a && rowFits b ≡ false → rowsCheck a b ≡ Failed Length
+module _ (a b : List Float) (tolerance : Float) where
+  pub no-length : rowFits a && rowFits b ≡ false → rowsCheck a b tolerance ≡ Failed Length
   unfolding rowsCheck
   no-length h = rw h
 
-  pub no-coordinate : rowFits a && rowFits b ≡ true → coordinatesFit a && coordinatesFit b ≡ false →
-      rowsCheck a b ≡ Failed Coordinate
+  pub no-tolerance : rowFits a && rowFits b ≡ true → toleranceFits tolerance ≡ false →
+      rowsCheck a b tolerance ≡ Failed Tolerance
   unfolding rowsCheck
-  no-coordinate h g = rw (h, g)
+  no-tolerance h t = rw (h, t)
 
-  pub rows-pass : rowFits a && rowFits b ≡ true → coordinatesFit a && coordinatesFit b ≡ true → rowsCheck a b ≡ Passed
+  pub no-coordinate : rowFits a && rowFits b ≡ true → toleranceFits tolerance ≡ true →
+      coordinatesFit a && coordinatesFit b ≡ false → rowsCheck a b tolerance ≡ Failed Coordinate
   unfolding rowsCheck
-  rows-pass h g = rw (h, g)
+  no-coordinate h t g = rw (h, t, g)
 
-  pub passed-length : rowsCheck a b ≡ Passed → length a ≤ 196608
+  pub rows-pass : rowFits a && rowFits b ≡ true → toleranceFits tolerance ≡ true →
+      coordinatesFit a && coordinatesFit b ≡ true → rowsCheck a b tolerance ≡ Passed
+  unfolding rowsCheck
+  rows-pass h t g = rw (h, t, g)
+
+  pub passed-length : rowsCheck a b tolerance ≡ Passed → length a ≤ 196608
   unfolding rowsCheck
   passed-length h =
       let t = unless-passed (rowFits a && rowFits b) Length
-      (unless (coordinatesFit a && coordinatesFit b) Coordinate Passed) h .0 in
+      (unless (toleranceFits tolerance) Tolerance (unless (coordinatesFit a && coordinatesFit b) Coordinate Passed))
+      h .0 in
       let u = and-both (rowFits a) (rowFits b) t in
       leb-true (length a) 196608 (and-both (eqb (length a % 3) 0) (leb (length a) 196608) (u .0) .1)
 
   -- The answer
 
-  pub refused-is : {k : Refusal} (tolerance : Float) → rowsCheck a b ≡ Failed k →
-      refused (numberOf k) ≡ newVector a b tolerance
+  pub refused-is : {k : Refusal} → rowsCheck a b tolerance ≡ Failed k → refused (numberOf k) ≡ newVector a b tolerance
   unfolding newVector
-  refused-is tolerance h = rw h
+  refused-is h = rw h
 
-  pub answer-is : {s : SeamSearch} (tolerance : Float) → rowsCheck a b ≡ Passed →
+  pub answer-is : {s : SeamSearch} → rowsCheck a b tolerance ≡ Passed →
       s ≡ search (closeAt tolerance) (pointAt a) (pointAt b) (length a / 3) (length b / 3) →
       ok s ≡ newVector a b tolerance
   unfolding newVector
-  answer-is tolerance h e = rw h (ap ok e)
+  answer-is h e = rw h (ap ok e)

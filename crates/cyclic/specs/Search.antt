@@ -6,10 +6,11 @@ use mathlib.Core.List.{List}
 use lib.Dec.{eqb, ltb, leb}
 use lib.ListN.{length}
 use lib.Ieee.{Float}
+use Rattle.tolerance.specs.Tolerance.{toleranceFits}
 use Rattle.vector.specs.declared.Vector.{Vector}
 use Rattle.vector.specs.Vectors.{allClose}
 use Rattle.grid.specs.Grid.{pointAt, coordinatesFit}
-use Rattle.refusal.specs.declared.Refusal.the-variants.{Length, Coordinate}
+use Rattle.refusal.specs.declared.Refusal.the-variants.{Length, Tolerance, Coordinate}
 use Rattle.refusal.specs.declared.Check.{Check}
 use Rattle.refusal.specs.declared.Check.the-variants.{Passed}
 use Rattle.refusal.specs.Refusals.{Answer, ok, refused, numberOf, unless, passing}
@@ -88,14 +89,17 @@ search close a b na nb = cond (ltb na 2 || not (eqb na nb)) (searched Unjoined 0
 abbrev pub rowFits : List Float → Bool
 rowFits r = eqb (length r % 3) 0 && leb (length r) 196608
 
--- refusals 2 and 4 of two rows, in this order
-unfoldable pub rowsCheck : List Float → List Float → Check
-rowsCheck a b = unless (rowFits a && rowFits b) Length (unless (coordinatesFit a && coordinatesFit b) Coordinate Passed)
+-- refusals 2, 13 and 4 of two rows and a tolerance, in this order
+unfoldable pub rowsCheck : List Float → List Float → Float → Check
+rowsCheck a b tolerance =
+    unless (rowFits a && rowFits b) Length
+    (unless (toleranceFits tolerance) Tolerance
+    (unless (coordinatesFit a && coordinatesFit b) Coordinate Passed))
 
--- the open call `CyclicMapping::new_vector`, at a tolerance, for which the rules take EPS
+-- the open call `CyclicMapping::new_vector`, at a tolerance
 unfoldable pub newVector : List Float → List Float → Float → Answer SeamSearch
 newVector a b tolerance =
-    passing (rowsCheck a b)
+    passing (rowsCheck a b tolerance)
     (ok (search (closeAt tolerance) (pointAt a) (pointAt b) (length a / 3) (length b / 3)))
 
 -- the values or the number that each answer of the code stands for

@@ -1,6 +1,5 @@
 // Rules 3.1 to 3.3: the search for a seam between two rows of points.
 use crate::mapping::CyclicMapping;
-use float::consts::EPS;
 use refusal::Check;
 use refusal::Refusal;
 ghost use mathlib.Core.Path.{_≡_};
@@ -8,7 +7,6 @@ ghost use mathlib.Core.Bool.{true, cond};
 ghost use Prim.Native.Nat.{ℕ, _+_, _-_, _*_, _/_, _≤_, _<_};
 ghost use lib.ListN.{length};
 ghost use Rattle.grid.specs.Grid.{pointAt};
-ghost use Rattle.float.specs.Consts.{eps};
 ghost use Rattle.vector.specs.Vectors.{allClose};
 ghost use Rattle.cyclic.specs.Mapping.{image, HasIndex};
 ghost use Rattle.cyclic.specs.Search.{rowOf, Rows, closeAt, searched, closed, searchRows, search};
@@ -60,20 +58,23 @@ fn unjoined(comparisons: u64) -> SeamSearch
 }
 
 // Whether point i of a is close to point k of b.
-fn points_close(a: &[f64], i: usize, b: &[f64], k: usize) -> bool
+fn points_close(a: &[f64], i: usize, b: &[f64], k: usize, tolerance: f64) -> bool
     requires { ⌜ (3 * i + 3 ≤ length (now a)) × (3 * k + 3 ≤ length (now b)) ⌝ }
-    ensures { λ r. ⌜ r ≡ allClose (pointAt (now (a .entry)) i) (pointAt (now (b .entry)) k) eps ⌝ }
+    ensures { λ r. ⌜ r ≡ allClose (pointAt (now (a .entry)) i) (pointAt (now (b .entry)) k) tolerance ⌝ }
 {
-    grid::point_at(a, i).all_close(grid::point_at(b, k))
+    grid::point_at(a, i).all_close(grid::point_at(b, k), tolerance)
 }
 
-// Whether two points differ by less than EPS in each coordinate, and so are close. It has no branch, and so is fast.
-fn points_near(a: &[f64], i: usize, b: &[f64], k: usize) -> bool
+// Whether two points differ by less than the tolerance in each coordinate, and so are close. It has no branch, and so
+// is fast.
+fn points_near(a: &[f64], i: usize, b: &[f64], k: usize, tolerance: f64) -> bool
     requires { ⌜ (3 * i + 3 ≤ length (now a)) × (3 * k + 3 ≤ length (now b)) ⌝ }
-    ensures { λ r. ⌜ (r ≡ true → allClose (pointAt (now (a .entry)) i) (pointAt (now (b .entry)) k) eps ≡ true) ⌝ }
+    ensures { λ r. ⌜ (r ≡ true → allClose (pointAt (now (a .entry)) i) (pointAt (now (b .entry)) k) tolerance ≡ true) ⌝ }
 {
     let d = grid::point_at(a, i).sub(grid::point_at(b, k));
-    ((-EPS < d.x) & (d.x < EPS)) & ((-EPS < d.y) & (d.y < EPS)) & ((-EPS < d.z) & (d.z < EPS))
+    ((-tolerance < d.x) & (d.x < tolerance))
+        & ((-tolerance < d.y) & (d.y < tolerance))
+        & ((-tolerance < d.z) & (d.z < tolerance))
 }
 
 // Whether the rows are closed. The ends of b are compared only where those of a are close.
@@ -84,14 +85,15 @@ fn rows_closed(
     b_start: usize,
     stride: usize,
     steps: usize,
+    tolerance: f64,
 ) -> Tried
     requires { ⌜ Rows (now a) «a_start» (now b) «b_start» stride steps ⌝ }
-    ensures { λ r. ⌜ r ≡ closed (closeAt eps) (rowOf (now (a .entry)) «a_start» stride)
+    ensures { λ r. ⌜ r ≡ closed (closeAt tolerance) (rowOf (now (a .entry)) «a_start» stride)
         (rowOf (now (b .entry)) «b_start» stride) steps ⌝ }
 {
-    if points_close(a, a_start, a, a_start + steps * stride) {
+    if points_close(a, a_start, a, a_start + steps * stride, tolerance) {
         return Tried {
-            fits: points_close(b, b_start, b, b_start + steps * stride),
+            fits: points_close(b, b_start, b, b_start + steps * stride, tolerance),
             made: 2,
         };
     }
@@ -143,11 +145,12 @@ fn close_run(
     stride: usize,
     steps: usize,
     reverse: bool,
+    tolerance: f64,
 ) -> usize
     requires { ⌜ Rows (now a) «a_start» (now b) «b_start» stride steps ⌝ }
     ensures { λ r. ⌜ (r ≤ steps) × ((j : ℕ) → j < r →
         allClose (rowOf (now (a .entry)) «a_start» stride j)
-        (rowOf (now (b .entry)) «b_start» stride (cond reverse («steps» - j) j)) eps ≡ true) ⌝ }
+        (rowOf (now (b .entry)) «b_start» stride (cond reverse («steps» - j) j)) tolerance ≡ true) ⌝ }
 {
     let mut run: usize = 0;
     if stride != 1 {
@@ -156,8 +159,8 @@ fn close_run(
     while run + 2 <= steps {
         let k = opposite(run, steps, reverse);
         let next = opposite(run + 1, steps, reverse);
-        if !(points_near(a, a_start + run, b, b_start + k)
-            & points_near(a, a_start + run + 1, b, b_start + next)) {
+        if !(points_near(a, a_start + run, b, b_start + k, tolerance)
+            & points_near(a, a_start + run + 1, b, b_start + next, tolerance)) {
             return run;
         }
         run += 2;
@@ -174,12 +177,13 @@ pub fn search_rows(
     b_start: usize,
     stride: usize,
     steps: usize,
+    tolerance: f64,
 ) -> SeamSearch
     requires { ⌜ Rows (now a) «a_start» (now b) «b_start» stride steps ⌝ }
-    ensures { λ r. ⌜ r ≡ searchRows (closeAt eps) (rowOf (now (a .entry)) «a_start» stride)
+    ensures { λ r. ⌜ r ≡ searchRows (closeAt tolerance) (rowOf (now (a .entry)) «a_start» stride)
         (rowOf (now (b .entry)) «b_start» stride) steps ⌝ }
 {
-    let ends = rows_closed(a, a_start, b, b_start, stride, steps);
+    let ends = rows_closed(a, a_start, b, b_start, stride, steps, tolerance);
     let end = if ends.fits { steps } else { 1 };
     let mut comparisons = ends.made;
     let mut offset: usize = 0;
@@ -191,11 +195,11 @@ pub fn search_rows(
         let mut j: usize = 0;
         let mut k = offset;
         if offset == 0 {
-            j = close_run(a, a_start, b, b_start, stride, steps, false);
+            j = close_run(a, a_start, b, b_start, stride, steps, false, tolerance);
             k = opposite(j, steps, false);
         }
         loop {
-            if !points_close(a, a_start + j * stride, b, b_start + k * stride) {
+            if !points_close(a, a_start + j * stride, b, b_start + k * stride, tolerance) {
                 break;
             }
             if j == steps {
@@ -209,11 +213,11 @@ pub fn search_rows(
         let mut j: usize = 0;
         let mut k = offset;
         if offset == 0 {
-            j = close_run(a, a_start, b, b_start, stride, steps, true);
+            j = close_run(a, a_start, b, b_start, stride, steps, true, tolerance);
             k = opposite(j, steps, true);
         }
         loop {
-            if !points_close(a, a_start + j * stride, b, b_start + k * stride) {
+            if !points_close(a, a_start + j * stride, b, b_start + k * stride, tolerance) {
                 break;
             }
             if j == steps {
@@ -229,16 +233,16 @@ pub fn search_rows(
 }
 
 // Rows of unlike length, or of fewer than two points, have no seam, and nothing is compared; others are searched.
-fn search(a: &[f64], b: &[f64]) -> SeamSearch
+fn search(a: &[f64], b: &[f64], tolerance: f64) -> SeamSearch
     requires { ⌜ length (now a) ≤ 196608 ⌝ }
-    ensures { λ r. ⌜ r ≡ search (closeAt eps) (pointAt (now (a .entry))) (pointAt (now (b .entry)))
+    ensures { λ r. ⌜ r ≡ search (closeAt tolerance) (pointAt (now (a .entry))) (pointAt (now (b .entry)))
         (length (now (a .entry)) / 3) (length (now (b .entry)) / 3) ⌝ }
 {
     let n = a.len() / 3;
     if n < 2 || n != b.len() / 3 {
         return unjoined(0);
     }
-    search_rows(a, 0, b, 0, 1, n - 1)
+    search_rows(a, 0, b, 0, 1, n - 1, tolerance)
 }
 
 // Whether a row is of whole points, and not too many.
@@ -248,12 +252,15 @@ fn row_fits(row: &[f64]) -> bool
     (row.len() % 3 == 0) & (row.len() <= MAX_ROW)
 }
 
-// Refusals 2 and 4.
-fn check_rows(a: &[f64], b: &[f64]) -> Check
-    ensures { λ r. ⌜ r ≡ rowsCheck (now (a .entry)) (now (b .entry)) ⌝ }
+// Refusals 2, 13 and 4.
+fn check_rows(a: &[f64], b: &[f64], tolerance: f64) -> Check
+    ensures { λ r. ⌜ r ≡ rowsCheck (now (a .entry)) (now (b .entry)) tolerance ⌝ }
 {
     if !(row_fits(a) & row_fits(b)) {
         return Check::Failed(Refusal::Length);
+    }
+    if !tolerance::tolerance_fits(tolerance) {
+        return Check::Failed(Refusal::Tolerance);
     }
     if !(grid::coordinates_fit(a) & grid::coordinates_fit(b)) {
         return Check::Failed(Refusal::Coordinate);
@@ -262,14 +269,14 @@ fn check_rows(a: &[f64], b: &[f64]) -> Check
 }
 
 impl CyclicMapping {
-    // The seam between two rows of points, three f64 each.
-    pub fn new_vector(a: &[f64], b: &[f64]) -> SeamAnswer
-        ensures { λ r. ⌜ statedSeam r ≡ newVector (now (a .entry)) (now (b .entry)) eps ⌝ }
+    // The seam between two rows of points, three f64 each, where close means by the tolerance.
+    pub fn new_vector(a: &[f64], b: &[f64], tolerance: f64) -> SeamAnswer
+        ensures { λ r. ⌜ statedSeam r ≡ newVector (now (a .entry)) (now (b .entry)) tolerance ⌝ }
     {
-        match check_rows(a, b) {
+        match check_rows(a, b, tolerance) {
             Check::Failed(k) => SeamAnswer::Refused(k),
             Check::Passed => {
-                let found = search(a, b);
+                let found = search(a, b, tolerance);
                 let seam = found.seam;
                 match seam {
                     Seam::Joined(mapping) => SeamAnswer::Found(mapping, found.comparisons),

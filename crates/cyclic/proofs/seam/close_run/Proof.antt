@@ -5,7 +5,6 @@ use mathlib.Core.Path.{refl}
 use borrow.Author.Needs.{needs}
 use borrow.Author.Tests.{not-false}
 use denote.Ref.{now}
-use Rattle.float.specs.Consts.{eps}
 use Rattle.cyclic.specs.Search.{rowOf, closeAt}
 use Rattle.basics.proofs.Tests.{and-both}
 use Rattle.cyclic.proofs.Remains.{Run, two-longer}
@@ -14,11 +13,11 @@ use Rattle.cyclic.proofs.seam.close_run.Statement.{statement}
 use Rattle.cyclic.proofs.seam.close_run.Tie as tie
 
 abbrev Inv-loop : tie.InvT-loop
-Inv-loop a a-start b b-start stride steps reverse run₀ run =
-    (run ≤ steps) × Run (closeAt eps) (rowOf a a-start stride) (rowOf b b-start stride) steps reverse run
+Inv-loop a a-start b b-start stride steps reverse tolerance run₀ run =
+    (run ≤ steps) × Run (closeAt tolerance) (rowOf a a-start stride) (rowOf b b-start stride) steps reverse run
 
 abbrev μ-loop : tie.MeasureT-loop
-μ-loop a a-start b b-start stride steps reverse run₀ run = steps - run
+μ-loop a a-start b b-start stride steps reverse tolerance run₀ run = steps - run
 
 -- places: the start, and the loop, from where both indices of b are known
 abbrev started : tie.At-loop Inv-loop μ-loop → tie.Start Inv-loop μ-loop
@@ -69,11 +68,11 @@ loop-again c =
     let b = rowOf (now (s .args .b)) (s .args .b-start) (s .args .stride) in
     let both = and-both (p .points-near .result) (q .points-near2 .result) (not-false _ (c .if2 .left)) in (
       omega arith,
-      two-longer (closeAt eps) a b (s .args .steps) (s .args .reverse) (l .loop .run) (l .loop .inv .1)
+      two-longer (closeAt (s .args .tolerance)) a b (s .args .steps) (s .args .reverse) (l .loop .run) (l .loop .inv .1)
           (close-next (s .pre) (l .before .if1 .left) (s .args .reverse) (l .loop .run) (o .opposite .ensures)
-          (closeAt eps) refl (p .points-near .ensures (both .0)))
+          (closeAt (s .args .tolerance)) refl (p .points-near .ensures (both .0)))
           (close-next (s .pre) (l .before .if1 .left) (s .args .reverse) (l .loop .run + 1) (n .opposite2 .ensures)
-          (closeAt eps) (omega arith) (q .points-near2 .ensures (both .1))),
+          (closeAt (s .args .tolerance)) (omega arith) (q .points-near2 .ensures (both .1))),
     )
 
 returns-3 : tie.Need-returns-3 Inv-loop μ-loop

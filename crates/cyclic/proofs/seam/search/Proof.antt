@@ -7,7 +7,6 @@ use borrow.Author.Needs.{needs}
 use borrow.Author.Tests.{eqb-true, eqb-false, not-true, not-false}
 use denote.Ref.{now}
 use lib.ListN.{length}
-use Rattle.float.specs.Consts.{eps}
 use Rattle.grid.specs.Grid.{pointAt}
 use Rattle.cyclic.specs.Search.{closeAt}
 use Rattle.cyclic.proofs.Rows.{whole-row, short-rows, long-rows}
@@ -21,7 +20,7 @@ returns : tie.Need-returns
 returns c =
     let s = started (c .before .before) .args in
     c .unjoined .ensures
-    ∙ sym (short-rows (closeAt eps) (pointAt (now (s .a))) (pointAt (now (s .b))) _ _
+    ∙ sym (short-rows (closeAt (s .tolerance)) (pointAt (now (s .a))) (pointAt (now (s .b))) _ _
     (⊎-elim (λ w. inl (w .taken)) (λ w. inr (eqb-false _ _ (not-true _ (w .1 .taken)))) (c .before .if1 .came)))
 
 search-rows-requires : tie.Need-search-rows-requires

@@ -8,7 +8,6 @@ use mathlib.Core.Path.{sym, _∙_}
 use mathlib.Core.Logic.{⊎-elim}
 use borrow.Author.Needs.{needs}
 use denote.Ref.{now}
-use Rattle.float.specs.Consts.{eps}
 use Rattle.cyclic.specs.declared.mapping.CyclicMapping.the-variants.{Forward, Reverse}
 use Rattle.cyclic.specs.Mapping.{HasIndex}
 use Rattle.cyclic.specs.Search.{rowOf, closeAt}
@@ -19,25 +18,25 @@ use Rattle.cyclic.proofs.seam.search_rows.Statement.{statement}
 use Rattle.cyclic.proofs.seam.search_rows.Tie as tie
 
 abbrev Inv-loop : tie.InvT-loop
-Inv-loop a a-start b b-start stride steps end comparisons offset j₀ k₀ j k =
-    Trying (closeAt eps) (rowOf a a-start stride) (rowOf b b-start stride) (Forward offset steps) comparisons j k
+Inv-loop a a-start b b-start stride steps tolerance end comparisons offset j₀ k₀ j k =
+    Trying (closeAt tolerance) (rowOf a a-start stride) (rowOf b b-start stride) (Forward offset steps) comparisons j k
 
 abbrev μ-loop : tie.MeasureT-loop
-μ-loop a a-start b b-start stride steps end comparisons offset j₀ k₀ j k = steps - j
+μ-loop a a-start b b-start stride steps tolerance end comparisons offset j₀ k₀ j k = steps - j
 
 abbrev Inv-loop2 : tie.InvT-loop2
-Inv-loop2 a a-start b b-start stride steps end comparisons offset j₁ k₁ j₀ k₀ j k =
-    Trying (closeAt eps) (rowOf a a-start stride) (rowOf b b-start stride) (Reverse offset steps) comparisons j k
+Inv-loop2 a a-start b b-start stride steps tolerance end comparisons offset j₁ k₁ j₀ k₀ j k =
+    Trying (closeAt tolerance) (rowOf a a-start stride) (rowOf b b-start stride) (Reverse offset steps) comparisons j k
 
 abbrev μ-loop2 : tie.MeasureT-loop2
-μ-loop2 a a-start b b-start stride steps end comparisons offset j₁ k₁ j₀ k₀ j k = steps - j
+μ-loop2 a a-start b b-start stride steps tolerance end comparisons offset j₁ k₁ j₀ k₀ j k = steps - j
 
 abbrev Inv-offsets : tie.InvT-offsets
-Inv-offsets a a-start b b-start stride steps end comparisons₀ offset₀ comparisons offset =
-    Searching (closeAt eps) (rowOf a a-start stride) (rowOf b b-start stride) steps end comparisons offset
+Inv-offsets a a-start b b-start stride steps tolerance end comparisons₀ offset₀ comparisons offset =
+    Searching (closeAt tolerance) (rowOf a a-start stride) (rowOf b b-start stride) steps end comparisons offset
 
 abbrev μ-offsets : tie.MeasureT-offsets
-μ-offsets a a-start b b-start stride steps end comparisons₀ offset₀ comparisons offset = end - offset
+μ-offsets a a-start b b-start stride steps tolerance end comparisons₀ offset₀ comparisons offset = end - offset
 
 -- the start of the call behind the comparison of the ends and behind the offset that is tried, that offset behind the
 -- forward loop, and the forward loop behind the reverse one
