@@ -10,7 +10,10 @@ use lib.Seq.{length-take-le}
 use Rattle.refusal.specs.declared.Check.{Check}
 use Rattle.refusal.specs.declared.Check.the-variants.{Passed, Failed}
 use Rattle.refusal.specs.declared.Refusal.{Refusal}
-use Rattle.lent.specs.Lent.{filled, zeroedFrom, afterwards}
+use Rattle.refusal.proofs.Laws.{then-passed}
+use Rattle.tolerance.specs.declared.Tolerances.{Tolerances}
+use Rattle.tolerance.specs.Tolerance.{tolerancesCheck}
+use Rattle.lent.specs.Lent.{roomCheck, filled, zeroedFrom, afterwards}
 use Rattle.lent.proofs.Laws.{zeroed-filled, answered-in, room-passed}
 use Rattle.grid.specs.Grid.{Accepted}
 use Rattle.grid.proofs.Laws.{grid-passed, grid-accepted, accepted-known}
@@ -38,26 +41,29 @@ pub record Admitted (g : List Float) (m n : ℕ) (t f : List ℕ) : Type 0 where
   pub triangle-room : 6 * (m * n) ≤ length t
   pub pair-room : 2 * (m + n) ≤ length f
 
-pub admitted : (g : List Float) (m n : ℕ) (t f : List ℕ) → meshCheck g m n t f ≡ Passed → Admitted g m n t f
+pub admitted : (g : List Float) (m n : ℕ) (tolerances : Tolerances) (t f : List ℕ) →
+    meshCheck g m n tolerances t f ≡ Passed → Admitted g m n t f
 unfolding meshCheck
-admitted g m n t f h =
-    let room = room-passed (6 * (m * n)) (length t) (2 * (m + n)) (length f) (grid-passed g m n _ h .own) in
+admitted g m n tolerances t f h =
+    let own = then-passed (tolerancesCheck tolerances) (roomCheck (6 * (m * n)) (length t) (2 * (m + n)) (length f))
+    (grid-passed g m n _ h .own) in
+    let room = room-passed (6 * (m * n)) (length t) (2 * (m + n)) (length f) (own .1) in
     record { accepted = grid-accepted g m n _ h; triangle-room = room .0; pair-room = room .1 }
 
 -- The seams that are found fit the grid
 
-pub found-bounded : (g : List Float) (m n : ℕ) {u v : SeamSearch} →
-    Accepted g m n → u ≡ uSearch g m n → v ≡ vSearch g m n →
+pub found-bounded : (g : List Float) (m n : ℕ) (tolerances : Tolerances) {u v : SeamSearch} →
+    Accepted g m n → u ≡ uSearch g m n (tolerances .u) → v ≡ vSearch g m n (tolerances .v) →
     Bounded (record { m = m; n = n; u = u .seam; v = v .seam })
-found-bounded g m n {u} {v} h p q =
+found-bounded g m n tolerances {u} {v} h p q =
     let s = accepted-known g m n h .steps in
     record {
       m-least = s .m-least;
       m-most = s .m-most;
       n-least = s .n-least;
       n-most = s .n-most;
-      u-maps = rw p (u-of-row g m n (s .n-least));
-      v-maps = rw q (v-of-row g m n (s .m-least));
+      u-maps = rw p (u-of-row g m n (tolerances .u) (s .n-least));
+      v-maps = rw q (v-of-row g m n (tolerances .v) (s .m-least));
     }
 
 -- Filled lists
@@ -103,19 +109,23 @@ pub lists-written : (s : Shape) (t f : List ℕ) {t′ f′ : List ℕ} {k p : �
     afterwards (record { triangles = k; pairs = p }) (meshLists t′ f′) ≡ written s (meshLists t f)
 lists-written s t f ts ps k p = rw (ts, ps, k, p)
 
--- the answer a, with the lists t′ and f′, where t and f were lent
-abbrev Hands : List Float → ℕ → ℕ → List ℕ → List ℕ → Triangulation → List ℕ → List ℕ → Type 0
-Hands g m n t f a t′ f′ = afterwards (statedTriangulation a) (meshLists t′ f′) ≡ triangulateGrid g m n (meshLists t f)
+module _ (g : List Float) (m n : ℕ) (tolerances : Tolerances) (t f : List ℕ) where
+  -- the answer a, with the lists t′ and f′, where t and f were lent
+  abbrev Hands : Triangulation → List ℕ → List ℕ → Type 0
+  Hands a t′ f′ =
+      afterwards (statedTriangulation a) (meshLists t′ f′) ≡ triangulateGrid g m n tolerances (meshLists t f)
 
-pub refused-hands : (g : List Float) (m n : ℕ) (t f : List ℕ) {c : Check} {k : Refusal} →
-    c ≡ meshCheck g m n t f → c ≡ Failed k → Hands g m n t f (Refused k) t f
-unfolding triangulateGrid
-refused-hands g m n t f p e = rw (← p, e)
+  pub refused-hands : {c : Check} {k : Refusal} → c ≡ meshCheck g m n tolerances t f → c ≡ Failed k →
+      Hands (Refused k) t f
+  unfolding triangulateGrid
+  refused-hands p e = rw (← p, e)
 
-pub passed-hands : (g : List Float) (m n : ℕ) (t f t′ f′ : List ℕ) {c : Check} {u v : SeamSearch} {r : MeshCounts} →
-    c ≡ meshCheck g m n t f → c ≡ Passed → u ≡ uSearch g m n → v ≡ vSearch g m n →
-    afterwards r (meshLists t′ f′) ≡ written (surfaceWith m n (u .seam) (v .seam)) (meshLists t f) →
-    Hands g m n t f (Triangulated u v (r .triangles) (r .pairs)) t′ f′
-unfolding triangulateGrid
-passed-hands g m n t f t′ f′ p e a b w =
-    rw (← p, e) (answered-in (meshed (uSearch g m n) (vSearch g m n)) (rw (a, b)) (rw (a, b) at w))
+  pub passed-hands : (t′ f′ : List ℕ) {c : Check} {u v : SeamSearch} {r : MeshCounts} →
+      c ≡ meshCheck g m n tolerances t f → c ≡ Passed →
+      u ≡ uSearch g m n (tolerances .u) → v ≡ vSearch g m n (tolerances .v) →
+      afterwards r (meshLists t′ f′) ≡ written (surfaceWith m n (u .seam) (v .seam)) (meshLists t f) →
+      Hands (Triangulated u v (r .triangles) (r .pairs)) t′ f′
+  unfolding triangulateGrid
+  passed-hands t′ f′ p e a b w =
+      rw (← p, e)
+      (answered-in (meshed (uSearch g m n (tolerances .u)) (vSearch g m n (tolerances .v))) (rw (a, b)) (rw (a, b) at w))

@@ -4,7 +4,9 @@ use mathlib.Core.List.{List, [], _∷_}
 use lib.ListN.{length}
 use lib.Ieee.{Float}
 use Rattle.refusal.specs.declared.Check.{Check}
-use Rattle.refusal.specs.Refusals.{Answer, ok, refused, numberOf}
+use Rattle.refusal.specs.Refusals.{Answer, ok, refused, numberOf, andThen}
+use Rattle.tolerance.specs.declared.Tolerances.{Tolerances}
+use Rattle.tolerance.specs.Tolerance.{tolerancesCheck}
 use Rattle.lent.specs.Lent.{roomCheck, filled, Afterwards, afterwards, answering, ifPassed}
 use Rattle.grid.specs.Grid.{gridCheck}
 use Rattle.cyclic.specs.declared.seam.SeamSearch.{SeamSearch}
@@ -36,10 +38,12 @@ abbrev pub statedTriangulation : Triangulation → Answer Meshed
 statedTriangulation (Triangulated u v t f) = ok (record { u = u; v = v; triangles = t; pairs = f })
 statedTriangulation (Refused k) = refused (numberOf k)
 
--- Rules 11.2: refusals 1, 2, 3 and 4, in this order. What 3 asks for (11.1): both lists have room for whatever the grid
--- may need
-unfoldable pub meshCheck : List Float → ℕ → ℕ → List ℕ → List ℕ → Check
-meshCheck g m n t f = gridCheck g m n (roomCheck (6 * (m * n)) (length t) (2 * (m + n)) (length f))
+-- Rules 11.2: refusals 1, 2, 13, 3 and 4, in this order. What 3 asks for (11.1): both lists have room for whatever the
+-- grid may need
+unfoldable pub meshCheck : List Float → ℕ → ℕ → Tolerances → List ℕ → List ℕ → Check
+meshCheck g m n tolerances t f =
+    gridCheck g m n
+    (andThen (tolerancesCheck tolerances) (roomCheck (6 * (m * n)) (length t) (2 * (m + n)) (length f)))
 
 -- the two lists that are lent for them
 pub record MeshLists : Type 0 where
@@ -61,7 +65,8 @@ abbrev pub meshed : SeamSearch → SeamSearch → MeshCounts → Answer Meshed
 meshed u v c = ok (record { u = u; v = v; triangles = c .triangles; pairs = c .pairs })
 
 -- the open call; a refusal leaves the lists as they were (Rules 8.3)
-unfoldable pub triangulateGrid : List Float → ℕ → ℕ → MeshLists → Afterwards (Answer Meshed) MeshLists
-triangulateGrid g m n lent =
-    ifPassed (meshCheck g m n (lent .triangles) (lent .flipped)) lent
-    (answering (meshed (uSearch g m n) (vSearch g m n)) (written (surfaceOf g m n) lent))
+unfoldable pub triangulateGrid : List Float → ℕ → ℕ → Tolerances → MeshLists → Afterwards (Answer Meshed) MeshLists
+triangulateGrid g m n tolerances lent =
+    ifPassed (meshCheck g m n tolerances (lent .triangles) (lent .flipped)) lent
+    (answering (meshed (uSearch g m n (tolerances .u)) (vSearch g m n (tolerances .v)))
+    (written (surfaceOf g m n tolerances) lent))

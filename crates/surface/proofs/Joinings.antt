@@ -7,7 +7,6 @@ use mathlib.Core.Logic.{inl, inr}
 use mathlib.Core.List.{List}
 use native.Mathlib.Omega.{arith}
 use lib.Ieee.{Float}
-use Rattle.float.specs.Consts.{eps}
 use Rattle.grid.proofs.Laws.{accepted-known}
 use Rattle.cyclic.specs.declared.mapping.CyclicMapping.{CyclicMapping}
 use Rattle.cyclic.specs.declared.mapping.CyclicMapping.the-variants.{Forward, Reverse}
@@ -33,11 +32,11 @@ found-of-row close a b steps h = go (searchRows close a b steps .seam) refl
     go Unjoined e = tt
     go (Joined k) e = (found-steps close a b steps e, found-below close a b steps h e)
 
-pub u-of-row : (g : List Float) (m n : ℕ) → 1 ≤ n → Maps (uSearch g m n .seam) n
-u-of-row g m n h = rw (u-search g m n h) (found-of-row (closeAt eps) (rowOf g 0 1) (rowOf g (m * (n + 1)) 1) n h)
+pub u-of-row : (g : List Float) (m n : ℕ) (t : Float) → 1 ≤ n → Maps (uSearch g m n t .seam) n
+u-of-row g m n t h = rw (u-search g m n t h) (found-of-row (closeAt t) (rowOf g 0 1) (rowOf g (m * (n + 1)) 1) n h)
 
-pub v-of-row : (g : List Float) (m n : ℕ) → 1 ≤ m → Maps (vSearch g m n .seam) m
-v-of-row g m n h = rw (v-search g m n h) (found-of-row (closeAt eps) (rowOf g 0 (n + 1)) (rowOf g n (n + 1)) m h)
+pub v-of-row : (g : List Float) (m n : ℕ) (t : Float) → 1 ≤ m → Maps (vSearch g m n t .seam) m
+v-of-row g m n t h = rw (v-search g m n t h) (found-of-row (closeAt t) (rowOf g 0 (n + 1)) (rowOf g n (n + 1)) m h)
 
 -- the inverse image that a surface takes is the mapping's own
 pub inverse-of : (k : CyclicMapping) (b : ℕ) → inverse (ofMapping k) (stepsOf k) b ≡ mapping.inverse k b
@@ -66,9 +65,9 @@ pub joining-meets : (m n : ℕ) (su sv : Seam) → 1 ≤ m → 1 ≤ n → Maps 
     Meets (surfaceWith m n su sv)
 joining-meets m n su sv hm hn p q c = covered-meets (surfaceWith m n su sv) hm hn (covered m n su sv p q c)
 
--- demand 3 of the surface of a grid, with the seams that are found in it
+-- demand 3 of the surface of a grid, with the seams that are found in it, whatever the tolerances
 pub surface-meets : (g : List Float) (m n : ℕ) → SurfaceMeets g m n
-surface-meets g m n a c =
+surface-meets g m n a t c =
     let s = accepted-known g m n a .steps in
-    joining-meets m n (uSearch g m n .seam) (vSearch g m n .seam) (s .m-least) (s .n-least)
-    (u-of-row g m n (s .n-least)) (v-of-row g m n (s .m-least)) c
+    joining-meets m n (uSearch g m n (t .u) .seam) (vSearch g m n (t .v) .seam) (s .m-least) (s .n-least)
+    (u-of-row g m n (t .u) (s .n-least)) (v-of-row g m n (t .v) (s .m-least)) c

@@ -5,7 +5,6 @@ use mathlib.Core.Path.{_≡_, ap, _∙_, fun-ext}
 use mathlib.Core.List.{List}
 use native.Mathlib.Omega.{arith}
 use lib.Ieee.{Float}
-use Rattle.float.specs.Consts.{eps}
 use Rattle.grid.specs.Grid.{pointAt}
 use Rattle.cyclic.specs.Search.{Row, Closeness, closeAt, rowOf, searchRows}
 use Rattle.cyclic.proofs.Rows.{long-rows}
@@ -22,18 +21,18 @@ searched-rows : (close : Closeness) (a b a′ b′ : Row) (steps : ℕ) → a �
     searchRows close a b (steps + 1 - 1) ≡ searchRows close a′ b′ steps
 searched-rows close a b a′ b′ steps p q = let e : steps + 1 - 1 ≡ steps = omega arith in cc
 
-pub u-search : (g : List Float) (m n : ℕ) → 1 ≤ n →
-    uSearch g m n ≡ searchRows (closeAt eps) (rowOf g 0 1) (rowOf g (m * (n + 1)) 1) n
+pub u-search : (g : List Float) (m n : ℕ) (t : Float) → 1 ≤ n →
+    uSearch g m n t ≡ searchRows (closeAt t) (rowOf g 0 1) (rowOf g (m * (n + 1)) 1) n
 unfolding uSearch
-u-search g m n h =
-    long-rows (closeAt eps) (column g n 0) (column g n m) (n + 1) (n + 1) (omega arith) (omega arith)
-    ∙ searched-rows (closeAt eps) (column g n 0) (column g n m) (rowOf g 0 1) (rowOf g (m * (n + 1)) 1) n
+u-search g m n t h =
+    long-rows (closeAt t) (column g n 0) (column g n m) (n + 1) (n + 1) (omega arith) (omega arith)
+    ∙ searched-rows (closeAt t) (column g n 0) (column g n m) (rowOf g 0 1) (rowOf g (m * (n + 1)) 1) n
     (column-is g n 0 0 (omega arith)) (column-is g n m (m * (n + 1)) (omega arith))
 
-pub v-search : (g : List Float) (m n : ℕ) → 1 ≤ m →
-    vSearch g m n ≡ searchRows (closeAt eps) (rowOf g 0 (n + 1)) (rowOf g n (n + 1)) m
+pub v-search : (g : List Float) (m n : ℕ) (t : Float) → 1 ≤ m →
+    vSearch g m n t ≡ searchRows (closeAt t) (rowOf g 0 (n + 1)) (rowOf g n (n + 1)) m
 unfolding vSearch
-v-search g m n h =
-    long-rows (closeAt eps) (row g n 0) (row g n n) (m + 1) (m + 1) (omega arith) (omega arith)
-    ∙ searched-rows (closeAt eps) (row g n 0) (row g n n) (rowOf g 0 (n + 1)) (rowOf g n (n + 1)) m (row-is g n 0)
+v-search g m n t h =
+    long-rows (closeAt t) (row g n 0) (row g n n) (m + 1) (m + 1) (omega arith) (omega arith)
+    ∙ searched-rows (closeAt t) (row g n 0) (row g n n) (rowOf g 0 (n + 1)) (rowOf g n (n + 1)) m (row-is g n 0)
     (row-is g n n)

@@ -5,7 +5,7 @@ use mathlib.Core.Path.{_≡_}
 use mathlib.Core.Logic.{_⊎_}
 use mathlib.Core.List.{List}
 use lib.Ieee.{Float}
-use Rattle.float.specs.Consts.{eps}
+use Rattle.tolerance.specs.declared.Tolerances.{Tolerances}
 use Rattle.grid.specs.Grid.{pointNumber, pointAt, Accepted}
 use Rattle.cyclic.specs.declared.mapping.CyclicMapping.{CyclicMapping}
 use Rattle.cyclic.specs.declared.mapping.CyclicMapping.the-variants.{Forward, Reverse}
@@ -23,12 +23,13 @@ column g n u v = pointAt g (pointNumber n u v)
 abbrev pub row : List Float → ℕ → ℕ → Row
 row g n v u = pointAt g (pointNumber n u v)
 
--- Rules 4.1: the u seam, with column 0 for a and column M for b; and the v seam, with row 0 for a and row N for b
-unfoldable pub uSearch : List Float → ℕ → ℕ → SeamSearch
-uSearch g m n = search (closeAt eps) (column g n 0) (column g n m) (n + 1) (n + 1)
+-- Rules 4.1: the u seam, with column 0 for a and column M for b; and the v seam, with row 0 for a and row N for b; each
+-- at its tolerance
+unfoldable pub uSearch : List Float → ℕ → ℕ → Float → SeamSearch
+uSearch g m n tolerance = search (closeAt tolerance) (column g n 0) (column g n m) (n + 1) (n + 1)
 
-unfoldable pub vSearch : List Float → ℕ → ℕ → SeamSearch
-vSearch g m n = search (closeAt eps) (row g n 0) (row g n n) (m + 1) (m + 1)
+unfoldable pub vSearch : List Float → ℕ → ℕ → Float → SeamSearch
+vSearch g m n tolerance = search (closeAt tolerance) (row g n 0) (row g n n) (m + 1) (m + 1)
 
 -- a seam's answer as a surface holds it: without the steps, which are its row's
 abbrev pub ofMapping : CyclicMapping → surface.Seam
@@ -49,9 +50,9 @@ abbrev pub surfaceWith : ℕ → ℕ → Seam → Seam → surface.Shape
 surfaceWith m n su sv =
     record { M = m; N = n; su = seamOf su; sv = seamOf sv; rule = surface.once; split = surface.falling }
 
--- the surface of a grid, with the seams that are found in it
-abbrev pub surfaceOf : List Float → ℕ → ℕ → surface.Shape
-surfaceOf g m n = surfaceWith m n (uSearch g m n .seam) (vSearch g m n .seam)
+-- the surface of a grid, with the seams that are found in it at these tolerances
+abbrev pub surfaceOf : List Float → ℕ → ℕ → Tolerances → surface.Shape
+surfaceOf g m n t = surfaceWith m n (uSearch g m n (t .u) .seam) (vSearch g m n (t .v) .seam)
 
 -- what one of two seams must be: Forward, at offset 0
 abbrev pub ForwardAtZero : CyclicMapping → Type 0
@@ -70,10 +71,10 @@ CoveredJoining (Joined j) Unjoined = offsetOf j ≡ 0
 CoveredJoining Unjoined (Joined k) = offsetOf k ≡ 0
 CoveredJoining (Joined j) (Joined k) = (ForwardAtZero j × ForwardOrOffZero k) ⊎ (ForwardOrOffZero j × ForwardAtZero k)
 
--- the seams that are found in a grid are a covered joining
-abbrev pub CoveredGrid : List Float → ℕ → ℕ → Type 0
-CoveredGrid g m n = CoveredJoining (uSearch g m n .seam) (vSearch g m n .seam)
+-- the seams that are found in a grid at these tolerances are a covered joining
+abbrev pub CoveredGrid : List Float → ℕ → ℕ → Tolerances → Type 0
+CoveredGrid g m n t = CoveredJoining (uSearch g m n (t .u) .seam) (vSearch g m n (t .v) .seam)
 
--- Rules 5.4: demand 3 of an accepted grid whose seams are a covered joining
+-- Rules 5.4: demand 3 of an accepted grid whose seams, found at whatever tolerances, are a covered joining
 abbrev pub SurfaceMeets : List Float → ℕ → ℕ → Type 0
-SurfaceMeets g m n = Accepted g m n → CoveredGrid g m n → surface.Meets (surfaceOf g m n)
+SurfaceMeets g m n = Accepted g m n → (t : Tolerances) → CoveredGrid g m n t → surface.Meets (surfaceOf g m n t)

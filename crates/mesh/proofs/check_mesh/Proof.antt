@@ -1,7 +1,9 @@
 -- `mesh::check_mesh` meets its contract: 1 is refused at once, and past it M and N are at most 255, so that the room
--- is a number that fits.
+-- is a number that fits; 13 stands before it.
+use mathlib.Core.Path.{ap₂, _∙_}
 use native.Mathlib.Omega.{arith}
 use borrow.Author.Needs.{needs}
+use Rattle.refusal.specs.Refusals.{andThen}
 use Rattle.grid.proofs.Laws.{Stepped, steps-answered, steps-refused, grid-tested}
 use Rattle.mesh.specs.Mesh.{meshCheck}
 use Rattle.mesh.proofs.check_mesh.Statement.{statement}
@@ -27,4 +29,8 @@ check-mesh-spec =
     (λ c. omega (arith, stepped c))
     (λ c κs. search needs)
     (λ c κs. search needs)
-    (λ c. grid-tested _ _ _ (c .check-grid .ensures) (c .before .check-room .ensures)))
+    (λ c κs. search needs)
+    (λ c κs. search needs)
+    (λ c. let t = c .before in
+    grid-tested _ _ _ (c .check-grid .ensures)
+    (t .and-then .ensures ∙ ap₂ andThen (t .before .check .ensures) (t .before .before .check-room .ensures))))

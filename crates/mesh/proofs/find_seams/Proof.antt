@@ -45,8 +45,8 @@ returns c =
     let t = c .before .before .before in
     let a = t .args in
     let z = shaped t .steps in (
-      c .before .search-rows .ensures ∙ sym (u-search (a .grid .now) (a .m) (a .n) (z .n-least)),
-      c .search-rows2 .ensures ∙ sym (v-search (a .grid .now) (a .m) (a .n) (z .m-least)),
+      c .before .search-rows .ensures ∙ sym (u-search (a .grid .now) (a .m) (a .n) (a .tolerances .u) (z .n-least)),
+      c .search-rows2 .ensures ∙ sym (v-search (a .grid .now) (a .m) (a .n) (a .tolerances .v) (z .m-least)),
     )
 
 pub find-seams-spec : {M : Type 1} → statement M

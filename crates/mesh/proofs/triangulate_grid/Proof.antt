@@ -26,7 +26,7 @@ let-in : (e : tie.After-enum-told) → let a = started (tested e) .args in
     Admitted (a .grid .now) (a .m) (a .n) (a .triangles .now) (a .flipped .now)
 let-in e =
     let a = started (tested e) .args in
-    admitted (a .grid .now) (a .m) (a .n) (a .triangles .now) (a .flipped .now)
+    admitted (a .grid .now) (a .m) (a .n) (a .tolerances) (a .triangles .now) (a .flipped .now)
     (sym (tested e .check-mesh .ensures) ∙ e .enum-told .given .1)
 
 find-seams-requires : tie.Need-find-seams-requires
@@ -38,7 +38,7 @@ triangulate-requires c κs =
     let a = started (tested (s .before)) .args in
     let f = s .find-seams in
     let i = let-in (s .before) in (
-      found-bounded (a .grid .now) (a .m) (a .n) (i .accepted) (f .ensures .0) (f .ensures .1),
+      found-bounded (a .grid .now) (a .m) (a .n) (a .tolerances) (i .accepted) (f .ensures .0) (f .ensures .1),
       (i .triangle-room, i .pair-room),
     )
 
@@ -46,8 +46,8 @@ returns : tie.Need-returns
 returns c =
     let e = c .before .before .before in
     let a = started e .args in (
-      refused-hands (a .grid .now) (a .m) (a .n) (a .triangles .now) (a .flipped .now) (e .check-mesh .ensures)
-          (c .before .k .given .1),
+      refused-hands (a .grid .now) (a .m) (a .n) (a .tolerances) (a .triangles .now) (a .flipped .now)
+          (e .check-mesh .ensures) (c .before .k .given .1),
       surface-meets (a .grid .now) (a .m) (a .n),
     )
 
@@ -59,7 +59,9 @@ returns-2 c =
     let a = started (tested e) .args in
     let f = s .find-seams in
     let r = w .triangulate in (
-      passed-hands (a .grid .now) (a .m) (a .n) (a .triangles .now) (a .flipped .now) (r .last .1 .0) (r .last .1 .1 .0)
+      passed-hands (a .grid .now) (a .m) (a .n) (a .tolerances) (a .triangles .now) (a .flipped .now)
+          (r .last .1 .0)
+          (r .last .1 .1 .0)
           (tested e .check-mesh .ensures)
           (e .enum-told .given .1)
           (f .ensures .0)
