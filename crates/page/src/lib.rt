@@ -5,7 +5,6 @@ ghost use mathlib.Core.Path.{_≡_};
 ghost use mathlib.Core.List.{List};
 ghost use Prim.Native.Nat.{ℕ, _+_, _*_, _≤_};
 ghost use lib.ListN.{length};
-ghost use Rattle.float.specs.Consts.{eps};
 ghost use Rattle.lent.specs.Lent.{afterwards};
 ghost use Rattle.page.specs.Page.{Lists, lists, writeAt, withStarts, page, pushPage, flushPage, flushUnless};
 ghost use Rattle.page.specs.Page.{pageAfter, PenFits};
@@ -55,7 +54,8 @@ fn write_at(
     samples[i] = c.sample;
 }
 
-// One more pending point, unless it is close to the last one. The starts, which it leaves alone, are any.
+// One more pending point, unless it is close to the last one by the tolerance. The starts, which it leaves alone, are
+// any.
 pub fn push_segment_point(
     points: &mut [f64],
     sides: &mut [usize],
@@ -63,17 +63,18 @@ pub fn push_segment_point(
     samples: &mut [usize],
     pen: Pen,
     c: TracedPoint,
+    tolerance: f64,
 ) -> Penned
     requires { ⌜ PenFits (now points) pen ⌝ }
     ensures { λ r. ⌜ ((starts : List ℕ) → afterwards r
         (lists (now (points .exit)) starts (now (sides .exit)) (now (fractions .exit)) (now (samples .exit)))
-        ≡ pageAfter (pushPage eps c (page
+        ≡ pageAfter (pushPage tolerance c (page
         (lists (now (points .entry)) starts (now (sides .entry)) (now (fractions .entry)) (now (samples .entry)))
         pen))) ⌝ }
 {
     let count = pen.count;
     if pen.start < count {
-        if grid::point_at(points, count - 1).all_close(c.crossing.point) {
+        if grid::point_at(points, count - 1).all_close(c.crossing.point, tolerance) {
             return Penned::Down(pen);
         }
     }

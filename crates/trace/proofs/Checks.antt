@@ -16,6 +16,8 @@ use Rattle.refusal.specs.declared.Check.the-variants.{Passed, Failed}
 use Rattle.refusal.specs.declared.Refusal.{Refusal}
 use Rattle.refusal.specs.declared.Refusal.the-variants.{Length, Mark, Sample}
 use Rattle.refusal.specs.Refusals.{unless, andThen}
+use Rattle.tolerance.specs.declared.Tolerances.{Tolerances}
+use Rattle.tolerance.specs.Tolerance.{tolerancesCheck}
 use Rattle.grid.specs.Grid.{gridCheck}
 use Rattle.refusal.proofs.Laws.{unless-passed, then-passed}
 use Rattle.grid.proofs.Laws.{Shaped, grid-passed}
@@ -103,59 +105,63 @@ module _ (pairs : List Float) (marks : List ℕ) where
       Passed ≡ checkLengths pairs marks
   lengths-fit short twice = rw (eq-eqb (length pairs) (2 * length marks) twice, le-leb (length marks) 65537 short)
 
-  -- lengths that fit, by the grid's tests with theirs between
-  passed-lengths : (g : List Float) (m n : ℕ) →
-      gridCheck g m n (checkLengths pairs marks) ≡ Passed →
+  -- lengths that fit, by the grid's tests with theirs and those of the tolerances between
+  passed-lengths : (g : List Float) (m n : ℕ) (tolerances : Tolerances) →
+      gridCheck g m n (andThen (checkLengths pairs marks) (tolerancesCheck tolerances)) ≡ Passed →
       (length pairs ≡ 2 * length marks) × (length marks ≤ 65537)
-  passed-lengths g m n h =
-      let own = grid-passed g m n (checkLengths pairs marks) h .own in
+  passed-lengths g m n tolerances h =
+      let between = andThen (checkLengths pairs marks) (tolerancesCheck tolerances) in
+      let own = then-passed (checkLengths pairs marks) (tolerancesCheck tolerances)
+      (grid-passed g m n between h .own) .0 in
       let l =
       and-both (eqb (length pairs) (2 * length marks)) (leb (length marks) 65537)
       (unless-passed (samplesLengthFits pairs marks) Length Passed own .0) in
       (eqb-true (length pairs) (2 * length marks) (l .0), leb-true (length marks) 65537 (l .1))
 
-module _ (g : List Float) (m n : ℕ) (pairs : List Float) (marks : List ℕ) where
-  module _ {lengths c : Check} (el : lengths ≡ checkLengths pairs marks)
-      (ec : c ≡ gridCheck g m n lengths) where
-    check-is : traceCheck g m n pairs marks
+module _ (g : List Float) (m n : ℕ) (tolerances : Tolerances) (pairs : List Float) (marks : List ℕ) where
+  -- what it tests after 2 of the grid and before 4
+  abbrev own : Check
+  own = andThen (checkLengths pairs marks) (tolerancesCheck tolerances)
+
+  module _ {said c : Check} (el : said ≡ own) (ec : c ≡ gridCheck g m n said) where
+    check-is : traceCheck g m n tolerances pairs marks
         ≡ andThen c (unless (marksFit marks) Mark (unless (pairsFit pairs marks) Sample Passed))
     unfolding traceCheck
     check-is = rw (← el, ← ec)
 
-    pub grid-refused : {k : Refusal} → c ≡ Failed k → Failed k ≡ traceCheck g m n pairs marks
+    pub grid-refused : {k : Refusal} → c ≡ Failed k → Failed k ≡ traceCheck g m n tolerances pairs marks
     grid-refused e = rw (check-is, e)
 
     module _ (e : c ≡ Passed) where
       -- what the test of the pairs asks for
       pub pairs-twice : length pairs ≡ 2 * length marks
-      pairs-twice = passed-lengths pairs marks g m n (rw (← el, ← ec) e) .0
+      pairs-twice = passed-lengths pairs marks g m n tolerances (rw (← el, ← ec) e) .0
 
-      pub mark-refused : marksFit marks ≡ false → Failed Mark ≡ traceCheck g m n pairs marks
+      pub mark-refused : marksFit marks ≡ false → Failed Mark ≡ traceCheck g m n tolerances pairs marks
       mark-refused k = rw (check-is, e, k)
 
       pub sample-refused : marksFit marks ≡ true → pairsFit pairs marks ≡ false →
-          Failed Sample ≡ traceCheck g m n pairs marks
+          Failed Sample ≡ traceCheck g m n tolerances pairs marks
       sample-refused k p = rw (check-is, e, k, p)
 
-      pub check-passes : marksFit marks ≡ true → pairsFit pairs marks ≡ true → Passed ≡ traceCheck g m n pairs marks
+      pub check-passes : marksFit marks ≡ true → pairsFit pairs marks ≡ true → Passed ≡ traceCheck g m n tolerances pairs marks
       check-passes k p = rw (check-is, e, k, p)
 
   -- what a trace that passes is known by
-  pub checked : traceCheck g m n pairs marks ≡ Passed →
+  pub checked : traceCheck g m n tolerances pairs marks ≡ Passed →
       Shaped g m n × (length pairs ≡ 2 * length marks) × (length marks ≤ 65537)
   unfolding traceCheck
   checked h =
-      let lengths = checkLengths pairs marks in
       let p =
-      then-passed (gridCheck g m n lengths)
+      then-passed (gridCheck g m n own)
       (unless (marksFit marks) Mark (unless (pairsFit pairs marks) Sample Passed)) h .0 in
-      let l = passed-lengths pairs marks g m n p in
-      (grid-passed g m n lengths p .shaped, l .0, l .1)
+      let l = passed-lengths pairs marks g m n tolerances p in
+      (grid-passed g m n own p .shaped, l .0, l .1)
 
   -- its marks are 0 or 1, so one that is not 0 is 1
-  pub mark-one : traceCheck g m n pairs marks ≡ Passed → (i : ℕ) → (getD marks i 0 ≡ 0 → ⊥) → getD marks i 0 ≡ 1
+  pub mark-one : traceCheck g m n tolerances pairs marks ≡ Passed → (i : ℕ) → (getD marks i 0 ≡ 0 → ⊥) → getD marks i 0 ≡ 1
   unfolding traceCheck
   mark-one h =
       let rest = unless (pairsFit pairs marks) Sample Passed in
-      let p = then-passed (gridCheck g m n (checkLengths pairs marks)) (unless (marksFit marks) Mark rest) h .1 in
+      let p = then-passed (gridCheck g m n own) (unless (marksFit marks) Mark rest) h .1 in
       fit-one marks (unless-passed (marksFit marks) Mark rest p .0)

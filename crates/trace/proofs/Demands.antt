@@ -7,11 +7,13 @@ use Prim.Native.Nat.{ℕ, _+_, _*_, _≤_, _<_}
 use native.Mathlib.Omega.{arith}
 use lib.Ieee.{Float}
 use Rattle.basics.proofs.Lists.{each-implies}
-use Rattle.float.specs.Consts.{eps}
+use Rattle.tolerance.specs.declared.Tolerances.{Tolerances}
 use Rattle.grid.specs.Grid.{pointNumber, pointAt}
 use Rattle.grid.proofs.Laws.{accepted-known, point-below}
 use Rattle.surface.specs.Surface.{Shape, GridEdge, along-u, along-v, falls, rises, StepsAround, Meets}
-use Rattle.surface.specs.Found.{surfaceOf}
+use Rattle.cyclic.specs.declared.seam.Seam.{Seam}
+use Rattle.cyclic.specs.declared.seam.Seam.the-variants.{Unjoined}
+use Rattle.surface.specs.Found.{uSearch, vSearch, surfaceWith}
 use Rattle.surface.proofs.Demand as surface
 use Rattle.surface.proofs.Joinings.{surface-meets}
 use Rattle.param.specs.declared.Leg.{Leg}
@@ -34,7 +36,7 @@ use Rattle.walk.proofs.Pushed.{GoodEdge, GoodEvents}
 use Rattle.trace.specs.declared.curve.Previous.the-variants.{Nowhere}
 use Rattle.trace.specs.Curve.{samplesOf}
 use Rattle.trace.specs.Drawing.{roomIn}
-use Rattle.trace.specs.Trace.{drawingOf, traceWithin}
+use Rattle.trace.specs.Trace.{drawingOf, traceFlat}
 use Rattle.trace.specs.Demand.{EachPoint, Made, OnSide, Demand3}
 use Rattle.trace.proofs.Pushed.{trace-good}
 use Rattle.trace.proofs.Drawn.{GoodDrawing, drawn-good}
@@ -44,19 +46,19 @@ no-point : {c : Crossing} → NoStep ≡ On c → ⊥
 no-point e = let z : _≡_ {A = ℕ} 0 1 = cc in omega arith
 
 -- made from the two ends of a grid edge by the fraction t
-pub record FromEdge (g : List Float) (m n : ℕ) (c : Crossing) : Type 0 where
-  pub edge : surface.EdgeNumbers (surfaceOf g m n) (c .p) (c .q)
+pub record FromEdge (g : List Float) (s : Shape) (c : Crossing) : Type 0 where
+  pub edge : surface.EdgeNumbers s (c .p) (c .q)
   pub blended : c .point ≡ blend (pointAt g (c .p)) (pointAt g (c .q)) (c .t)
 
--- ---- each event's side is a grid edge
+-- ---- each event's side is a grid edge, whatever the seams
 
-module _ (g : List Float) (m n : ℕ) (hm : m ≤ 255) (hn : n ≤ 255) where
+module _ (g : List Float) (m n : ℕ) (hm : m ≤ 255) (hn : n ≤ 255) (su sv : Seam) where
   abbrev s : Shape
-  s = surfaceOf g m n
+  s = surfaceWith m n su sv
 
   -- a crossing of the two ends of a grid edge
   made : {u v u′ v′ : ℕ} {t : Float} {c : Crossing} → GridEdge s u v u′ v′ →
-      On (crossing g (pointNumber n u v) (pointNumber n u′ v′) t) ≡ On c → FromEdge g m n c
+      On (crossing g (pointNumber n u v) (pointNumber n u′ v′) t) ≡ On c → FromEdge g s c
   made {u} {v} {u′} {v′} {t} {c} edge e =
       let same : crossing g (pointNumber n u v) (pointNumber n u′ v′) t ≡ c = cc in
       record {
@@ -64,31 +66,31 @@ module _ (g : List Float) (m n : ℕ) (hm : m ≤ 255) (hn : n ≤ 255) where
         blended = rw (← same);
       }
 
-  on-u : (u : ℕ) (x : Float) (c : Crossing) → u ≤ m → onU g n u (stepIndex x n) ≡ On c → FromEdge g m n c
+  on-u : (u : ℕ) (x : Float) (c : Crossing) → u ≤ m → onU g n u (stepIndex x n) ≡ On c → FromEdge g s c
   on-u u x c h e = go (stepIndex x n) refl e
     where
-      go : (i : StepIndex) → stepIndex x n ≡ i → onU g n u i ≡ On c → FromEdge g m n c
+      go : (i : StepIndex) → stepIndex x n ≡ i → onU g n u i ≡ On c → FromEdge g s c
       go (At v t) q r = made (along-v h (cell-inside x n hn refl q)) r
       go Nothing q r = absurd (no-point r)
 
-  on-v : (v : ℕ) (x : Float) (c : Crossing) → v ≤ n → onV g n v (stepIndex x m) ≡ On c → FromEdge g m n c
+  on-v : (v : ℕ) (x : Float) (c : Crossing) → v ≤ n → onV g n v (stepIndex x m) ≡ On c → FromEdge g s c
   on-v v x c h e = go (stepIndex x m) refl e
     where
-      go : (i : StepIndex) → stepIndex x m ≡ i → onV g n v i ≡ On c → FromEdge g m n c
+      go : (i : StepIndex) → stepIndex x m ≡ i → onV g n v i ≡ On c → FromEdge g s c
       go (At u t) q r = made (along-u (cell-inside x m hm refl q) h) r
       go Nothing q r = absurd (no-point r)
 
   -- the sides that `edge_point` takes are grid edges
-  good-edge : (e : ParamEdge) → Inside (cells m n) e → GoodEdge g (cells m n) (FromEdge g m n) e
+  good-edge : (e : ParamEdge) → Inside (cells m n) e → GoodEdge g (cells m n) (FromEdge g s) e
   unfolding edgePoint
   good-edge (U u) h x c q = on-u u (x .v) c h q
   good-edge («V» v) h x c q = on-v v (x .u) c h q
   good-edge (Diagonal u v) h x c q = made (falls (h .0) (h .1) refl) q
 
   -- each event of a leg falls on a side inside the grid
-  good-events : (l : Leg) → GoodEvents g (cells m n) (FromEdge g m n) (sortedEdgeEvents (cells m n) l)
+  good-events : (l : Leg) → GoodEvents g (cells m n) (FromEdge g s) (sortedEdgeEvents (cells m n) l)
   good-events l =
-      each-implies (OnGrid (cells m n)) (λ (e : EdgeEvent). GoodEdge g (cells m n) (FromEdge g m n) (e .edge))
+      each-implies (OnGrid (cells m n)) (λ (e : EdgeEvent). GoodEdge g (cells m n) (FromEdge g s) (e .edge))
       (λ e. good-edge (e .edge)) (sortedEdgeEvents (cells m n) l)
       (leg-inside (cells m n) l hm hn refl)
 
@@ -96,24 +98,24 @@ module _ (g : List Float) (m n : ℕ) (hm : m ≤ 255) (hn : n ≤ 255) where
 
   -- of a point
   abbrev PointFromEdge : TracedPoint → Type 0
-  PointFromEdge c = FromEdge g m n (c .crossing)
+  PointFromEdge c = FromEdge g s (c .crossing)
 
   -- every point that a trace draws was made from the ends of a grid edge
-  from-edges : (tolerance : Float) (pairs : List Float) (marks : List ℕ) (l : Lists) →
+  from-edges : (tolerances : Tolerances) (pairs : List Float) (marks : List ℕ) (l : Lists) →
       Holding (GoodDrawing PointFromEdge)
-      (drawingOf tolerance g m n pairs marks (roomIn l))
-  from-edges tolerance pairs marks l =
-      drawn-good PointFromEdge tolerance (roomIn l)
-      (trace-good g (cells m n) (FromEdge g m n) good-events 0 (samplesOf marks pairs) Nowhere)
+      (drawingOf (tolerances .line) g m n pairs marks (roomIn l))
+  from-edges tolerances pairs marks l =
+      drawn-good PointFromEdge (tolerances .line) (roomIn l)
+      (trace-good g (cells m n) (FromEdge g s) good-events 0 (samplesOf marks pairs) Nowhere)
 
   -- so what follows of such a point holds of each point of the lists
   from-edge : (P : Lists → ℕ → Type 0) →
       ((c : TracedPoint) → PointFromEdge c → (l : Lists) (i : ℕ) → Stands l i c → P l i) →
-      (tolerance : Float) (pairs : List Float) (marks : List ℕ) (l : Lists) →
-      EachPoint P (traceWithin tolerance g m n pairs marks l)
-  from-edge P of-point tolerance pairs marks l =
-      each-point PointFromEdge P of-point tolerance g m n pairs marks l
-      (λ e. from-edges tolerance pairs marks l)
+      (tolerances : Tolerances) (pairs : List Float) (marks : List ℕ) (l : Lists) →
+      EachPoint P (traceFlat g m n tolerances pairs marks l)
+  from-edge P of-point tolerances pairs marks l =
+      each-point PointFromEdge P of-point g m n tolerances pairs marks l
+      (λ e. from-edges tolerances pairs marks l)
 
   -- the ends of a grid edge are grid points
   end-below : {u v u′ v′ : ℕ} → GridEdge s u v u′ v′ →
@@ -125,8 +127,8 @@ module _ (g : List Float) (m n : ℕ) (hm : m ≤ 255) (hn : n ≤ 255) where
   end-below (rises {u} {v} h k e) =
       (point-below m n u v (omega arith) (omega arith), point-below m n (u + 1) (v + 1) (omega arith) (omega arith))
 
-  pub points-made : (tolerance : Float) (pairs : List Float) (marks : List ℕ) (l : Lists) →
-      EachPoint (Made g m n) (traceWithin tolerance g m n pairs marks l)
+  pub points-made : (tolerances : Tolerances) (pairs : List Float) (marks : List ℕ) (l : Lists) →
+      EachPoint (Made g m n) (traceFlat g m n tolerances pairs marks l)
   points-made =
       from-edge (Made g m n)
       (λ c from l i s.
@@ -138,8 +140,8 @@ module _ (g : List Float) (m n : ℕ) (hm : m ≤ 255) (hn : n ≤ 255) where
         blended = rw (s .point-is, s .p-is, s .q-is, s .t-is) (from .blended);
       })
 
-  pub points-on-sides : Meets s → StepsAround 2 s → (tolerance : Float) (pairs : List Float) (marks : List ℕ)
-      (l : Lists) → EachPoint (OnSide s) (traceWithin tolerance g m n pairs marks l)
+  pub points-on-sides : Meets s → StepsAround 2 s → (tolerances : Tolerances) (pairs : List Float) (marks : List ℕ)
+      (l : Lists) → EachPoint (OnSide s) (traceFlat g m n tolerances pairs marks l)
   points-on-sides meets around =
       from-edge (OnSide s)
       (λ c from l i at. rw (at .p-is, at .q-is)
@@ -150,12 +152,14 @@ pub demand3 : (g : List Float) (m n : ℕ) → Demand3 g m n
 demand3 g m n accepted =
     let steps = accepted-known g m n accepted .steps in
     record {
-      made = points-made g m n (steps .m-most) (steps .n-most) eps;
+      made = points-made g m n (steps .m-most) (steps .n-most) Unjoined Unjoined;
       covered =
-          λ covered.
-          let meets = surface-meets g m n accepted covered in
+          λ t covered.
+          let meets = surface-meets g m n accepted t covered in
           record {
             surface = meets;
-            points = λ around. points-on-sides g m n (steps .m-most) (steps .n-most) meets around eps;
+            points =
+                λ around. points-on-sides g m n (steps .m-most) (steps .n-most) (uSearch g m n (t .u) .seam)
+                (vSearch g m n (t .v) .seam) meets around;
           };
     }

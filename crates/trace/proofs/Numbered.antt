@@ -10,7 +10,7 @@ use lib.Dec.{eqb}
 use lib.ListN.{length, getD}
 use lib.Ieee.{Float}
 use borrow.Author.Tests.{eqb-false}
-use Rattle.float.specs.Consts.{eps}
+use Rattle.tolerance.specs.declared.Tolerances.{Tolerances}
 use Rattle.refusal.specs.declared.Check.{Check}
 use Rattle.refusal.specs.declared.Check.the-variants.{Passed, Failed}
 use Rattle.lent.specs.Lent.{ifPassed}
@@ -28,7 +28,7 @@ use Rattle.trace.specs.declared.curve.Previous.the-variants.{At, Nowhere
 use Rattle.trace.specs.declared.curve.Visit.the-variants.{Break}
 use Rattle.trace.specs.Curve.{Sample, sample, samplesOf, afterSample, legFrom, visitOf, visitMoves, traceMoves}
 use Rattle.trace.specs.Drawing.{Drawing, nothingDrawn, Room, roomIn, pushSegmentPoint, flushSegment, draw}
-use Rattle.trace.specs.Trace.{traceCheck, drawingOf, finished, traceWithin}
+use Rattle.trace.specs.Trace.{traceCheck, drawingOf, finished, traceFlat}
 use Rattle.trace.specs.Demand.{EachPoint}
 use Rattle.trace.specs.Numbers.{sampleNumber, EndsLeg, NeverFall, NumbersMet}
 use Rattle.trace.proofs.Checks.{mark-one}
@@ -176,29 +176,30 @@ finished-never-falls l hi (on d) h i j p q =
     rw (stands cs (d .starts) l i (omega arith) .sample-is, stands cs (d .starts) l j q .sample-is)
     (rising-at 0 hi cs i j (rising-front 0 hi cs (d .segment) h) p q)
 
-module _ (tolerance : Float) (g : List Float) (m n : ℕ) (pairs : List Float) (marks : List ℕ) (l : Lists) where
-  numbers-never-fall : NeverFall (traceWithin tolerance g m n pairs marks l)
-  unfolding traceWithin
-  numbers-never-fall = go (traceCheck g m n pairs marks)
+module _ (g : List Float) (m n : ℕ) (tolerances : Tolerances) (pairs : List Float) (marks : List ℕ) (l : Lists) where
+  numbers-never-fall : NeverFall (traceFlat g m n tolerances pairs marks l)
+  unfolding traceFlat
+  numbers-never-fall = go (traceCheck g m n tolerances pairs marks)
     where
-      go : (c : Check) → NeverFall (ifPassed c l (finished (drawingOf tolerance g m n pairs marks (roomIn l)) l))
+      go : (c : Check) → NeverFall (ifPassed c l (finished (drawingOf (tolerances .line) g m n pairs marks (roomIn l)) l))
       go (Failed c) = λ i j p q. absurd (omega arith)
       go Passed =
-          finished-never-falls l (0 + length (samplesOf marks pairs)) (drawingOf tolerance g m n pairs marks (roomIn l))
-          (trace-rises tolerance (roomIn l) g (cells m n) 0 (samplesOf marks pairs) Nowhere nothingDrawn (omega arith))
+          finished-never-falls l (0 + length (samplesOf marks pairs))
+          (drawingOf (tolerances .line) g m n pairs marks (roomIn l))
+          (trace-rises (tolerances .line) (roomIn l) g (cells m n) 0 (samplesOf marks pairs) Nowhere nothingDrawn (omega arith))
 
   numbers-end : EachPoint (λ (l : Lists) (i : ℕ). EndsLeg marks (sampleNumber l i))
-      (traceWithin tolerance g m n pairs marks l)
+      (traceFlat g m n tolerances pairs marks l)
   numbers-end =
       each-point (AtLegEnd marks) (λ (l : Lists) (i : ℕ). EndsLeg marks (sampleNumber l i))
-      (λ c ends l i s. rw (s .sample-is) ends) tolerance g m n pairs marks l
-      (λ e. drawn-good (AtLegEnd marks) tolerance (roomIn l)
-      (ends-legs g (cells m n) marks (mark-one g m n pairs marks e) 0 marks pairs Nowhere tt
+      (λ c ends l i s. rw (s .sample-is) ends) g m n tolerances pairs marks l
+      (λ e. drawn-good (AtLegEnd marks) (tolerances .line) (roomIn l)
+      (ends-legs g (cells m n) marks (mark-one g m n tolerances pairs marks e) 0 marks pairs Nowhere tt
       (λ j. simp zero-add) (omega arith)))
 
 pub numbers-met : (g : List Float) (m n : ℕ) → NumbersMet g m n
-numbers-met g m n pairs marks l =
+numbers-met g m n tolerances pairs marks l =
     record {
-      each-ends-leg = numbers-end eps g m n pairs marks l;
-      never-fall = numbers-never-fall eps g m n pairs marks l;
+      each-ends-leg = numbers-end g m n tolerances pairs marks l;
+      never-fall = numbers-never-fall g m n tolerances pairs marks l;
     }

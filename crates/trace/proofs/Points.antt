@@ -11,6 +11,7 @@ use Rattle.basics.proofs.Lists.{each-at}
 use Rattle.float.specs.Consts.{zero64}
 use Rattle.refusal.specs.declared.Check.{Check}
 use Rattle.refusal.specs.declared.Check.the-variants.{Passed, Failed}
+use Rattle.tolerance.specs.declared.Tolerances.{Tolerances}
 use Rattle.lent.specs.Lent.{ifPassed}
 use Rattle.vector.specs.Vectors.{vector}
 use Rattle.grid.specs.Grid.{pointAt}
@@ -20,7 +21,7 @@ use Rattle.page.specs.Page.{Lists, tracedBy}
 use Rattle.page.proofs.Moves.{Holding}
 use Rattle.trace.specs.Drawing.{Drawing, roomIn}
 use Rattle.trace.specs.Trace.{pointOf, sideOf, fractionOf, sampleNumberOf, listsWith, drawingOf, finished, traceCheck}
-use Rattle.trace.specs.Trace.{traceWithin}
+use Rattle.trace.specs.Trace.{traceFlat}
 use Rattle.trace.specs.Demand.{EachPoint, pOf, qOf, tOf}
 use Rattle.trace.specs.Numbers.{sampleNumber}
 use Rattle.trace.proofs.Turns.{filled-at}
@@ -60,7 +61,7 @@ stands cs ss l i h =
 -- not refused before the walk draws only good points
 module _ (Good : TracedPoint → Type 0) (P : Lists → ℕ → Type 0)
     (of-point : (c : TracedPoint) → Good c → (l : Lists) (i : ℕ) → Stands l i c → P l i)
-    (tolerance : Float) (g : List Float) (m n : ℕ) (pairs : List Float) (marks : List ℕ) (l : Lists)
+    (g : List Float) (m n : ℕ) (tolerances : Tolerances) (pairs : List Float) (marks : List ℕ) (l : Lists)
   where
     finished-each : (y : Outcome Drawing) → Holding (GoodDrawing Good) y → EachPoint P (finished y l)
     finished-each (off k d) good i h = absurd (omega arith)
@@ -69,13 +70,13 @@ module _ (Good : TracedPoint → Type 0) (P : Lists → ℕ → Type 0)
         (finished (on d) l .lists) i (stands (d .drawn) (d .starts) l i h)
 
     abbrev drawn : Outcome Drawing
-    drawn = drawingOf tolerance g m n pairs marks (roomIn l)
+    drawn = drawingOf (tolerances .line) g m n pairs marks (roomIn l)
 
-    pub each-point : (traceCheck g m n pairs marks ≡ Passed → Holding (GoodDrawing Good) drawn) →
-        EachPoint P (traceWithin tolerance g m n pairs marks l)
-    unfolding traceWithin
-    each-point good = go (traceCheck g m n pairs marks) refl
+    pub each-point : (traceCheck g m n tolerances pairs marks ≡ Passed → Holding (GoodDrawing Good) drawn) →
+        EachPoint P (traceFlat g m n tolerances pairs marks l)
+    unfolding traceFlat
+    each-point good = go (traceCheck g m n tolerances pairs marks) refl
       where
-        go : (k : Check) → traceCheck g m n pairs marks ≡ k → EachPoint P (ifPassed k l (finished drawn l))
+        go : (k : Check) → traceCheck g m n tolerances pairs marks ≡ k → EachPoint P (ifPassed k l (finished drawn l))
         go (Failed k) e = λ i h. absurd (omega arith)
         go Passed e = finished-each drawn (good e)

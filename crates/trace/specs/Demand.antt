@@ -1,4 +1,4 @@
--- Rules 5.5 and 5.4: demand 3, whole, of every accepted grid and all samples. Its triangles, flipped pairs and traced
+-- Rules 5.5 and 5.4: demand 3, whole, of every accepted grid, all tolerances and all samples. Its triangles, flipped pairs and traced
 -- points are those that the contracts of `triangulate_grid` and `trace_flat` cite.
 use mathlib.Core.Path.{_≡_}
 use mathlib.Core.List.{List}
@@ -6,6 +6,7 @@ use Prim.Native.Nat.{ℕ, _+_, _*_, _<_}
 use lib.ListN.{getD}
 use lib.Ieee.{Float, nan}
 use Rattle.refusal.specs.Refusals.{Answer, ok, refused}
+use Rattle.tolerance.specs.declared.Tolerances.{Tolerances}
 use Rattle.lent.specs.Lent.{Afterwards, Counts}
 use Rattle.grid.specs.Grid.{pointAt, Accepted}
 use Rattle.crossing.specs.Crossing.{blend}
@@ -47,18 +48,21 @@ EndsOfSide s a b = (i : ℕ) × Owns (triangles s) a b i
 abbrev pub OnSide : Shape → Lists → ℕ → Type 0
 OnSide s l i = EndsOfSide s (Jₙ s (pOf l i)) (Jₙ s (qOf l i))
 
--- of a covered joining: its sides and flipped pairs (Rules 5.4), and the points of every trace across it, whatever the
--- samples and the lists lent; where a seam joins, 2 steps around are needed, for with 1 J can take p and q to one point
-pub record DemandMet (g : List Float) (m n : ℕ) : Type 0 where
-  pub surface : Meets (surfaceOf g m n)
-  pub points : StepsAround 2 (surfaceOf g m n) → (pairs : List Float) (marks : List ℕ) (l : Lists) →
-      EachPoint (OnSide (surfaceOf g m n)) (traceFlat g m n pairs marks l)
+-- of a covered joining that is found at tolerances t: its sides and flipped pairs (Rules 5.4), and the points of every
+-- trace across it, whatever its own tolerances, the samples and the lists lent; where a seam joins, 2 steps around are
+-- needed, for with 1 J can take p and q to one point
+pub record DemandMet (g : List Float) (m n : ℕ) (t : Tolerances) : Type 0 where
+  pub surface : Meets (surfaceOf g m n t)
+  pub points : StepsAround 2 (surfaceOf g m n t) →
+      (tolerances : Tolerances) (pairs : List Float) (marks : List ℕ) (l : Lists) →
+      EachPoint (OnSide (surfaceOf g m n t)) (traceFlat g m n tolerances pairs marks l)
 
--- of an accepted grid: the points of every trace were made from their p and q; and the above, if the seams found are a
--- covered joining
+-- of an accepted grid: the points of every trace were made from their p and q; and the above, if the seams found at
+-- whatever tolerances are a covered joining
 pub record GridMet (g : List Float) (m n : ℕ) : Type 0 where
-  pub made : (pairs : List Float) (marks : List ℕ) (l : Lists) → EachPoint (Made g m n) (traceFlat g m n pairs marks l)
-  pub covered : CoveredGrid g m n → DemandMet g m n
+  pub made : (tolerances : Tolerances) (pairs : List Float) (marks : List ℕ) (l : Lists) →
+      EachPoint (Made g m n) (traceFlat g m n tolerances pairs marks l)
+  pub covered : (t : Tolerances) → CoveredGrid g m n t → DemandMet g m n t
 
 -- demand 3
 abbrev pub Demand3 : List Float → ℕ → ℕ → Type 0

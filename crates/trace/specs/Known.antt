@@ -10,7 +10,8 @@ use Rattle.cyclic.specs.declared.seam.Seam.the-variants.{Joined, Unjoined}
 use Rattle.cyclic.specs.Mapping.{mapIndex, mapIndexInv}
 use Rattle.cyclic.specs.Search.{searched, newVector}
 use Rattle.cyclic.specs.Table as seams
-use Rattle.cyclic.specs.Table.{along, two64, three64}
+use Rattle.cyclic.specs.Table.{along, two64, three64, quarter64, above-quarter, two-fifths, ahead-row, turned-row}
+use Rattle.cyclic.specs.Table.{nearly-closed, nearly-closed-further}
 use Rattle.surface.specs.Surface.{tri, triangles, pair, flipped}
 use Rattle.surface.specs.Found.{surfaceWith}
 use Rattle.surface.specs.Table as surfaces
@@ -22,10 +23,10 @@ use Rattle.edges.specs.Table.{quarter, three-quarters, minus-half, minus-zero}
 use Rattle.crossing.specs.declared.StepIndex.the-variants.{At, Nothing}
 use Rattle.crossing.specs.Crossing.{stepIndex}
 use Rattle.crossing.specs.Table as crossing
-use Rattle.lent.specs.Lent.{Afterwards, Counts}
+use Rattle.lent.specs.Lent.{Afterwards, Counts, counts}
 use Rattle.page.specs.Page.{Lists}
 use Rattle.trace.specs.Table as traces
-use Rattle.trace.specs.Table.{traced, numbered}
+use Rattle.trace.specs.Table.{traced, numbered, coarse}
 
 -- Rules 7.2, `step_index`: 4 of 4 steps is in cell 3 by 1, −EPS of 4 steps in cell 0 by 0; without steps no answer
 pub step-index : (stepIndex (ofBits binary64 0x4010000000000000) 4 ≡ At 3 one64)
@@ -55,6 +56,16 @@ rows-shifted = seams.shifted
 pub rows-apart : newVector (along (zero64 ∷ one64 ∷ two64 ∷ [])) (along (one64 ∷ two64 ∷ three64 ∷ [])) eps
     ≡ ok (searched Unjoined 3)
 rows-apart = seams.apart
+
+-- Rules 2.3, at other tolerances than EPS: 0 1 2 3 and 3.25 2.25 1.25 0.25 join in reverse at the f64 after 0.25, and
+-- not at 0.25; 0 1 2 0.4 and 1 2 0 1.4 are closed and shifted by 2 of 3 steps at 0.5, and do not join at 0.4
+pub rows-at-tolerances :
+    (newVector ahead-row turned-row quarter64 ≡ ok (searched Unjoined 3))
+    × (newVector ahead-row turned-row above-quarter ≡ ok (searched (Joined (Reverse 0 3)) 6))
+    × (newVector nearly-closed nearly-closed-further half64 ≡ ok (searched (Joined (Forward 2 3)) 10))
+    × (newVector nearly-closed nearly-closed-further two-fifths ≡ ok (searched Unjoined 3))
+rows-at-tolerances =
+    (seams.apart-at-quarter, seams.turned-above-quarter, seams.shifted-at-half, seams.open-at-two-fifths)
 
 -- Rules 4.3: the two triangles of one cell without seams
 pub no-seam : triangles (surfaceWith 1 1 Unjoined Unjoined) ≡ tri 0 2 1 ∷ tri 2 3 1 ∷ []
@@ -86,6 +97,11 @@ pub sample-numbers :
     × (numbered (zero64 ∷ quarter ∷ three-quarters ∷ quarter ∷ zero64 ∷ zero64 ∷ zero64 ∷ three-quarters ∷ one64
     ∷ three-quarters ∷ []) (1 ∷ 1 ∷ 0 ∷ 1 ∷ 1 ∷ []) 5 .lists .samples ≡ 1 ∷ 1 ∷ 4 ∷ 4 ∷ 4 ∷ [])
 sample-numbers = (traces.two-legs, traces.break-counted)
+
+-- Rules 2.3 and 7.3: the same three samples at tolerances of lines: all three points at 0.25, two at 0.5. `coarse`
+-- traces them across a unit square
+pub line-tolerances : (coarse quarter .answer ≡ ok (counts 3 1)) × (coarse half64 .answer ≡ ok (counts 2 1))
+line-tolerances = (traces.three-points, traces.two-points)
 
 -- Rules 6: in one cell, the only event from (0, 0) to (0.5, −0.5): U(0) at 0 comes after it, too near, and is dropped
 pub minus-zero-first : sortedEdgeEvents (cells 1 1) (leg (param zero64 zero64) (param half64 minus-half))

@@ -1,11 +1,12 @@
--- Rules 7.5: what holds of the numbers that a trace leaves beside its points, whatever the grid, the samples and the
--- lists lent.
+-- Rules 7.5: what holds of the numbers that a trace leaves beside its points, whatever the grid, the tolerances, the
+-- samples and the lists lent.
 use mathlib.Core.Path.{_≡_}
 use mathlib.Core.List.{List}
 use Prim.Native.Nat.{ℕ, _-_, _≤_, _<_}
 use lib.ListN.{length, getD}
 use lib.Ieee.{Float}
 use Rattle.refusal.specs.Refusals.{Answer}
+use Rattle.tolerance.specs.declared.Tolerances.{Tolerances}
 use Rattle.lent.specs.Lent.{Afterwards, Counts}
 use Rattle.page.specs.Page.{Lists}
 use Rattle.trace.specs.Trace.{traceFlat}
@@ -32,7 +33,8 @@ pub record NumbersHold (marks : List ℕ) (t : Afterwards (Answer Counts) Lists)
   pub each-ends-leg : EachPoint (λ l i. EndsLeg marks (sampleNumber l i)) t
   pub never-fall : NeverFall t
 
--- of every trace across a grid
+-- of every trace across a grid, at all tolerances
 abbrev pub NumbersMet : List Float → ℕ → ℕ → Type 0
 NumbersMet g m n =
-    (pairs : List Float) (marks : List ℕ) (l : Lists) → NumbersHold marks (traceFlat g m n pairs marks l)
+    (tolerances : Tolerances) (pairs : List Float) (marks : List ℕ) (l : Lists) →
+    NumbersHold marks (traceFlat g m n tolerances pairs marks l)

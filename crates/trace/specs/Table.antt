@@ -4,10 +4,12 @@ use mathlib.Core.Bool.{Bool, true}
 use mathlib.Core.List.{List, [], _∷_}
 use Prim.Native.Nat.{ℕ, _*_}
 use lib.ListN.{replicate}
-use lib.Ieee.{Float, binary64, ofBits, add}
+use lib.Ieee.{Float, nan, binary64, ofBits, add}
 use Rattle.refusal.specs.Refusals.{Answer, ok, refused}
-use Rattle.float.specs.Consts.{eps, zero64, one64}
+use Rattle.float.specs.Consts.{eps, zero64, one64, half64}
+use Rattle.float.specs.Sign.{isFinite}
 use Rattle.float.specs.Order.{larger}
+use Rattle.tolerance.specs.Tolerance.{tolerances, everyEps}
 use Rattle.vector.specs.Vectors.{allClose}
 use Rattle.grid.specs.Grid.{coordinatesFit, gridCheck}
 use Rattle.edges.specs.Table.{quarter, three-quarters}
@@ -18,17 +20,17 @@ use Rattle.page.specs.Page.{Lists, lists}
 use Rattle.walk.specs.Walk.{beforeInside, afterInside, decide, eventsMoves, legMoves}
 use Rattle.trace.specs.Curve.{samplesOf, traceMoves}
 use Rattle.trace.specs.Drawing.{pushSegmentPoint, flushSegment}
-use Rattle.trace.specs.Trace.{marksFit, pairsFit, traceCheck, inTurn, traceWithin, traceFlat}
+use Rattle.trace.specs.Trace.{marksFit, pairsFit, traceCheck, inTurn, traceFlat}
 
 -- `unfolding computed` opens every definition that a closed result needs
 unfoldable pub computed : Bool
 unfolding
     crossing.computed larger allClose coordinatesFit gridCheck samplesOf beforeInside afterInside decide eventsMoves
-    legMoves traceMoves run pushSegmentPoint flushSegment marksFit pairsFit traceCheck inTurn traceWithin
+    legMoves traceMoves run pushSegmentPoint flushSegment marksFit pairsFit traceCheck inTurn traceFlat isFinite
 computed = true
 
 -- a unit square as a grid of M = N = 1; lists with room for some points and lines, with no zero in them; and the trace
--- of two samples in lists with room for two points and one line
+-- of two samples, at EPS, in lists with room for two points and one line
 abbrev square : List Float
 square = zero64 ∷ zero64 ∷ zero64 ∷ zero64 ∷ one64 ∷ zero64 ∷ one64 ∷ zero64 ∷ zero64 ∷ one64 ∷ one64 ∷ zero64 ∷ []
 
@@ -38,7 +40,7 @@ room points lines =
     (replicate points 7)
 
 abbrev pub traced : Float → Float → Float → Float → Afterwards (Answer Counts) Lists
-traced u v u′ v′ = traceFlat square 1 1 (u ∷ v ∷ u′ ∷ v′ ∷ []) (1 ∷ 1 ∷ []) (room 2 1)
+traced u v u′ v′ = traceFlat square 1 1 everyEps (u ∷ v ∷ u′ ∷ v′ ∷ []) (1 ∷ 1 ∷ []) (room 2 1)
 
 -- from (0, 0.25) to (0.75, 0.25): one line of two points, the first made from 0 and 1, the second from 2 and 1, both
 -- by 0.25, and both by sample 1
@@ -66,7 +68,7 @@ no-step = refl
 
 -- the trace of samples in lists with room for as many points and two lines
 abbrev pub numbered : List Float → List ℕ → ℕ → Afterwards (Answer Counts) Lists
-numbered pairs marks points = traceFlat square 1 1 pairs marks (room points 2)
+numbered pairs marks points = traceFlat square 1 1 everyEps pairs marks (room points 2)
 
 -- (0, 0.25), (0.75, 0.25) and (1, 0.25): two points by the leg to sample 1, one by that to sample 2
 pub two-legs : numbered (zero64 ∷ quarter ∷ three-quarters ∷ quarter ∷ one64 ∷ quarter ∷ []) (1 ∷ 1 ∷ 1 ∷ []) 3
@@ -89,10 +91,33 @@ unfolding computed
 first-stays = refl
 
 -- the first two samples where all lists but the numbers' have room for both points: refused with 12, all places zero
-no-number : traceFlat square 1 1 (zero64 ∷ quarter ∷ three-quarters ∷ quarter ∷ []) (1 ∷ 1 ∷ [])
+no-number : traceFlat square 1 1 everyEps (zero64 ∷ quarter ∷ three-quarters ∷ quarter ∷ []) (1 ∷ 1 ∷ [])
     (lists (room 2 1 .points) (room 2 1 .starts) (room 2 1 .sides) (room 2 1 .fractions) (7 ∷ []))
     ≡ afterwards (refused 12)
     (lists (zero64 ∷ zero64 ∷ zero64 ∷ zero64 ∷ zero64 ∷ zero64 ∷ []) (0 ∷ []) (0 ∷ 0 ∷ 0 ∷ 0 ∷ [])
     (zero64 ∷ zero64 ∷ []) (0 ∷ []))
 unfolding computed
 no-number = refl
+
+-- ---- Rules 2.3: other tolerances of lines
+
+-- (0, 0.25), (0.75, 0.25) and (1, 0.25), of which the last two make points 0.25 apart
+abbrev pub coarse : Float → Afterwards (Answer Counts) Lists
+coarse line =
+    traceFlat square 1 1 (tolerances one64 one64 line)
+    (zero64 ∷ quarter ∷ three-quarters ∷ quarter ∷ one64 ∷ quarter ∷ []) (1 ∷ 1 ∷ 1 ∷ []) (room 3 1)
+
+-- at 0.25 they are not close, at 0.5 the last is left out
+pub three-points : coarse quarter .answer ≡ ok (counts 3 1)
+unfolding computed
+three-points = refl
+
+pub two-points : coarse half64 .answer ≡ ok (counts 2 1)
+unfolding computed
+two-points = refl
+
+-- 13 for a tolerance that a trace does not use, before 4 for the grid, 9 for the mark and 10; the lists stay
+pub unused-refused : traceFlat (nan ∷ nan ∷ nan ∷ nan ∷ nan ∷ nan ∷ nan ∷ nan ∷ nan ∷ nan ∷ nan ∷ nan ∷ []) 1 1
+    (tolerances one64 zero64 one64) (nan ∷ nan ∷ []) (2 ∷ []) (room 1 1) ≡ afterwards (refused 13) (room 1 1)
+unfolding computed
+unused-refused = refl

@@ -5,12 +5,14 @@ use Prim.Native.Nat.{ℕ, _*_}
 use lib.Dec.{eqb, leb}
 use lib.ListN.{length}
 use lib.Ieee.{Float, binary64, ofBits}
-use Rattle.float.specs.Consts.{eps, zero64}
+use Rattle.float.specs.Consts.{zero64}
 use Rattle.float.specs.Sign.{atMost}
 use Rattle.refusal.specs.declared.Check.{Check}
 use Rattle.refusal.specs.declared.Check.the-variants.{Passed}
 use Rattle.refusal.specs.declared.Refusal.the-variants.{Length, Mark, Sample}
 use Rattle.refusal.specs.Refusals.{Answer, ok, refused, numberOf, unless, andThen}
+use Rattle.tolerance.specs.declared.Tolerances.{Tolerances}
+use Rattle.tolerance.specs.Tolerance.{tolerancesCheck}
 use Rattle.lent.specs.Lent.{filled, Afterwards, afterwards, ifPassed, Counts, counts}
 use Rattle.grid.specs.Grid.{gridCheck}
 use Rattle.param.specs.Param.{cells}
@@ -54,10 +56,10 @@ pairsFit [] (k ∷ ks) = true
 pairsFit (u ∷ []) (k ∷ ks) = true
 pairsFit (u ∷ (v ∷ ps)) (k ∷ ks) = sampleFits k u v && pairsFit ps ks
 
--- refusals 1, 2 (grid, then samples), 4, 9 and 10, in this order
-unfoldable pub traceCheck : List Float → ℕ → ℕ → List Float → List ℕ → Check
-traceCheck g m n pairs marks =
-    andThen (gridCheck g m n (checkLengths pairs marks))
+-- refusals 1, 2 (grid, then samples), 13, 4, 9 and 10, in this order
+unfoldable pub traceCheck : List Float → ℕ → ℕ → Tolerances → List Float → List ℕ → Check
+traceCheck g m n tolerances pairs marks =
+    andThen (gridCheck g m n (andThen (checkLengths pairs marks) (tolerancesCheck tolerances)))
     (unless (marksFit marks) Mark
     (unless (pairsFit pairs marks) Sample Passed))
 
@@ -110,12 +112,10 @@ finished (on d) l =
     afterwards (ok (counts (length (d .drawn)) (length (d .starts)))) (listsWith (d .drawn) (d .starts) l)
 finished (off k d) l = afterwards (refused (numberOf k)) (listsWith [] [] l)
 
--- the trace: refusals 1 to 10 leave the lists as they were
-unfoldable pub traceWithin : Float → List Float → ℕ → ℕ → List Float → List ℕ → Lists →
+-- the open call: refusals before the walk leave the lists as they were; neighbouring points of a line are close by the
+-- tolerance of lines
+unfoldable pub traceFlat : List Float → ℕ → ℕ → Tolerances → List Float → List ℕ → Lists →
     Afterwards (Answer Counts) Lists
-traceWithin tolerance g m n pairs marks l =
-    ifPassed (traceCheck g m n pairs marks) l (finished (drawingOf tolerance g m n pairs marks (roomIn l)) l)
-
--- the open call: close means by EPS
-abbrev pub traceFlat : List Float → ℕ → ℕ → List Float → List ℕ → Lists → Afterwards (Answer Counts) Lists
-traceFlat = traceWithin eps
+traceFlat g m n tolerances pairs marks l =
+    ifPassed (traceCheck g m n tolerances pairs marks) l
+    (finished (drawingOf (tolerances .line) g m n pairs marks (roomIn l)) l)

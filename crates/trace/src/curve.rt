@@ -9,7 +9,6 @@ use walk::append_edge_crossings;
 ghost use Prim.Native.Nat.{_+_, _*_, _≤_};
 ghost use mathlib.Core.Path.{_≡_};
 ghost use lib.ListN.{length};
-ghost use Rattle.float.specs.Consts.{eps};
 ghost use Rattle.lent.specs.Lent.{afterwards};
 ghost use Rattle.crossing.specs.Crossing.{GridFits};
 ghost use Rattle.page.specs.Page.{lists, movesBy, penAt, page, onPage, pageAfter, PenFits};
@@ -66,12 +65,13 @@ fn visit_of(previous: Previous, mark: u8, point: ParamPoint) -> Visit
     }
 }
 
-// Sample number `sample`: a break flushes the pending line, a leg is walked along.
+// Sample number `sample`: a break flushes the pending line, a leg is walked along. The tolerance is that of lines.
 fn trace_sample(
     lambdas: &mut [f64],
     codes: &mut [u32],
     grid: &[f64],
     cells: Cells,
+    tolerance: f64,
     visit: Visit,
     sample: usize,
     points: &mut [f64],
@@ -87,7 +87,7 @@ fn trace_sample(
     ensures { λ r. ⌜ afterwards r
         (lists (now (points .exit)) (now (starts .exit)) (now (sides .exit)) (now (fractions .exit))
         (now (samples .exit)))
-        ≡ pageAfter (onPage eps (movesBy sample (visitMoves (now (grid .entry)) cells visit))
+        ≡ pageAfter (onPage tolerance (movesBy sample (visitMoves (now (grid .entry)) cells visit))
         (page (lists (now (points .entry)) (now (starts .entry)) (now (sides .entry)) (now (fractions .entry))
         (now (samples .entry))) pen)) ⌝ }
 {
@@ -98,6 +98,7 @@ fn trace_sample(
             codes,
             grid,
             cells,
+            tolerance,
             leg,
             sample,
             points,
@@ -111,11 +112,13 @@ fn trace_sample(
     }
 }
 
-// All samples in order, from a pen at the start of the lists; after the last one the pending line is flushed.
+// All samples in order, from a pen at the start of the lists; after the last one the pending line is flushed. Of a
+// line's neighbouring points none are close by the tolerance.
 // The scratch lists for a leg's events are made once: clearing them for each leg would cost more than the walk.
 pub fn trace_parametric_edge_curve(
     grid: &[f64],
     cells: Cells,
+    tolerance: f64,
     pairs: &[f64],
     marks: &[u8],
     points: &mut [f64],
@@ -129,7 +132,7 @@ pub fn trace_parametric_edge_curve(
     ensures { λ r. ⌜ afterwards r
         (lists (now (points .exit)) (now (starts .exit)) (now (sides .exit)) (now (fractions .exit))
         (now (samples .exit)))
-        ≡ pageAfter (onPage eps (traceMoves (now (grid .entry)) cells 0
+        ≡ pageAfter (onPage tolerance (traceMoves (now (grid .entry)) cells 0
         (samplesOf (now (marks .entry)) (now (pairs .entry))) Previous.Nowhere)
         (page (lists (now (points .entry)) (now (starts .entry)) (now (sides .entry)) (now (fractions .entry))
         (now (samples .entry))) (penAt 0 0 0))) ⌝ }
@@ -152,6 +155,7 @@ pub fn trace_parametric_edge_curve(
             &mut codes,
             grid,
             cells,
+            tolerance,
             visit,
             i,
             points,

@@ -7,6 +7,7 @@ use page::Penned;
 use param::Cells;
 use refusal::Check;
 use refusal::Refusal;
+use tolerance::Tolerances;
 ghost use mathlib.Core.Path.{_≡_};
 ghost use Rattle.lent.specs.Lent.{afterwards};
 ghost use Rattle.page.specs.Page.{lists};
@@ -53,11 +54,12 @@ fn answer_of(ended: Penned) -> Trace
 
 // Traces a curve across the cells of a grid and draws its lines into the five lent lists: x, y, z of each point, the
 // number of each line's first point, the two grid points that each point lies between, the fraction between them, and
-// the number of the sample that each point was made by.
+// the number of the sample that each point was made by. Of the tolerances it uses that of lines, and tests all three.
 pub fn trace_flat(
     grid: &[f64],
     m: usize,
     n: usize,
+    tolerances: Tolerances,
     pairs: &[f64],
     marks: &[u8],
     points: &mut [f64],
@@ -69,19 +71,20 @@ pub fn trace_flat(
     ensures answer { λ r. ⌜ afterwards (statedTrace r)
         (lists (now (points .exit)) (now (starts .exit)) (now (sides .exit)) (now (fractions .exit))
         (now (samples .exit)))
-        ≡ traceFlat (now (grid .entry)) m n (now (pairs .entry)) (now (marks .entry))
+        ≡ traceFlat (now (grid .entry)) m n tolerances (now (pairs .entry)) (now (marks .entry))
         (lists (now (points .entry)) (now (starts .entry)) (now (sides .entry)) (now (fractions .entry))
         (now (samples .entry))) ⌝ }
     ensures demand { λ _. ⌜ Demand3 (now (grid .entry)) m n ⌝ }
     ensures numbers { λ _. ⌜ NumbersMet (now (grid .entry)) m n ⌝ }
 {
-    if let Check::Failed(refusal) = check_trace(grid, m, n, pairs, marks) {
+    if let Check::Failed(refusal) = check_trace(grid, m, n, tolerances, pairs, marks) {
         return Trace::Refused(refusal);
     }
     let cells = Cells { m, n };
     let ended = trace_parametric_edge_curve(
         grid,
         cells,
+        tolerances.line,
         pairs,
         marks,
         points,

@@ -1,6 +1,7 @@
 // The samples of a trace, as pairs and marks, and the refusals before the walk (Rules 11).
 use refusal::Check;
 use refusal::Refusal;
+use tolerance::Tolerances;
 ghost use Prim.Native.Nat.{_*_};
 ghost use mathlib.Core.Path.{_≡_};
 ghost use lib.ListN.{length};
@@ -62,12 +63,19 @@ fn check_lengths(pairs: &[f64], marks: &[u8]) -> Check
     Check::Passed
 }
 
-// Refusals 1, 2 (grid, then samples), 4, 9 and 10, in this order.
-pub fn check_trace(grid: &[f64], m: usize, n: usize, pairs: &[f64], marks: &[u8]) -> Check
-    ensures { λ r. ⌜ r ≡ traceCheck (now (grid .entry)) m n (now (pairs .entry)) (now (marks .entry)) ⌝ }
+// Refusals 1, 2 (grid, then samples), 13, 4, 9 and 10, in this order.
+pub fn check_trace(
+    grid: &[f64],
+    m: usize,
+    n: usize,
+    tolerances: Tolerances,
+    pairs: &[f64],
+    marks: &[u8],
+) -> Check
+    ensures { λ r. ⌜ r ≡ traceCheck (now (grid .entry)) m n tolerances (now (pairs .entry)) (now (marks .entry)) ⌝ }
 {
-    let lengths = check_lengths(pairs, marks);
-    if let Check::Failed(refusal) = grid::check_grid(grid, m, n, lengths) {
+    let own = check_lengths(pairs, marks).and_then(tolerances.check());
+    if let Check::Failed(refusal) = grid::check_grid(grid, m, n, own) {
         return Check::Failed(refusal);
     }
     if !marks_fit(marks) {

@@ -18,7 +18,6 @@ use refusal::Refusal;
 ghost use Prim.Native.Nat.{_≤_};
 ghost use mathlib.Core.Path.{_≡_};
 ghost use lib.ListN.{length};
-ghost use Rattle.float.specs.Consts.{eps};
 ghost use Rattle.lent.specs.Lent.{afterwards};
 ghost use Rattle.edges.specs.Events.{Inside};
 ghost use Rattle.crossing.specs.Crossing.{GridFits};
@@ -95,7 +94,7 @@ fn decide(
     }
 }
 
-// Does to the lists what is decided of one event of the leg to sample number `sample`.
+// Does to the lists what is decided of one event of the leg to sample number `sample`; the tolerance is that of lines.
 fn draw_event(
     points: &mut [f64],
     starts: &mut [usize],
@@ -105,12 +104,13 @@ fn draw_event(
     pen: Pen,
     sample: usize,
     decision: Decision,
+    tolerance: f64,
 ) -> Penned
     requires { ⌜ PenFits (now points) pen ⌝ }
     ensures { λ r. ⌜ afterwards r
         (lists (now (points .exit)) (now (starts .exit)) (now (sides .exit)) (now (fractions .exit))
         (now (samples .exit)))
-        ≡ pageAfter (onPage eps (movesBy sample (movesOf decision))
+        ≡ pageAfter (onPage tolerance (movesBy sample (movesOf decision))
         (page (lists (now (points .entry)) (now (starts .entry)) (now (sides .entry)) (now (fractions .entry))
         (now (samples .entry))) pen)) ⌝ }
 {
@@ -119,7 +119,7 @@ fn draw_event(
     match point {
         EventPoint::Push(crossing) => {
             let c = TracedPoint { crossing, sample };
-            match push_segment_point(points, sides, fractions, samples, pen, c) {
+            match push_segment_point(points, sides, fractions, samples, pen, c, tolerance) {
                 Penned::Down(pushed) => flush_unless(inside, starts, pushed),
                 Penned::Stop(refusal) => Penned::Stop(refusal),
             }
@@ -141,12 +141,13 @@ fn lambda_or_one(lambdas: &[f64], count: usize, i: usize) -> f64
 }
 
 // A leg, to sample number `sample`: its events, found in the two scratch lists, and a flush if it ends outside the
-// grid.
+// grid. The tolerance is that of lines.
 pub fn append_edge_crossings(
     lambdas: &mut [f64],
     codes: &mut [u32],
     grid: &[f64],
     cells: Cells,
+    tolerance: f64,
     leg: Leg,
     sample: usize,
     points: &mut [f64],
@@ -162,7 +163,7 @@ pub fn append_edge_crossings(
     ensures { λ r. ⌜ afterwards r
         (lists (now (points .exit)) (now (starts .exit)) (now (sides .exit)) (now (fractions .exit))
         (now (samples .exit)))
-        ≡ pageAfter (onPage eps (movesBy sample (legMoves (now (grid .entry)) cells leg))
+        ≡ pageAfter (onPage tolerance (movesBy sample (legMoves (now (grid .entry)) cells leg))
         (page (lists (now (points .entry)) (now (starts .entry)) (now (sides .entry)) (now (fractions .entry))
         (now (samples .entry))) pen)) ⌝ }
 {
@@ -183,6 +184,7 @@ pub fn append_edge_crossings(
             pen,
             sample,
             decision,
+            tolerance,
         ) {
             Penned::Down(drawn) => {
                 pen = drawn;

@@ -5,7 +5,7 @@ use mathlib.Core.Path.{_≡_, _∙_}
 use native.Mathlib.Omega.{arith}
 use denote.Ref.{now}
 use lib.ListN.{length, drop}
-use Rattle.float.specs.Consts.{eps, zero64}
+use Rattle.float.specs.Consts.{zero64}
 use Rattle.edges.specs.Scratch.{eventsIn}
 use Rattle.edges.proofs.Laws.{leg-inside, event-inside}
 use Rattle.page.specs.Page.{lists, movesBy, Page, page, onPage, PenFits}
@@ -18,18 +18,18 @@ use Rattle.walk.proofs.append_edge_crossings.Statement.{statement}
 use Rattle.walk.proofs.append_edge_crossings.Tie as tie
 
 abbrev Inv-loop : tie.InvT-loop
-Inv-loop lambdas codes grid cells leg sample points₀ starts₀ sides₀ fractions₀ samples₀ count pen₀ previous₀ i₀ points
+Inv-loop lambdas codes grid cells tolerance leg sample points₀ starts₀ sides₀ fractions₀ samples₀ count pen₀ previous₀ i₀ points
     starts sides fractions samples pen previous i =
     (i ≤ count)
     × Sized (lists points₀ starts₀ sides₀ fractions₀ samples₀) (lists points starts sides fractions samples)
     × PenFits points pen
-    × (left eps sample grid cells leg (eventsIn lambdas codes count) zero64
+    × (left tolerance sample grid cells leg (eventsIn lambdas codes count) zero64
     (page (lists points₀ starts₀ sides₀ fractions₀ samples₀) pen₀)
-    ≡ left eps sample grid cells leg (drop i (eventsIn lambdas codes count)) previous
+    ≡ left tolerance sample grid cells leg (drop i (eventsIn lambdas codes count)) previous
     (page (lists points starts sides fractions samples) pen))
 
 abbrev μ-loop : tie.MeasureT-loop
-μ-loop lambdas codes grid cells leg sample points₀ starts₀ sides₀ fractions₀ samples₀ count pen₀ previous₀ i₀ points
+μ-loop lambdas codes grid cells tolerance leg sample points₀ starts₀ sides₀ fractions₀ samples₀ count pen₀ previous₀ i₀ points
     starts sides fractions samples pen previous i = count - i
 
 -- ---- places
@@ -92,12 +92,12 @@ alike l =
 whole : (l : tie.At-loop Inv-loop μ-loop) → let a = started l .args in
     let w = lent (started l) in
     let o = sorted l .sorted-edge-events in
-    onPage eps (movesBy (a .sample) (legMoves (now (a .grid)) (a .cells) (a .leg))) w
-    ≡ left eps (a .sample) (now (a .grid)) (a .cells) (a .leg) (eventsIn (o .last .0) (o .last .1 .0) (o .result))
+    onPage (a .tolerance) (movesBy (a .sample) (legMoves (now (a .grid)) (a .cells) (a .leg))) w
+    ≡ left (a .tolerance) (a .sample) (now (a .grid)) (a .cells) (a .leg) (eventsIn (o .last .0) (o .last .1 .0) (o .result))
     zero64 w
 whole l =
     let a = started l .args in
-    leg-starts eps (a .sample) (now (a .grid)) (a .cells) (a .leg) (lent (started l))
+    leg-starts (a .tolerance) (a .sample) (now (a .grid)) (a .cells) (a .leg) (lent (started l))
     (sorted l .sorted-edge-events .ensures .1)
 
 decide-requires : tie.Need-decide-requires Inv-loop μ-loop
@@ -126,7 +126,7 @@ returns c =
     let l = looping d in
     let a = started l .args in
     let o = sorted l .sorted-edge-events in
-    turn-stops eps (a .sample) (now (a .grid)) (a .cells) (a .leg) (o .last .0) (o .last .1 .0) (o .result)
+    turn-stops (a .tolerance) (a .sample) (now (a .grid)) (a .cells) (a .leg) (o .last .0) (o .last .1 .0) (o .result)
     (l .loop .i) (below l) (alike l) (looped e .loop-test .taken) _ _
     (e .before .before .before .event-at .ensures) (e .before .lambda-or-one .ensures) (e .decide .ensures)
     (whole l ∙ l .loop .inv .3) (d .draw-event .ensures) (c .before .refusal .given .1)
@@ -146,11 +146,11 @@ loop-again c =
     let ms = movesBy (a .sample) (movesOf (e .decide .result)) in
     let first = lent (started l) .lists in (
       omega (arith, looped e .loop-test .taken),
-      down-holds (SizedPage first) (onPage eps ms (held l)) (d .draw-event .ensures) (c .before .drawn .given .1)
-          (moves-sized first eps ms (held l) (l .loop .inv .1)),
-      down-holds Fitting (onPage eps ms (held l)) (d .draw-event .ensures) (c .before .drawn .given .1)
-          (moves-fit eps ms (held l) (l .loop .inv .2)),
-      turn-goes eps (a .sample) (now (a .grid)) (a .cells) (a .leg) (o .last .0) (o .last .1 .0) (o .result)
+      down-holds (SizedPage first) (onPage (a .tolerance) ms (held l)) (d .draw-event .ensures) (c .before .drawn .given .1)
+          (moves-sized first (a .tolerance) ms (held l) (l .loop .inv .1)),
+      down-holds Fitting (onPage (a .tolerance) ms (held l)) (d .draw-event .ensures) (c .before .drawn .given .1)
+          (moves-fit (a .tolerance) ms (held l) (l .loop .inv .2)),
+      turn-goes (a .tolerance) (a .sample) (now (a .grid)) (a .cells) (a .leg) (o .last .0) (o .last .1 .0) (o .result)
           (l .loop .i) (below l) (alike l) (looped e .loop-test .taken) _ _
           (e .before .before .before .event-at .ensures) (e .before .lambda-or-one .ensures) (e .decide .ensures)
           (l .loop .inv .3) (d .draw-event .ensures) (c .before .drawn .given .1),
@@ -167,7 +167,7 @@ returns-2 c =
     let a = started l .args in
     let o = sorted l .sorted-edge-events in
     rw (
-      whole l ∙ l .loop .inv .3 ∙ leg-ends eps (a .sample) (now (a .grid)) (a .cells) (a .leg) (o .last .0)
+      whole l ∙ l .loop .inv .3 ∙ leg-ends (a .tolerance) (a .sample) (now (a .grid)) (a .cells) (a .leg) (o .last .0)
           (o .last .1 .0) (o .result) (l .loop .i) (below l) (alike l) _ _ (b .before .loop-test .left),
       ← b .param-in-bounds .ensures,
     )
@@ -197,7 +197,7 @@ append-edge-crossings-spec =
     (λ c. search (needs, looping (refused c) .loop .inv .1))
     returns
     add-i
-    (λ c. search needs)
+    (λ c. omega (arith, looped (decided (went-on c)) .loop-test .taken))
     loop-again
     (λ c κs. search needs)
     flush-unless-requires

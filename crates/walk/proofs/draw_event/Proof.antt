@@ -1,7 +1,6 @@
 -- `walk::draw_event` meets its contract: proofs/Drawn.antt has what is done by what was decided, and after a push the
 -- pen still fits.
 use denote.Ref.{now}
-use Rattle.float.specs.Consts.{eps}
 use Rattle.page.specs.Page.{Lists, lists, Page, page, pushPage}
 use Rattle.page.proofs.Follow.{down-holds}
 use Rattle.page.proofs.Fits.{Fitting, push-fits}
@@ -40,8 +39,8 @@ flush-unless-requires : tie.Need-flush-unless-requires
 flush-unless-requires c κs =
     let p = pushed (c .before .before) in
     let s = started (pointed p .before .before) in
-    down-holds Fitting (pushPage eps _ (lent s)) (p .push-segment-point .ensures (now (s .args .starts)))
-    (c .before .before .pushed .given .1) (push-fits eps _ (lent s) (s .pre)) .0
+    down-holds Fitting (pushPage (s .args .tolerance) _ (lent s)) (p .push-segment-point .ensures (now (s .args .starts)))
+    (c .before .before .pushed .given .1) (push-fits (s .args .tolerance) _ (lent s) (s .pre)) .0
 
 returns : tie.Need-returns
 returns c =
@@ -49,7 +48,7 @@ returns c =
     let d = f .before .before .before in
     let p = pushed d in
     let s = started (pointed p .before .before) in
-    draws-point eps (s .args .sample) (s .args .decision) (lent s) (pointed p .point .given .1)
+    draws-point (s .args .tolerance) (s .args .sample) (s .args .decision) (lent s) (pointed p .point .given .1)
     (p .push-segment-point .ensures (now (s .args .starts))) (d .pushed .given .1)
     (f .flush-unless .ensures (lent-on p))
 
@@ -57,7 +56,7 @@ returns-2 : tie.Need-returns-2
 returns-2 c =
     let p = refused c in
     let s = started (pointed p .before .before) in
-    draws-full eps (s .args .sample) (s .args .decision) (lent s) (pointed p .point .given .1)
+    draws-full (s .args .tolerance) (s .args .sample) (s .args .decision) (lent s) (pointed p .point .given .1)
     (p .push-segment-point .ensures (now (s .args .starts))) (c .before .refusal .given .1)
 
 returns-3 : tie.Need-returns-3
@@ -65,13 +64,13 @@ returns-3 c =
     let f = c .before .before in
     let e = f .before .before in
     let s = started (e .before .before) in
-    draws-end eps (s .args .sample) (s .args .decision) (lent s) (e .enum-told .given .1)
+    draws-end (s .args .tolerance) (s .args .sample) (s .args .decision) (lent s) (e .enum-told .given .1)
     (f .flush-unless2 .ensures (lent s .lists))
 
 returns-4 : tie.Need-returns-4
 returns-4 c =
     let s = started (c .before .before) in
-    draws-stop eps (s .args .sample) (s .args .decision) (lent s) (c .enum-told2 .given .1)
+    draws-stop (s .args .tolerance) (s .args .sample) (s .args .decision) (lent s) (c .enum-told2 .given .1)
 
 pub draw-event-spec : {M : Type 1} → statement M
 draw-event-spec =

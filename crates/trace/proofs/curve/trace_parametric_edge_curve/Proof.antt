@@ -5,7 +5,6 @@ use mathlib.Core.Path.{_≡_, _∙_}
 use native.Mathlib.Omega.{arith}
 use denote.Ref.{now}
 use lib.ListN.{length, drop}
-use Rattle.float.specs.Consts.{eps}
 use Rattle.page.specs.Page.{Lists, lists, movesBy, penAt, Page, page, onPage, PenFits}
 use Rattle.page.proofs.Follow.{down-holds}
 use Rattle.page.proofs.Fits.{Fitting, moves-fit, Sized, SizedPage, moves-sized}
@@ -17,18 +16,18 @@ use Rattle.trace.proofs.curve.trace_parametric_edge_curve.Statement.{st
 use Rattle.trace.proofs.curve.trace_parametric_edge_curve.Tie as tie
 
 abbrev Inv-loop : tie.InvT-loop
-Inv-loop grid cells pairs marks points₀ starts₀ sides₀ fractions₀ samples₀ lambdas₀ codes₀ pen₀ previous₀ i₀ points
+Inv-loop grid cells tolerance pairs marks points₀ starts₀ sides₀ fractions₀ samples₀ lambdas₀ codes₀ pen₀ previous₀ i₀ points
     starts sides fractions samples lambdas codes pen previous i =
     (i ≤ length marks) × (length lambdas ≡ 1023) × (length codes ≡ 1023)
     × Sized (lists points₀ starts₀ sides₀ fractions₀ samples₀) (lists points starts sides fractions samples)
     × PenFits points pen
-    × (onPage eps (traceMoves grid cells 0 (samplesOf marks pairs) Nowhere)
+    × (onPage tolerance (traceMoves grid cells 0 (samplesOf marks pairs) Nowhere)
     (page (lists points₀ starts₀ sides₀ fractions₀ samples₀) (penAt 0 0 0))
-    ≡ onPage eps (traceMoves grid cells i (drop i (samplesOf marks pairs)) previous)
+    ≡ onPage tolerance (traceMoves grid cells i (drop i (samplesOf marks pairs)) previous)
     (page (lists points starts sides fractions samples) pen))
 
 abbrev μ-loop : tie.MeasureT-loop
-μ-loop grid cells pairs marks points₀ starts₀ sides₀ fractions₀ samples₀ lambdas₀ codes₀ pen₀ previous₀ i₀ points
+μ-loop grid cells tolerance pairs marks points₀ starts₀ sides₀ fractions₀ samples₀ lambdas₀ codes₀ pen₀ previous₀ i₀ points
     starts sides fractions samples lambdas codes pen previous i = length marks - i
 
 -- ---- places
@@ -74,7 +73,7 @@ returns c =
     let v = visited (t .before) in
     let l = looped v .before in
     let s = started l in
-    trace-stops eps (now (s .args .grid)) (s .args .cells) (now (s .args .marks)) (now (s .args .pairs)) (l .loop .i)
+    trace-stops (s .args .tolerance) (now (s .args .grid)) (s .args .cells) (now (s .args .marks)) (now (s .args .pairs)) (l .loop .i)
     (s .pre .1 .0) _ _ (looped v .loop-test .taken)
     (v .before .param-at .ensures) (v .visit-of .ensures) (l .loop .inv .5) (t .trace-sample .ensures)
     (c .before .refusal .given .1)
@@ -96,11 +95,11 @@ loop-again c =
       omega (arith, looped v .loop-test .taken),
       search needs,
       search needs,
-      down-holds (SizedPage first) (onPage eps ms (held l)) (t .trace-sample .ensures)
-          (c .before .before .traced .given .1) (moves-sized first eps ms (held l) (l .loop .inv .3)),
-      down-holds Fitting (onPage eps ms (held l)) (t .trace-sample .ensures) (c .before .before .traced .given .1)
-          (moves-fit eps ms (held l) (l .loop .inv .4)),
-      trace-goes eps (now (a .grid)) (a .cells) (now (a .marks)) (now (a .pairs)) (l .loop .i) (s .pre .1 .0) _ _
+      down-holds (SizedPage first) (onPage (a .tolerance) ms (held l)) (t .trace-sample .ensures)
+          (c .before .before .traced .given .1) (moves-sized first (a .tolerance) ms (held l) (l .loop .inv .3)),
+      down-holds Fitting (onPage (a .tolerance) ms (held l)) (t .trace-sample .ensures) (c .before .before .traced .given .1)
+          (moves-fit (a .tolerance) ms (held l) (l .loop .inv .4)),
+      trace-goes (a .tolerance) (now (a .grid)) (a .cells) (now (a .marks)) (now (a .pairs)) (l .loop .i) (s .pre .1 .0) _ _
           (looped v .loop-test .taken) (v .before .param-at .ensures)
           (v .visit-of .ensures) (l .loop .inv .5) (t .trace-sample .ensures) (c .before .before .traced .given .1)
           (c .after-sample .ensures),
@@ -116,7 +115,7 @@ returns-2 c =
     let l = e .before in
     let s = started l in
     let a = s .args in
-    rw (l .loop .inv .5 ∙ trace-flushes eps (now (a .grid)) (a .cells) (now (a .marks)) (now (a .pairs)) (l .loop .i)
+    rw (l .loop .inv .5 ∙ trace-flushes (a .tolerance) (now (a .grid)) (a .cells) (now (a .marks)) (now (a .pairs)) (l .loop .i)
     (s .pre .1 .0) _ _ (e .loop-test .left))
     (f .flush-segment .ensures (held l .lists))
 

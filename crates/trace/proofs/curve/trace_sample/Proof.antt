@@ -1,6 +1,5 @@
 -- `trace::curve::trace_sample` meets its contract: proofs/Sampled.antt has what is done by what the sample is.
 use denote.Ref.{now}
-use Rattle.float.specs.Consts.{eps}
 use Rattle.page.specs.Page.{lists, Page, page}
 use Rattle.trace.proofs.Sampled.{sample-break, sample-leg, sample-first}
 use borrow.Author.Needs.{needs}
@@ -30,19 +29,19 @@ returns c =
     let e = f .before .before in
     let s = started (e .before .before) in
     let w = lent s in
-    sample-break eps (s .args .sample) _ _ w (e .enum-told .given .1) (f .flush-segment .ensures (w .lists))
+    sample-break (s .args .tolerance) (s .args .sample) _ _ w (e .enum-told .given .1) (f .flush-segment .ensures (w .lists))
 
 returns-2 : tie.Need-returns-2
 returns-2 c =
     let t = walked c in
     let v = visited t in
     let s = started (v .before .before) in
-    sample-leg eps (s .args .sample) _ _ (lent s) (v .visit .given .1) (t .append-edge-crossings .ensures)
+    sample-leg (s .args .tolerance) (s .args .sample) _ _ (lent s) (v .visit .given .1) (t .append-edge-crossings .ensures)
 
 returns-3 : tie.Need-returns-3
 returns-3 c =
     let s = started (c .before .before) in
-    sample-first eps (s .args .sample) _ _ (lent s) (c .enum-told2 .given .1)
+    sample-first (s .args .tolerance) (s .args .sample) _ _ (lent s) (c .enum-told2 .given .1)
 
 pub trace-sample-spec : {M : Type 1} → statement M
 trace-sample-spec =

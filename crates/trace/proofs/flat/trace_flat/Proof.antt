@@ -4,7 +4,6 @@ use Prim.Native.Nat.{_*_, _<_}
 use native.Mathlib.Omega.{arith}
 use denote.Ref.{now}
 use lib.ListN.{length}
-use Rattle.float.specs.Consts.{eps}
 use Rattle.page.specs.Page.{Lists, lists}
 use Rattle.trace.proofs.Demands.{demand3}
 use Rattle.trace.proofs.Numbered.{numbers-met}
@@ -64,7 +63,7 @@ fits c =
     omega (
       arith,
       c .count-in .ensures,
-      counted eps (now (a .grid)) (a .m) (a .n) (now (a .pairs)) (now (a .marks)) (lent s)
+      counted (now (a .grid)) (a .m) (a .n) (a .tolerances) (now (a .pairs)) (now (a .marks)) (lent s)
           (t .trace-parametric-edge-curve .ensures),
       points-kept c .points .given,
       lent-short s,
@@ -74,7 +73,7 @@ returns : tie.Need-returns
 returns c =
     let k = c .before .before .before in
     let a = started k .args in (
-      refused-before eps (now (a .grid)) (a .m) (a .n) (now (a .pairs)) (now (a .marks)) (lent (started k))
+      refused-before (now (a .grid)) (a .m) (a .n) (a .tolerances) (now (a .pairs)) (now (a .marks)) (lent (started k))
           (k .check-trace .ensures) (c .before .refusal .given .1),
       (demand3 _ _ _, numbers-met _ _ _),
     )
@@ -83,8 +82,8 @@ trace-parametric-edge-curve-requires : tie.Need-trace-parametric-edge-curve-requ
 trace-parametric-edge-curve-requires c κs =
     let e = told c in
     let a = started (checked e) .args in
-    passes (now (a .grid)) (a .m) (a .n) (now (a .pairs)) (now (a .marks)) (checked e .check-trace .ensures)
-    (e .enum-told .given .1)
+    passes (now (a .grid)) (a .m) (a .n) (a .tolerances) (now (a .pairs)) (now (a .marks))
+    (checked e .check-trace .ensures) (e .enum-told .given .1)
 
 mul-zero-floats : tie.Need-mul-zero-floats
 mul-zero-floats c = omega (arith, fits (c .before))
@@ -104,7 +103,7 @@ returns-2 c =
     let e = told (t .before) in
     let h = checked e in
     let a = started h .args in (
-      zeroed eps (now (a .grid)) (a .m) (a .n) (now (a .pairs)) (now (a .marks)) (lent (started h))
+      zeroed (now (a .grid)) (a .m) (a .n) (a .tolerances) (now (a .pairs)) (now (a .marks)) (lent (started h))
           (t .trace-parametric-edge-curve .ensures) (h .check-trace .ensures) (e .enum-told .given .1)
           (c .answer-of .ensures) (n .count-in .ensures) (s .before .lines-in .ensures) (p .zero-floats .ensures)
           (s .zero-numbers .ensures) (d .zero-numbers2 .ensures) (f .zero-floats2 .ensures)
