@@ -69,7 +69,8 @@ fn points_close(a: &[f64], i: usize, b: &[f64], k: usize, tolerance: f64) -> boo
 // is fast.
 fn points_near(a: &[f64], i: usize, b: &[f64], k: usize, tolerance: f64) -> bool
     requires { ⌜ (3 * i + 3 ≤ length (now a)) × (3 * k + 3 ≤ length (now b)) ⌝ }
-    ensures { λ r. ⌜ (r ≡ true → allClose (pointAt (now (a .entry)) i) (pointAt (now (b .entry)) k) tolerance ≡ true) ⌝ }
+    ensures { λ r. ⌜ (r ≡ true →
+        allClose (pointAt (now (a .entry)) i) (pointAt (now (b .entry)) k) tolerance ≡ true) ⌝ }
 {
     let d = grid::point_at(a, i).sub(grid::point_at(b, k));
     ((-tolerance < d.x) & (d.x < tolerance))

@@ -128,4 +128,5 @@ module _ (g : List Float) (m n : ℕ) (tolerances : Tolerances) (t f : List ℕ)
   unfolding triangulateGrid
   passed-hands t′ f′ p e a b w =
       rw (← p, e)
-      (answered-in (meshed (uSearch g m n (tolerances .u)) (vSearch g m n (tolerances .v))) (rw (a, b)) (rw (a, b) at w))
+      (answered-in (meshed (uSearch g m n (tolerances .u)) (vSearch g m n (tolerances .v))) (rw (a, b))
+      (rw (a, b) at w))

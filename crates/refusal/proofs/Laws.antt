@@ -17,6 +17,11 @@ pub then-passed : (c after : Check) → andThen c after ≡ Passed → (c ≡ Pa
 then-passed Passed after h = (refl, h)
 then-passed (Failed k) after h = absurd (true≢false (cc))
 
+-- nothing to test after others
+pub then-nothing : (c : Check) → andThen c Passed ≡ c
+then-nothing Passed = refl
+then-nothing (Failed k) = refl
+
 -- a test before others is a test before the first of them
 pub unless-then : (t : Bool) (k : Refusal) (c after : Check) →
     unless t k (andThen c after) ≡ andThen (unless t k c) after

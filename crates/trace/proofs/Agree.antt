@@ -109,7 +109,8 @@ zeroed-past l m cs ss count lines z h n k =
     zeroed-turn 1 fractionOf (λ c. refl) zero64 (m .fractions) (l .fractions) cs count (z .fractions) (h .fractions)
     (omega arith) in
     let samples =
-    zeroed-turn 1 sampleNumberOf (λ c. refl) 0 (m .samples) (l .samples) cs count (z .samples) (h .samples) (omega arith) in
+    zeroed-turn 1 sampleNumberOf (λ c. refl) 0 (m .samples) (l .samples) cs count (z .samples) (h .samples)
+    (omega arith) in
     rw (points, starts, sides, fractions, samples)
 
 -- what the walk in place leaves, where the page shows a drawing in which nothing is pending; nothing, if it was refused

@@ -144,7 +144,8 @@ module _ (g : List Float) (m n : ℕ) (tolerances : Tolerances) (pairs : List Fl
           Failed Sample ≡ traceCheck g m n tolerances pairs marks
       sample-refused k p = rw (check-is, e, k, p)
 
-      pub check-passes : marksFit marks ≡ true → pairsFit pairs marks ≡ true → Passed ≡ traceCheck g m n tolerances pairs marks
+      pub check-passes : marksFit marks ≡ true → pairsFit pairs marks ≡ true →
+          Passed ≡ traceCheck g m n tolerances pairs marks
       check-passes k p = rw (check-is, e, k, p)
 
   -- what a trace that passes is known by
@@ -159,7 +160,8 @@ module _ (g : List Float) (m n : ℕ) (tolerances : Tolerances) (pairs : List Fl
       (grid-passed g m n own p .shaped, l .0, l .1)
 
   -- its marks are 0 or 1, so one that is not 0 is 1
-  pub mark-one : traceCheck g m n tolerances pairs marks ≡ Passed → (i : ℕ) → (getD marks i 0 ≡ 0 → ⊥) → getD marks i 0 ≡ 1
+  pub mark-one : traceCheck g m n tolerances pairs marks ≡ Passed →
+      (i : ℕ) → (getD marks i 0 ≡ 0 → ⊥) → getD marks i 0 ≡ 1
   unfolding traceCheck
   mark-one h =
       let rest = unless (pairsFit pairs marks) Sample Passed in

@@ -181,12 +181,14 @@ module _ (g : List Float) (m n : ℕ) (tolerances : Tolerances) (pairs : List Fl
   unfolding traceFlat
   numbers-never-fall = go (traceCheck g m n tolerances pairs marks)
     where
-      go : (c : Check) → NeverFall (ifPassed c l (finished (drawingOf (tolerances .line) g m n pairs marks (roomIn l)) l))
+      go : (c : Check) →
+          NeverFall (ifPassed c l (finished (drawingOf (tolerances .line) g m n pairs marks (roomIn l)) l))
       go (Failed c) = λ i j p q. absurd (omega arith)
       go Passed =
           finished-never-falls l (0 + length (samplesOf marks pairs))
           (drawingOf (tolerances .line) g m n pairs marks (roomIn l))
-          (trace-rises (tolerances .line) (roomIn l) g (cells m n) 0 (samplesOf marks pairs) Nowhere nothingDrawn (omega arith))
+          (trace-rises (tolerances .line) (roomIn l) g (cells m n) 0 (samplesOf marks pairs) Nowhere nothingDrawn
+          (omega arith))
 
   numbers-end : EachPoint (λ (l : Lists) (i : ℕ). EndsLeg marks (sampleNumber l i))
       (traceFlat g m n tolerances pairs marks l)

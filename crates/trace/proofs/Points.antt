@@ -20,8 +20,8 @@ use Rattle.page.specs.Moves.{Outcome, on, off}
 use Rattle.page.specs.Page.{Lists, tracedBy}
 use Rattle.page.proofs.Moves.{Holding}
 use Rattle.trace.specs.Drawing.{Drawing, roomIn}
-use Rattle.trace.specs.Trace.{pointOf, sideOf, fractionOf, sampleNumberOf, listsWith, drawingOf, finished, traceCheck}
-use Rattle.trace.specs.Trace.{traceFlat}
+use Rattle.trace.specs.Trace.{pointOf, sideOf, fractionOf, sampleNumberOf, listsWith, drawingOf, finished}
+use Rattle.trace.specs.Trace.{traceCheck, traceFlat}
 use Rattle.trace.specs.Demand.{EachPoint, pOf, qOf, tOf}
 use Rattle.trace.specs.Numbers.{sampleNumber}
 use Rattle.trace.proofs.Turns.{filled-at}

@@ -1,5 +1,5 @@
--- Rules 5.5 and 5.4: demand 3, whole, of every accepted grid, all tolerances and all samples. Its triangles, flipped pairs and traced
--- points are those that the contracts of `triangulate_grid` and `trace_flat` cite.
+-- Rules 5.5 and 5.4: demand 3, whole, of every accepted grid, all tolerances and all samples. Its triangles, flipped
+-- pairs and traced points are those that the contracts of `triangulate_grid` and `trace_flat` cite.
 use mathlib.Core.Path.{_≡_}
 use mathlib.Core.List.{List}
 use Prim.Native.Nat.{ℕ, _+_, _*_, _<_}

@@ -18,8 +18,8 @@ use Rattle.walk.proofs.append_edge_crossings.Statement.{statement}
 use Rattle.walk.proofs.append_edge_crossings.Tie as tie
 
 abbrev Inv-loop : tie.InvT-loop
-Inv-loop lambdas codes grid cells tolerance leg sample points₀ starts₀ sides₀ fractions₀ samples₀ count pen₀ previous₀ i₀ points
-    starts sides fractions samples pen previous i =
+Inv-loop lambdas codes grid cells tolerance leg sample points₀ starts₀ sides₀ fractions₀ samples₀ count pen₀ previous₀
+    i₀ points starts sides fractions samples pen previous i =
     (i ≤ count)
     × Sized (lists points₀ starts₀ sides₀ fractions₀ samples₀) (lists points starts sides fractions samples)
     × PenFits points pen
@@ -29,8 +29,8 @@ Inv-loop lambdas codes grid cells tolerance leg sample points₀ starts₀ sides
     (page (lists points starts sides fractions samples) pen))
 
 abbrev μ-loop : tie.MeasureT-loop
-μ-loop lambdas codes grid cells tolerance leg sample points₀ starts₀ sides₀ fractions₀ samples₀ count pen₀ previous₀ i₀ points
-    starts sides fractions samples pen previous i = count - i
+μ-loop lambdas codes grid cells tolerance leg sample points₀ starts₀ sides₀ fractions₀ samples₀ count pen₀ previous₀
+    i₀ points starts sides fractions samples pen previous i = count - i
 
 -- ---- places
 
@@ -93,8 +93,8 @@ whole : (l : tie.At-loop Inv-loop μ-loop) → let a = started l .args in
     let w = lent (started l) in
     let o = sorted l .sorted-edge-events in
     onPage (a .tolerance) (movesBy (a .sample) (legMoves (now (a .grid)) (a .cells) (a .leg))) w
-    ≡ left (a .tolerance) (a .sample) (now (a .grid)) (a .cells) (a .leg) (eventsIn (o .last .0) (o .last .1 .0) (o .result))
-    zero64 w
+    ≡ left (a .tolerance) (a .sample) (now (a .grid)) (a .cells) (a .leg)
+    (eventsIn (o .last .0) (o .last .1 .0) (o .result)) zero64 w
 whole l =
     let a = started l .args in
     leg-starts (a .tolerance) (a .sample) (now (a .grid)) (a .cells) (a .leg) (lent (started l))
@@ -146,8 +146,8 @@ loop-again c =
     let ms = movesBy (a .sample) (movesOf (e .decide .result)) in
     let first = lent (started l) .lists in (
       omega (arith, looped e .loop-test .taken),
-      down-holds (SizedPage first) (onPage (a .tolerance) ms (held l)) (d .draw-event .ensures) (c .before .drawn .given .1)
-          (moves-sized first (a .tolerance) ms (held l) (l .loop .inv .1)),
+      down-holds (SizedPage first) (onPage (a .tolerance) ms (held l)) (d .draw-event .ensures)
+          (c .before .drawn .given .1) (moves-sized first (a .tolerance) ms (held l) (l .loop .inv .1)),
       down-holds Fitting (onPage (a .tolerance) ms (held l)) (d .draw-event .ensures) (c .before .drawn .given .1)
           (moves-fit (a .tolerance) ms (held l) (l .loop .inv .2)),
       turn-goes (a .tolerance) (a .sample) (now (a .grid)) (a .cells) (a .leg) (o .last .0) (o .last .1 .0) (o .result)

@@ -39,7 +39,8 @@ flush-unless-requires : tie.Need-flush-unless-requires
 flush-unless-requires c κs =
     let p = pushed (c .before .before) in
     let s = started (pointed p .before .before) in
-    down-holds Fitting (pushPage (s .args .tolerance) _ (lent s)) (p .push-segment-point .ensures (now (s .args .starts)))
+    down-holds Fitting (pushPage (s .args .tolerance) _ (lent s))
+    (p .push-segment-point .ensures (now (s .args .starts)))
     (c .before .before .pushed .given .1) (push-fits (s .args .tolerance) _ (lent s) (s .pre)) .0
 
 returns : tie.Need-returns

@@ -16,8 +16,8 @@ use Rattle.trace.proofs.curve.trace_parametric_edge_curve.Statement.{st
 use Rattle.trace.proofs.curve.trace_parametric_edge_curve.Tie as tie
 
 abbrev Inv-loop : tie.InvT-loop
-Inv-loop grid cells tolerance pairs marks points₀ starts₀ sides₀ fractions₀ samples₀ lambdas₀ codes₀ pen₀ previous₀ i₀ points
-    starts sides fractions samples lambdas codes pen previous i =
+Inv-loop grid cells tolerance pairs marks points₀ starts₀ sides₀ fractions₀ samples₀ lambdas₀ codes₀ pen₀ previous₀ i₀
+    points starts sides fractions samples lambdas codes pen previous i =
     (i ≤ length marks) × (length lambdas ≡ 1023) × (length codes ≡ 1023)
     × Sized (lists points₀ starts₀ sides₀ fractions₀ samples₀) (lists points starts sides fractions samples)
     × PenFits points pen
@@ -27,8 +27,8 @@ Inv-loop grid cells tolerance pairs marks points₀ starts₀ sides₀ fractions
     (page (lists points starts sides fractions samples) pen))
 
 abbrev μ-loop : tie.MeasureT-loop
-μ-loop grid cells tolerance pairs marks points₀ starts₀ sides₀ fractions₀ samples₀ lambdas₀ codes₀ pen₀ previous₀ i₀ points
-    starts sides fractions samples lambdas codes pen previous i = length marks - i
+μ-loop grid cells tolerance pairs marks points₀ starts₀ sides₀ fractions₀ samples₀ lambdas₀ codes₀ pen₀ previous₀ i₀
+    points starts sides fractions samples lambdas codes pen previous i = length marks - i
 
 -- ---- places
 
@@ -73,8 +73,8 @@ returns c =
     let v = visited (t .before) in
     let l = looped v .before in
     let s = started l in
-    trace-stops (s .args .tolerance) (now (s .args .grid)) (s .args .cells) (now (s .args .marks)) (now (s .args .pairs)) (l .loop .i)
-    (s .pre .1 .0) _ _ (looped v .loop-test .taken)
+    trace-stops (s .args .tolerance) (now (s .args .grid)) (s .args .cells) (now (s .args .marks))
+    (now (s .args .pairs)) (l .loop .i) (s .pre .1 .0) _ _ (looped v .loop-test .taken)
     (v .before .param-at .ensures) (v .visit-of .ensures) (l .loop .inv .5) (t .trace-sample .ensures)
     (c .before .refusal .given .1)
 
@@ -97,10 +97,10 @@ loop-again c =
       search needs,
       down-holds (SizedPage first) (onPage (a .tolerance) ms (held l)) (t .trace-sample .ensures)
           (c .before .before .traced .given .1) (moves-sized first (a .tolerance) ms (held l) (l .loop .inv .3)),
-      down-holds Fitting (onPage (a .tolerance) ms (held l)) (t .trace-sample .ensures) (c .before .before .traced .given .1)
-          (moves-fit (a .tolerance) ms (held l) (l .loop .inv .4)),
-      trace-goes (a .tolerance) (now (a .grid)) (a .cells) (now (a .marks)) (now (a .pairs)) (l .loop .i) (s .pre .1 .0) _ _
-          (looped v .loop-test .taken) (v .before .param-at .ensures)
+      down-holds Fitting (onPage (a .tolerance) ms (held l)) (t .trace-sample .ensures)
+          (c .before .before .traced .given .1) (moves-fit (a .tolerance) ms (held l) (l .loop .inv .4)),
+      trace-goes (a .tolerance) (now (a .grid)) (a .cells) (now (a .marks)) (now (a .pairs)) (l .loop .i)
+          (s .pre .1 .0) _ _ (looped v .loop-test .taken) (v .before .param-at .ensures)
           (v .visit-of .ensures) (l .loop .inv .5) (t .trace-sample .ensures) (c .before .before .traced .given .1)
           (c .after-sample .ensures),
     )
@@ -115,8 +115,8 @@ returns-2 c =
     let l = e .before in
     let s = started l in
     let a = s .args in
-    rw (l .loop .inv .5 ∙ trace-flushes (a .tolerance) (now (a .grid)) (a .cells) (now (a .marks)) (now (a .pairs)) (l .loop .i)
-    (s .pre .1 .0) _ _ (e .loop-test .left))
+    rw (l .loop .inv .5 ∙ trace-flushes (a .tolerance) (now (a .grid)) (a .cells) (now (a .marks)) (now (a .pairs))
+    (l .loop .i) (s .pre .1 .0) _ _ (e .loop-test .left))
     (f .flush-segment .ensures (held l .lists))
 
 pub trace-parametric-edge-curve-spec : {M : Type 1} → statement M

@@ -29,14 +29,16 @@ returns c =
     let e = f .before .before in
     let s = started (e .before .before) in
     let w = lent s in
-    sample-break (s .args .tolerance) (s .args .sample) _ _ w (e .enum-told .given .1) (f .flush-segment .ensures (w .lists))
+    sample-break (s .args .tolerance) (s .args .sample) _ _ w (e .enum-told .given .1)
+    (f .flush-segment .ensures (w .lists))
 
 returns-2 : tie.Need-returns-2
 returns-2 c =
     let t = walked c in
     let v = visited t in
     let s = started (v .before .before) in
-    sample-leg (s .args .tolerance) (s .args .sample) _ _ (lent s) (v .visit .given .1) (t .append-edge-crossings .ensures)
+    sample-leg (s .args .tolerance) (s .args .sample) _ _ (lent s) (v .visit .given .1)
+    (t .append-edge-crossings .ensures)
 
 returns-3 : tie.Need-returns-3
 returns-3 c =

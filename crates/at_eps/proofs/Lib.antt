@@ -1,0 +1,2 @@
+-- The theorem of specs/AtEps.antt.
+pub mod Same
