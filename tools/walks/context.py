@@ -9,9 +9,12 @@ is where a walk by hand goes wrong. Local k of the MIR is `l{k}` in the context,
 COLUMNS = 120
 
 
-def sub(number):
-    """A number as a subscript."""
-    return "".join("₀₁₂₃₄₅₆₇₈₉"[int(digit)] for digit in str(number))
+SUBSCRIPTS = str.maketrans("0123456789tuvl", "₀₁₂₃₄₅₆₇₈₉ₜᵤᵥₗ")
+
+
+def sub(place):
+    """A number, or one of these letters, as a subscript."""
+    return str(place).translate(SUBSCRIPTS)
 
 
 def places(numbers):

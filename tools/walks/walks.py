@@ -15,12 +15,57 @@ import re
 import sys
 from dataclasses import dataclass
 
-from context import COLUMNS, Walk, sub
+from context import COLUMNS, Walk, filled, sub
 
 HERE = os.path.dirname(os.path.abspath(__file__))
 ROOT = os.path.dirname(os.path.dirname(HERE))
 
 UNIT_TYPED = "(subst (λ (y : Val). Holds (hasTy tyUnit y) × WT y) (sym (ap only eu)) (tt, tt))"
+
+# ---- values
+
+
+@dataclass
+class Type:
+    """A type of values, by the names that the proofs have for it and its laws."""
+
+    row: str
+    denotes: str
+    machine: str  # the machine value of a value
+    makes: str  # what a value owns is had for nothing
+    lawful: str  # a value is of the type of its local
+
+
+def struct(name, denotes):
+    type, laws = f"{name}.the-type", f"{name}′.the-laws"
+    makes, lawful = f"LL.makes {type} {name}′.the-plain 𝓤 H A", f"LL.lawful {type} {laws} 𝓤 H A W"
+    return Type(f"{name}.the-row", denotes, f"LL.val {type} {laws}", makes, lawful)
+
+
+NUMBER = Type("usize", "ℕ", "vint w64", "uint-makes 𝓤 H A W w64", "uint-lawful 𝓤 H A W w64")
+FLOAT = Type("f64", "Float", "vfloat binary64", "float-makes 𝓤 H A W binary64", "float-lawful 𝓤 H A W binary64")
+SAMPLE = struct("T", "Sample")
+TOLERANCES = struct("K", "Tolerances")
+
+
+@dataclass
+class Value:
+    """A value and the fact `known`, that it is what its machine value says."""
+
+    type: Type
+    name: str
+    known: str
+
+    @property
+    def typed(self):
+        return f"({self.type.lawful} .typed {self.name} _ {self.known} .0)"
+
+    def own(self, w, name):
+        """What it owns is put first in the context, under the name."""
+        row = self.type.row
+        w.step(f"owned ! {row} (Is {row}) ({self.type.makes}) {self.name} _ {self.known}")
+        w.now(0, name)
+
 
 # ---- a call
 
@@ -48,21 +93,20 @@ def gather_tokens(w, tokens):
 
 
 def gather_parameters(w, parameters):
-    """A number is given with the fact that it fits: what it owns is had for nothing."""
+    """Each is what is owned of it, or a value, of which that is had for nothing."""
     w.step("nothing !")
     w.now(0, "joined")
     for parameter in reversed(parameters):
-        if isinstance(parameter, tuple):
-            number, fits = parameter
-            w.step(f"owned ! usize (Is usize) (uint-makes 𝓤 H A W w64) {number} _ (refl, {fits})")
-            w.now(0, parameter)
+        if isinstance(parameter, Value):
+            parameter.own(w, "value")
+            parameter = "value"
         w.bring(parameter, "joined")
         w.step("fjoin !")
         w.now(2, "joined")
 
 
 def asked(tokens, parameters):
-    """What a call asks, from the tokens and the parameters that are no numbers."""
+    """What a call asks, from the tokens and the parameters that are no values."""
     w = Walk(*tokens, *[p for p in parameters if isinstance(p, str)])
     gather_tokens(w, tokens)
     w.line()
@@ -151,7 +195,7 @@ def end_lifetime(w, name):
 # ---- `flatten`: records in local 1, pairs in 2, marks in 3, i in 4
 
 FLATTEN_LOCALS = 13
-SAMPLE_TYPED = "(LL.lawful T.the-type T′.the-laws 𝓤 H A W .typed (elem i) _ is .0)"
+RECORD = Value(SAMPLE, "(elem i)", "is")
 # a list's parameter, its type, its contents when i records are put, and what these are a list of
 FLATTEN_LISTS = [("₁", "F", "P", "Float"), ("₂", "B", "N", "ℕ")]
 
@@ -196,7 +240,7 @@ def flatten_copy(w):
     w.bind(f"elem-out ! {shown} q′ ss i nowhere b₀ o₀ small", "is")
     w.now(1, "cell", "eown", "others")
     there = f"load ! (from ! (hop ! (look ! {w.at('l8')} refl) (stop !))) (look-raw ! 0 refl)"
-    w.assign(f"of-opd ! ({there})", 9, SAMPLE_TYPED)
+    w.assign(f"of-opd ! ({there})", 9, RECORD.typed)
     w.line()
     w.step("elem-back ! T.the-row q′ ss i nowhere (mach i ∷ []) b₀ o₀ small")
     w.step("shuts-slice ! tt T.the-row q′ ss b₀ o₀")
@@ -204,7 +248,7 @@ def flatten_copy(w):
     w.bring("O₀")
     w.gather("f0", "res", how="fjoin")
     w.now(1, "O₀")
-    w.assign(f"of-opd ! ({w.load(9)})", 5, SAMPLE_TYPED)
+    w.assign(f"of-opd ! ({w.load(9)})", 5, RECORD.typed)
 
 
 def flatten_lend(w):
@@ -254,8 +298,7 @@ def flatten_turn():
     w.note("`put_sample`: both lists are lent again, each for a lifetime made for the call")
     flatten_lend(w)
     w.line()
-    w.step("owned ! T.the-row (Is T.the-row) (LL.makes T.the-type T′.the-plain 𝓤 H A) (elem i) _ is")
-    w.now(0, "rec")
+    RECORD.own(w, "rec")
     outer = "ν₁ ν₂ δ₁ δ₂ i"
     call(w, "Put", f"(to-put {outer})", ["ν₁", "ν₂", "M₁", "M₂", "rec"], f"goes-put {outer} fits", [11, 12, 4, 5], "u")
 
@@ -314,15 +357,29 @@ def flatten_start():
     return w.text(6)
 
 
-# ---- the entries. Their parameters, in locals 1 to 9: grid, m, n, records, points, starts, sides,
-# fractions, samples
+# ---- the entries. Their parameters: grid, m, n (0 to 2), the tolerances (t, or u, v and l), records,
+# points, starts, sides, fractions, samples (3 to 8)
 
-PARAMETERS = range(9)
-NUMBERS = [1, 2]
 OUTPUTS = [4, 5, 6, 7, 8]
 SLICES = [0, 3] + OUTPUTS
 RECORDS = 3
-M, N = ("d₁", "g₁"), ("d₂", "g₂")
+
+
+class Entry:
+    """The parameters of an entry that are values, of each of which a part of `g` is known; and all
+    parameters in order."""
+
+    def __init__(self, **tolerances):
+        types = {1: NUMBER, 2: NUMBER} | tolerances
+        self.values = {p: Value(type, f"d{sub(p)}", f"(g .{k})") for k, (p, type) in enumerate(types.items())}
+        self.order = [0, *self.values, *SLICES[1:]]
+
+    def local(self, p):
+        return self.order.index(p) + 1
+
+
+TRACE_SAMPLES = Entry(t=TOLERANCES)
+MT_TRACE_SAMPLES = Entry(u=FLOAT, v=FLOAT, l=FLOAT)
 
 
 def tokens(parameters):
@@ -337,18 +394,18 @@ def slice_typed(p):
     return f"(tt, (tt, (record {{ fits = g{sub(p)} .0 }}, tt)))"
 
 
-def enter(w, locals):
+def enter(w, locals, entry):
     """The locals are made and the parameters passed."""
     w.allocate(locals)
     w.step("params1 !")
-    for p in PARAMETERS:
+    for p in entry.order:
         w.line()
-        w.step("pass1 ! " + w.cell(p + 1, f"(tt, record {{ fits = g{sub(p)} }})" if p in NUMBERS else slice_typed(p)))
+        w.step("pass1 ! " + w.cell(entry.local(p), entry.values[p].typed if p in entry.values else slice_typed(p)))
     w.step("pass0 !")
 
 
-def take_parameters(w):
-    w.fsplit("owns", *owned(PARAMETERS))
+def take_parameters(w, entry):
+    w.fsplit("owns", *owned(entry.order))
     w.split("tokens", *tokens(SLICES))
 
 
@@ -361,13 +418,14 @@ def copy_slice(w, p, named, row):
     w.split(f"O{p}", f"O{p} kept")
 
 
-def lend_outputs(w, first):
+def lend_outputs(w, first, entry):
     """`&mut *points` and the like, in two locals each from `first` on; the locals that the call is
     passed."""
     for j, p in enumerate(OUTPUTS):
-        inside = f"look-in ! {w.at(f'l{p + 1}')} (sub ! 0 refl (whole !))"
+        k = entry.local(p)
+        inside = f"look-in ! {w.at(f'l{k}')} (sub ! 0 refl (whole !))"
         w.assign(f"addr ! (from ! (fld ! refl (hop ! ({inside}) (stop !))))", first + 2 * j, "(tt, tt)")
-        w.assign("agg ! " + w.operands(w.load(first + 2 * j), w.field(p + 1, 1)), first + 2 * j + 1, slice_typed(p))
+        w.assign("agg ! " + w.operands(w.load(first + 2 * j), w.field(k, 1)), first + 2 * j + 1, slice_typed(p))
     return [first + 2 * j + 1 for j in range(len(OUTPUTS))]
 
 
@@ -398,8 +456,8 @@ def left():
     return [*tokens(SLICES), "O0", "O3", *[f"fin{p}" for p in OUTPUTS], "answer"]
 
 
-def entry_framed():
-    parameters = ["O0", M, N, "O3", *[f"fin{p}" for p in OUTPUTS]]
+def entry_framed(entry):
+    parameters = ["O0", *entry.values.values(), "O3", *[f"fin{p}" for p in OUTPUTS]]
     return framed(left(), tokens(SLICES), parameters)
 
 
@@ -419,7 +477,7 @@ def leave(w, locals, rooms):
 
 # ---- `trace_samples`
 
-ENTRY_LOCALS = 28
+ENTRY_LOCALS = 29
 
 
 @dataclass
@@ -443,8 +501,8 @@ class Array:
 
 
 ARRAYS = [
-    Array(10, 1, "F", "f64", "AF", 131074, "xF", "vF", "P", "Float"),
-    Array(11, 2, "B", "u8", "AB", 65537, "xB", "vB", "N", "ℕ"),
+    Array(11, 1, "F", "f64", "AF", 131074, "xF", "vF", "P", "Float"),
+    Array(12, 2, "B", "u8", "AB", 65537, "xB", "vB", "N", "ℕ"),
 ]
 
 
@@ -454,15 +512,15 @@ def make_zeros(w):
     w.step("use0 W (‵ (B .own xB (vB ∷ []))) (owned-B 𝓤 H A W)")
     w.now(0, "oB")
     w.line()
-    zero = "(float-lawful 𝓤 H A W binary64 .typed z _ (refl, zero-fits) .0)"
-    w.step(f"fills ! 131074 (tyFloat binary64) (float-lit ! tt) refl {w.at('l10')} refl {zero}")
-    w.step(f"fills ! 65537 (tyInt w8) (lit ! tt) refl {w.at('l11')} refl (tt, record {{ fits = lit< tt }})")
+    zero = Value(FLOAT, "z", "(refl, zero-fits)").typed
+    w.step(f"fills ! 131074 (tyFloat binary64) (float-lit ! tt) refl {w.at('l11')} refl {zero}")
+    w.step(f"fills ! 65537 (tyInt w8) (lit ! tt) refl {w.at('l12')} refl (tt, record {{ fits = lit< tt }})")
 
 
 def lend_zeros(w):
     """`&mut` of both lists."""
-    w.assign("addr ! (from ! (stop !))", 13, "(tt, tt)")
     w.assign("addr ! (from ! (stop !))", 14, "(tt, tt)")
+    w.assign("addr ! (from ! (stop !))", 15, "(tt, tt)")
     for a in ARRAYS:
         l, ν, δ = a.block, "ν" + sub(a.named), "δ" + sub(a.named)
         w.line()
@@ -534,14 +592,14 @@ def make_room(w):
 
 def call_flatten(w):
     w.note("`flatten`")
-    take_parameters(w)
+    take_parameters(w, TRACE_SAMPLES)
     copy_slice(w, RECORDS, 1, "T.the-row")
-    outer = "l₁₀ l₁₁ ν₁ ν₂ δ₁ δ₂"
-    call(w, "Flat", f"(to-flat {outer})", ["t3", "ν₁", "ν₂", "O3", "MF", "MB"], f"goes-flat {outer}", [4, 13, 14], "u")
+    outer = "l₁₁ l₁₂ ν₁ ν₂ δ₁ δ₂"
+    call(w, "Flat", f"(to-flat {outer})", ["t3", "ν₁", "ν₂", "O3", "MF", "MB"], f"goes-flat {outer}", [5, 14, 15], "u")
     hear(w, f"After-flat {outer} u", "y", f"Flat-said {outer}", "zs", {"e": "(zs .1 .0 ≡ P) × (zs .1 .1 .0 ≡ N)"})
     w.line()
     w.fsplit("lasts", "nothing", "rF", "rB")
-    land_unit(w, 12, "tokens of flatten")
+    land_unit(w, 13, "tokens of flatten")
 
     w.note("the lifetimes end, and the lists are back, with the records in them")
     w.split("tokens of flatten", "t3", "ν₁", "ν₂")
@@ -550,23 +608,23 @@ def call_flatten(w):
 
 def call_trace_flattened(w):
     w.note("what `trace_flattened` is passed")
-    w.assign("addr ! (from ! (stop !))", 15, "(tt, tt)")
     w.assign("addr ! (from ! (stop !))", 16, "(tt, tt)")
-    w.assign("of-opd ! (" + w.field(RECORDS + 1, 1) + ")", 17, "(tt, record { fits = g₃ .0 })")
-    lent = lend_outputs(w, 18)
+    w.assign("addr ! (from ! (stop !))", 17, "(tt, tt)")
+    w.assign("of-opd ! (" + w.field(TRACE_SAMPLES.local(RECORDS), 1) + ")", 18, "(tt, record { fits = g₃ .0 })")
+    lent = lend_outputs(w, 19, TRACE_SAMPLES)
 
     w.note("the lists are lent by `&`")
     share_lists(w)
 
     w.note("`trace_flattened`")
     copy_slice(w, 0, 0, "f64")
-    outer = "l₁₀ l₁₁ ν₃ ν₄ δ₃ δ₄"
+    outer = "l₁₁ l₁₂ ν₃ ν₄ δ₃ δ₄"
     lifetimes = ["t0", "ν₃", "ν₄", *tokens(OUTPUTS)]
     given = [*lifetimes, "O0", "SF", "SB", *owned(OUTPUTS)]
-    goes = f"goes-traced g₁ g₂ (g₃ .0) {outer}"
-    call(w, "Traced", f"(to-traced {outer})", given, goes, [1, 2, 3, 15, 16, 17, *lent], "v")
-    hear(w, f"After-traced {outer} v", "r", f"Traced-said {outer} r", "ws", {"said": f"Said r {last_lists('ws', 6)}"})
-    outputs_after(w, 6)
+    goes = f"goes-traced g (g₃ .0) {outer}"
+    call(w, "Traced", f"(to-traced {outer})", given, goes, [1, 2, 3, 4, 16, 17, 18, *lent], "v")
+    hear(w, f"After-traced {outer} v", "r", f"Traced-said {outer} r", "ws", {"said": f"Said r {last_lists('ws', 7)}"})
+    outputs_after(w, 7)
     land_answer(w, 0, "tokens of the trace", "An", "r", "v", "is", "EL.lawful An.the-type An′.the-laws 𝓤 H A W tt")
 
     w.note("the lists are room again")
@@ -576,7 +634,7 @@ def call_trace_flattened(w):
 
 def trace_samples_walk():
     w = Walk("tokens", "owns")
-    enter(w, ENTRY_LOCALS)
+    enter(w, ENTRY_LOCALS, TRACE_SAMPLES)
     w.note("two lists of zeros")
     make_zeros(w)
     w.note("they are lent by `&mut`, each for a lifetime made for the call")
@@ -584,46 +642,55 @@ def trace_samples_walk():
     call_flatten(w)
     call_trace_flattened(w)
     leave(w, ENTRY_LOCALS, [a.local for a in ARRAYS])
-    w.end(f"by ! (exits g₁ g₂ r v {last_lists('ws', 6)} said {lengths()})")
+    w.end(f"by ! (exits g r v said {lengths()})")
     return w.text(8)
 
 
-# ---- `mt_trace_samples`: the answer of `trace_samples` in local 10
+# ---- `mt_trace_samples`: the tolerances as one value in local 13, the answer of `trace_samples` in 14
 
-EXPORT_LOCALS = 21
+EXPORT_LOCALS = 25
 
 
 def mt_trace_samples_walk():
     w = Walk("tokens", "owns")
-    enter(w, EXPORT_LOCALS)
+    enter(w, EXPORT_LOCALS, MT_TRACE_SAMPLES)
+
+    w.note("`tolerances_from_c`")
+    take_parameters(w, MT_TRACE_SAMPLES)
+    call(w, "Tol", "to-tol", owned("uvl"), "goes-tol", [4, 5, 6], "k")
+    hear(w, "After-tol k", "t", "Tol-said t", "zs", {"same": "t ≡ dₜ"})
+    w.line()
+    w.rewrite("toks", "λ (y : Tolerances). ‵ ftrue ⊛ ‵ (K.the-row .own y (k ∷ []))", "same")
+    land_answer(w, 13, "none", "K", "dₜ", "k", "is″", TOLERANCES.lawful)
+    w.rename("answer", "Ot")
 
     w.note("what `trace_samples` is passed")
-    lent = lend_outputs(w, 11)
+    lent = lend_outputs(w, 15, MT_TRACE_SAMPLES)
     w.line()
-    take_parameters(w)
     copy_slice(w, 0, 0, "f64")
     copy_slice(w, RECORDS, 1, "T.the-row")
 
     w.note("`trace_samples`")
-    call(w, "Rec", "to-rec", [*tokens(SLICES), *owned(SLICES)], "goes-rec g₁ g₂", [1, 2, 3, 4, *lent], "v")
+    given = [*tokens(SLICES), *owned([0, "t", *SLICES[1:]])]
+    call(w, "Rec", "(to-rec k)", given, "goes-rec g k", [1, 2, 3, 13, 7, *lent], "v")
     facts = {
-        "said": f"Said r {last_lists('ws', 4)}",
+        "said": f"Said r {last_lists('ws', 5)}",
         "demand": "Demand3 d₀ d₁ d₂",
         "numbers": "NumbersMet d₀ d₁ d₂",
     }
     hear(w, "After-rec v", "r", "Rec-said r", "ws", facts)
-    outputs_after(w, 4)
-    land_answer(w, 10, "tokens", "Tr", "r", "v", "is", "EL.lawful Tr.the-type Tr′.the-laws 𝓤 H A W tt")
+    outputs_after(w, 5)
+    land_answer(w, 14, "tokens", "Tr", "r", "v", "is", "EL.lawful Tr.the-type Tr′.the-laws 𝓤 H A W tt")
 
     w.note("`trace_to_c`")
-    call(w, "Conv", "(to-conv r v)", ["answer"], "goes-conv r v", [10], "u")
+    call(w, "Conv", "(to-conv r v)", ["answer"], "goes-conv r v", [14], "u")
     hear(w, "After-conv r u", "c", "Conv-said r c", "us", {"e": "c ≡ pathsAnswer (statedTrace r)"})
-    land_answer(w, 0, "none", "An", "c", "u", "is′", "LL.lawful An.the-type An′.the-laws 𝓤 H A W")
+    land_answer(w, 0, "none", "An", "c", "u", "is′", struct("An", "PathsAnswer").lawful)
 
     w.line()
     w.split("tokens", *tokens(SLICES))
     leave(w, EXPORT_LOCALS, [])
-    w.end(f"by ! (exits g₁ g₂ r c u {last_lists('ws', 4)} said demand numbers e {lengths()})")
+    w.end(f"by ! (exits g r c u said demand numbers e {lengths()})")
     return w.text(8)
 
 
@@ -651,36 +718,72 @@ def proof(path, parts):
     return text
 
 
-def entry(known, walks):
-    parts = sections("entries")
-    parts["WALKED"] = parts["WALKED"].replace("@KNOWN", known)
-    return parts | {"FRAMED": entry_framed()} | walks
+def walked(entry, known):
+    """What `walk` is given, by its place in what the triple binds."""
+
+    def deep(name, place, end=""):
+        return name + " .1" * place + " .0" + end
+
+    at = {p: place for place, p in enumerate(entry.order)}
+    given = [deep(name, place) for name in ["κs", "qs"] for place in range(len(SLICES))]
+    given += [deep("a", at[p], f" .ptr .{part}") for p in SLICES for part in [0, 1]]
+    given += [deep("a", at[p], " .name") for p in SLICES]
+    given += [deep("a", at[p], "" if p in entry.values else " .now") for p in entry.order]
+    facts = ", ".join(deep("are", at[p]) for p in entry.values)
+    rooms = [deep("are", at[p], " .0 .1") for p in SLICES]
+    parts = [f"({part})" for part in given], [f"({part})" for part in [facts, *rooms]]
+    *steps, last = ["(walk 𝓤 H A W mem run", *parts[0], "C Λ fm", *known, *parts[1]]
+    return "\n".join(" " * 6 + line for line in filled([*steps, last + "))"], COLUMNS - 6))
+
+
+def entry_parts(entry, known, walks):
+    """`walks`, and what both entries have."""
+
+    def each(form, between):
+        return between.join(form.format(value.name, value.type) for value in entry.values.values())
+
+    parts = {
+        "NAMED": each("({0} : {1.denotes})", " "),
+        "VALUES": each("{0}", " & "),
+        "PASSED": each("({1.machine} {0} ∷ [])", "\n      & "),
+        "MACHINE": each("{1.machine} {0}", " ∷ "),
+        "TYPES": each("{1.row}", " ∷ "),
+        "KNOWN": each("Is {1.row} {0} ({1.machine} {0} ∷ [])", "\n      × "),
+    }
+    return sections("entries") | parts | {"FRAMED": entry_framed(entry), "WALKED": walked(entry, known)} | walks
 
 
 def proofs():
     """The text of each proof, by its folder below `crates`."""
     flatten_walks = {
         "FRAMED": flatten_framed(),
-        "PUT-ASKS": asked(["ν₁", "ν₂"], ["M₁", "M₂", ("i", "fits"), "rec"]),
+        "PUT-ASKS": asked(["ν₁", "ν₂"], ["M₁", "M₂", Value(NUMBER, "i", "(refl, fits)"), "rec"]),
         "TURN": flatten_turn(),
         "ENDS": flatten_ends(),
         "START": flatten_start(),
     }
-    traced_parameters = ["O0", M, N, "SF", "SB", ("n", "gn"), *owned(OUTPUTS)]
+    count = Value(NUMBER, "n", "(refl, gn)")
+    traced_parameters = ["O0", *TRACE_SAMPLES.values.values(), "SF", "SB", count, *owned(OUTPUTS)]
     trace_samples_walks = {
         "FLAT-ASKS": asked(["t3", "ν₁", "ν₂"], ["O3", "MF", "MB"]),
         "TRACED-ASKS": asked(["t0", "ν₃", "ν₄", *tokens(OUTPUTS)], traced_parameters),
         "WALK": trace_samples_walk(),
     }
+    steps = [MT_TRACE_SAMPLES.values[p] for p in [1, 2]]
     mt_trace_samples_walks = {
-        "REC-ASKS": asked(tokens(SLICES), ["O0", M, N, *owned(SLICES[1:])]),
+        "TOL-ASKS": asked([], owned("uvl")),
+        "REC-ASKS": asked(tokens(SLICES), ["O0", *steps, "Ot", *owned(SLICES[1:])]),
         "CONV-ASKS": asked([], ["answer"]),
         "WALK": mt_trace_samples_walk(),
     }
     parts = {
         "records/proofs/flatten": flatten_walks,
-        "records/proofs/trace_samples": entry("known-flat known-traced", trace_samples_walks),
-        "merlontrispa/proofs/samples/mt_trace_samples": entry("known-rec known-conv", mt_trace_samples_walks),
+        "records/proofs/trace_samples": entry_parts(
+            TRACE_SAMPLES, ["known-flat", "known-traced"], trace_samples_walks
+        ),
+        "merlontrispa/proofs/samples/mt_trace_samples": entry_parts(
+            MT_TRACE_SAMPLES, ["known-tol", "known-rec", "known-conv"], mt_trace_samples_walks
+        ),
     }
     return {path: proof(path, walks) for path, walks in parts.items()}
 

@@ -6,5 +6,6 @@ pub mod meshes;
 pub mod samples;
 pub mod seams;
 pub mod textures;
+pub mod tolerances;
 pub mod traces;
 pub mod vectors;

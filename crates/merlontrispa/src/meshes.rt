@@ -2,11 +2,13 @@
 use crate::seams::FoundSeam;
 use crate::seams::joined;
 use crate::seams::unjoined;
+use crate::tolerances::tolerances_from_c;
 use cyclic::seam::Seam;
 use cyclic::seam::SeamSearch;
 use mesh::Triangulation;
 ghost use mathlib.Core.Path.{_≡_};
 ghost use Rattle.lent.specs.Lent.{afterwards, answering};
+ghost use Rattle.tolerance.specs.Tolerance.{tolerances};
 ghost use Rattle.surface.specs.Found.{SurfaceMeets};
 ghost use Rattle.mesh.specs.Mesh.{meshLists, statedTriangulation, triangulateGrid};
 ghost use Rattle.merlontrispa.specs.Seams.{foundSeam};
@@ -58,13 +60,18 @@ pub extern "C" fn mt_triangulate_grid(
     grid: &[f64],
     m: usize,
     n: usize,
+    u_tolerance: f64,
+    v_tolerance: f64,
+    line_tolerance: f64,
     triangles: &mut [usize],
     flipped: &mut [usize],
 ) -> MeshAnswer
     ensures handed { λ r. ⌜ afterwards r (meshLists (now (triangles .exit)) (now (flipped .exit)))
         ≡ answering meshAnswer (triangulateGrid (now (grid .entry)) m n
+        (tolerances «u_tolerance» «v_tolerance» «line_tolerance»)
         (meshLists (now (triangles .entry)) (now (flipped .entry)))) ⌝ }
     ensures surface { λ _. ⌜ SurfaceMeets (now (grid .entry)) m n ⌝ }
 {
-    mesh_to_c(mesh::triangulate_grid(grid, m, n, triangles, flipped))
+    let tolerances = tolerances_from_c(u_tolerance, v_tolerance, line_tolerance);
+    mesh_to_c(mesh::triangulate_grid(grid, m, n, tolerances, triangles, flipped))
 }

@@ -4,7 +4,6 @@ use cyclic::mapping::MappedIndex;
 use cyclic::seam::Seam;
 use cyclic::seam::SeamAnswer;
 ghost use mathlib.Core.Path.{_≡_};
-ghost use Rattle.float.specs.Consts.{eps};
 ghost use Rattle.cyclic.specs.Mapping.{isReverse, mapIndex, mapIndexInv, statedIndex};
 ghost use Rattle.cyclic.specs.Search.{newVector, searched, statedSeam};
 ghost use Rattle.merlontrispa.specs.Seams.{mappingOf, indexAnswer, foundSeam, rowsAnswer};
@@ -139,8 +138,8 @@ pub extern "C" fn mt_map_index_inv(
 }
 
 #[no_mangle]
-pub extern "C" fn mt_new_vector(a: &[f64], b: &[f64]) -> RowsAnswer
-    ensures { λ r. ⌜ r ≡ rowsAnswer (newVector (now (a .entry)) (now (b .entry)) eps) ⌝ }
+pub extern "C" fn mt_new_vector(a: &[f64], b: &[f64], tolerance: f64) -> RowsAnswer
+    ensures { λ r. ⌜ r ≡ rowsAnswer (newVector (now (a .entry)) (now (b .entry)) tolerance) ⌝ }
 {
-    rows_to_c(CyclicMapping::new_vector(a, b))
+    rows_to_c(CyclicMapping::new_vector(a, b, tolerance))
 }

@@ -1,10 +1,12 @@
 // The trace of flat samples.
 use crate::lines::PathsAnswer;
+use crate::tolerances::tolerances_from_c;
 use trace::flat::Trace;
 ghost use mathlib.Core.Path.{_≡_};
 ghost use Rattle.trace.specs.Demand.{Demand3};
 ghost use Rattle.trace.specs.Numbers.{NumbersMet};
 ghost use Rattle.lent.specs.Lent.{afterwards, answering};
+ghost use Rattle.tolerance.specs.Tolerance.{tolerances};
 ghost use Rattle.page.specs.Page.{lists};
 ghost use Rattle.trace.specs.Trace.{statedTrace, traceFlat};
 ghost use Rattle.merlontrispa.specs.Lines.{pathsAnswer};
@@ -31,6 +33,9 @@ pub extern "C" fn mt_trace_flat(
     grid: &[f64],
     m: usize,
     n: usize,
+    u_tolerance: f64,
+    v_tolerance: f64,
+    line_tolerance: f64,
     pairs: &[f64],
     marks: &[u8],
     points: &mut [f64],
@@ -42,16 +47,19 @@ pub extern "C" fn mt_trace_flat(
     ensures answer { λ r. ⌜ afterwards r
         (lists (now (points .exit)) (now (starts .exit)) (now (sides .exit)) (now (fractions .exit))
         (now (samples .exit)))
-        ≡ answering pathsAnswer (traceFlat (now (grid .entry)) m n (now (pairs .entry)) (now (marks .entry))
+        ≡ answering pathsAnswer (traceFlat (now (grid .entry)) m n
+        (tolerances «u_tolerance» «v_tolerance» «line_tolerance») (now (pairs .entry)) (now (marks .entry))
         (lists (now (points .entry)) (now (starts .entry)) (now (sides .entry)) (now (fractions .entry))
         (now (samples .entry)))) ⌝ }
     ensures demand { λ _. ⌜ Demand3 (now (grid .entry)) m n ⌝ }
     ensures numbers { λ _. ⌜ NumbersMet (now (grid .entry)) m n ⌝ }
 {
+    let tolerances = tolerances_from_c(u_tolerance, v_tolerance, line_tolerance);
     trace_to_c(trace::flat::trace_flat(
         grid,
         m,
         n,
+        tolerances,
         pairs,
         marks,
         points,

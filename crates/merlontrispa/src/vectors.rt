@@ -1,7 +1,6 @@
 // The Vector operations. A Vector goes in as its three components.
 use vector::Vector;
 ghost use mathlib.Core.Path.{_≡_};
-ghost use Rattle.float.specs.Consts.{eps};
 ghost use Rattle.vector.specs.Vectors.{allClose, minus, plus, scaled, vector};
 ghost use Rattle.merlontrispa.specs.Vectors.{components};
 
@@ -51,8 +50,16 @@ pub extern "C" fn mt_vector_mul_scalar(ax: f64, ay: f64, az: f64, s: f64) -> Com
 }
 
 #[no_mangle]
-pub extern "C" fn mt_vector_all_close(ax: f64, ay: f64, az: f64, bx: f64, by: f64, bz: f64) -> bool
-    ensures { λ r. ⌜ r ≡ allClose (vector ax ay az) (vector bx by bz) eps ⌝ }
+pub extern "C" fn mt_vector_all_close(
+    ax: f64,
+    ay: f64,
+    az: f64,
+    bx: f64,
+    by: f64,
+    bz: f64,
+    tolerance: f64,
+) -> bool
+    ensures { λ r. ⌜ r ≡ allClose (vector ax ay az) (vector bx by bz) tolerance ⌝ }
 {
-    from_c(ax, ay, az).all_close(from_c(bx, by, bz))
+    from_c(ax, ay, az).all_close(from_c(bx, by, bz), tolerance)
 }

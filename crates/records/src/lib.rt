@@ -2,6 +2,7 @@
 // flat trace.
 use param::ParamPoint;
 use refusal::Refusal;
+use tolerance::Tolerances;
 use trace::flat::Trace;
 use trace::flat::trace_flat;
 use trace::samples::MAX_MARKS;
@@ -61,6 +62,7 @@ fn trace_flattened(
     grid: &[f64],
     m: usize,
     n: usize,
+    tolerances: Tolerances,
     pairs: &[f64; MAX_NUMBERS],
     marks: &[u8; MAX_MARKS],
     count: usize,
@@ -74,7 +76,7 @@ fn trace_flattened(
         afterwards (statedTrace r)
         (lists (now (points .exit)) (now (starts .exit)) (now (sides .exit)) (now (fractions .exit))
         (now (samples .exit)))
-        ≡ traceFlat (now (grid .entry)) m n (pairsOf ss) (marksOf ss)
+        ≡ traceFlat (now (grid .entry)) m n tolerances (pairsOf ss) (marksOf ss)
         (lists (now (points .entry)) (now (starts .entry)) (now (sides .entry)) (now (fractions .entry))
         (now (samples .entry)))) ⌝ }
 {
@@ -93,6 +95,7 @@ fn trace_flattened(
         grid,
         m,
         n,
+        tolerances,
         used_pairs,
         used_marks,
         points,
@@ -109,6 +112,7 @@ pub fn trace_samples(
     grid: &[f64],
     m: usize,
     n: usize,
+    tolerances: Tolerances,
     records: &[Sample],
     points: &mut [f64],
     starts: &mut [usize],
@@ -119,7 +123,8 @@ pub fn trace_samples(
     ensures answer { λ r. ⌜ afterwards (statedTrace r)
         (lists (now (points .exit)) (now (starts .exit)) (now (sides .exit)) (now (fractions .exit))
         (now (samples .exit)))
-        ≡ traceFlat (now (grid .entry)) m n (pairsOf (now (records .entry))) (marksOf (now (records .entry)))
+        ≡ traceFlat (now (grid .entry)) m n tolerances (pairsOf (now (records .entry)))
+        (marksOf (now (records .entry)))
         (lists (now (points .entry)) (now (starts .entry)) (now (sides .entry)) (now (fractions .entry))
         (now (samples .entry))) ⌝ }
     ensures demand { λ _. ⌜ Demand3 (now (grid .entry)) m n ⌝ }
@@ -132,6 +137,7 @@ pub fn trace_samples(
         grid,
         m,
         n,
+        tolerances,
         &pairs,
         &marks,
         records.len(),

@@ -1,5 +1,5 @@
--- `trace_to_c` is given what `trace_flat` answers, the lists are those that it leaves, and its other two promises are
--- passed on.
+-- `trace_to_c` is given what `trace_flat` answers to the tolerances that `tolerances_from_c` makes, the lists are those
+-- that it leaves, and its other two promises are passed on.
 use borrow.Author.Needs.{needs}
 use Rattle.lent.proofs.Laws.{answered-in}
 use Rattle.merlontrispa.specs.Lines.{pathsAnswer}
@@ -10,15 +10,21 @@ use Rattle.merlontrispa.proofs.traces.mt_trace_flat.Tie as tie
 abbrev traced : tie.After-trace-to-c → tie.After-trace-flat
 traced c = c .before .before .before .before .before .before .before .before .before .before .before
 
+-- where the tolerances are made, from there
+abbrev made : tie.After-trace-flat → tie.After-tolerances-from-c
+made t = t .before .before .before .before .before .before
+
 returns : tie.Need-returns
 returns c =
-    let e = traced c .trace-flat .ensures in
-    (answered-in pathsAnswer (c .trace-to-c .ensures) (e .0), e .1)
+    let t = traced c in
+    let e = t .trace-flat .ensures in
+    (rw (← (made t .tolerances-from-c .ensures)) (answered-in pathsAnswer (c .trace-to-c .ensures) (e .0)), e .1)
 
 pub mt-trace-flat-spec : {M : Type 1} → statement M
 mt-trace-flat-spec =
     tie.close
     (tie.spec
+    (λ c κs. search needs)
     (λ c κs. search needs)
     (λ c κs. search needs)
     (λ c. search needs)
