@@ -5,6 +5,7 @@
 // it leaves out at the end are zero.
 
 use refusal::Refusal;
+use tolerance::Tolerances;
 
 fn wide(byte: u8) -> u64 {
     byte as u64
@@ -87,6 +88,15 @@ pub fn float(bits: u64) -> f64 {
         return 0.0 / 0.0;
     }
     f64::from_bits(bits)
+}
+
+// The tolerances of a call on a grid: the floats after its m and n.
+pub fn tolerances(numbers: &[u64]) -> Tolerances {
+    Tolerances {
+        u: float(word(numbers, 4)),
+        v: float(word(numbers, 5)),
+        line: float(word(numbers, 6)),
+    }
 }
 
 // Whether two floats have the same bits, or are both a NaN: the quotient tells the zeros apart.

@@ -8,6 +8,7 @@ use cases::words::field;
 use cases::words::is_refused;
 use cases::words::is_told;
 use cases::words::number;
+use cases::words::tolerances;
 use trace::flat::Trace;
 
 // The call, and what it answers and leaves.
@@ -30,6 +31,7 @@ fn compare_trace(
         grid,
         m,
         n,
+        tolerances(numbers),
         pairs,
         marks,
         points,

@@ -7,6 +7,7 @@ use cases::words::field;
 use cases::words::is_refused;
 use cases::words::is_told;
 use cases::words::number;
+use cases::words::tolerances;
 use mesh::Triangulation;
 
 fn compare_mesh(
@@ -20,7 +21,7 @@ fn compare_mesh(
     let taken = read_floats(field(case, 1), grid);
     let m = number(numbers, 2);
     let n = number(numbers, 3);
-    let told = match mesh::triangulate_grid(grid, m, n, triangles, flipped) {
+    let told = match mesh::triangulate_grid(grid, m, n, tolerances(numbers), triangles, flipped) {
         Triangulation::Triangulated(u, v, count, pairs) => {
             let u_seam = u.seam;
             let v_seam = v.seam;

@@ -2,6 +2,7 @@
 use cases::lists::read_floats;
 use cases::rooms;
 use cases::words::field;
+use cases::words::float;
 use cases::words::is_answered;
 use cases::words::is_refused;
 use cases::words::number;
@@ -64,9 +65,10 @@ pub fn same_seam(recorded: &[u64], seam: Seam, comparisons: u64) -> bool {
 
 fn compare_rows(case: &[u64], a: &mut [f64], b: &mut [f64]) -> bool {
     let taken = read_floats(field(case, 1), a) & read_floats(field(case, 2), b);
+    let tolerance = float(word(field(case, 0), 2));
     let answer = field(case, 3);
     let seam = field(case, 4);
-    let told = match CyclicMapping::new_vector(a, b) {
+    let told = match CyclicMapping::new_vector(a, b, tolerance) {
         SeamAnswer::Found(mapping, made) => {
             is_answered(answer) & same_seam(seam, Seam::Joined(mapping), made)
         }

@@ -18,9 +18,10 @@ fn same_vector(a: Vector, b: Vector) -> bool {
     same_float(a.x, b.x) & same_float(a.y, b.y) & same_float(a.z, b.z)
 }
 
-// Operation 0 add, 1 sub, 2 mul_scalar by the x of b, 3 all_close.
+// Operation 0 add, 1 sub, 2 mul_scalar by the x of b, 3 all_close at the tolerance that follows it.
 pub fn vector(case: &[u64]) -> bool {
-    let operation = word(field(case, 0), 2);
+    let numbers = field(case, 0);
+    let operation = word(numbers, 2);
     let a = vector_of(field(case, 1));
     let b = vector_of(field(case, 2));
     let recorded = field(case, 3);
@@ -33,5 +34,5 @@ pub fn vector(case: &[u64]) -> bool {
     if operation == 2 {
         return same_vector(a.mul_scalar(b.x), vector_of(recorded));
     }
-    a.all_close(b) == (word(recorded, 0) == 1)
+    a.all_close(b, float(word(numbers, 3))) == (word(recorded, 0) == 1)
 }
