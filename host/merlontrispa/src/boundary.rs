@@ -6,7 +6,7 @@
 //! `tests/declarations.rs` holds the structs and the functions to `crates`, from which the library is
 //! built, as it does `include/merlontrispa.h`.
 
-use crate::{Drawn, Lines, Refusal, Sample, TraceLists, Vector};
+use crate::{Drawn, Lines, Refusal, Sample, Tolerances, TraceLists, Vector};
 
 /// An index, or the number of a refusal.
 #[repr(C)]
@@ -160,7 +160,15 @@ unsafe extern "C" {
     pub safe fn mt_vector_add(ax: f64, ay: f64, az: f64, bx: f64, by: f64, bz: f64) -> Components;
     pub safe fn mt_vector_sub(ax: f64, ay: f64, az: f64, bx: f64, by: f64, bz: f64) -> Components;
     pub safe fn mt_vector_mul_scalar(ax: f64, ay: f64, az: f64, s: f64) -> Components;
-    pub safe fn mt_vector_all_close(ax: f64, ay: f64, az: f64, bx: f64, by: f64, bz: f64) -> bool;
+    pub safe fn mt_vector_all_close(
+        ax: f64,
+        ay: f64,
+        az: f64,
+        bx: f64,
+        by: f64,
+        bz: f64,
+        tolerance: f64,
+    ) -> bool;
 
     pub safe fn mt_is_reverse(reverse: bool, offset: usize, steps: usize) -> bool;
     pub safe fn mt_map_index(
@@ -175,7 +183,13 @@ unsafe extern "C" {
         steps: usize,
         b_idx: usize,
     ) -> IndexAnswer;
-    fn mt_new_vector(a: *const f64, a_len: usize, b: *const f64, b_len: usize) -> RowsAnswer;
+    fn mt_new_vector(
+        a: *const f64,
+        a_len: usize,
+        b: *const f64,
+        b_len: usize,
+        tolerance: f64,
+    ) -> RowsAnswer;
 
     fn mt_grid_paths(
         grid: *const f64,
@@ -211,6 +225,9 @@ unsafe extern "C" {
         grid_len: usize,
         m: usize,
         n: usize,
+        u_tolerance: f64,
+        v_tolerance: f64,
+        line_tolerance: f64,
         triangles: *mut usize,
         triangles_len: usize,
         flipped: *mut usize,
@@ -222,6 +239,9 @@ unsafe extern "C" {
         grid_len: usize,
         m: usize,
         n: usize,
+        u_tolerance: f64,
+        v_tolerance: f64,
+        line_tolerance: f64,
         pairs: *const f64,
         pairs_len: usize,
         marks: *const u8,
@@ -243,6 +263,9 @@ unsafe extern "C" {
         grid_len: usize,
         m: usize,
         n: usize,
+        u_tolerance: f64,
+        v_tolerance: f64,
+        line_tolerance: f64,
         records: *const Sample,
         records_len: usize,
         points: *mut f64,
@@ -280,8 +303,8 @@ macro_rules! call {
     };
 }
 
-pub fn new_vector(a: &[f64], b: &[f64]) -> RowsAnswer {
-    call!(mt_new_vector(a, b))
+pub fn new_vector(a: &[f64], b: &[f64], tolerance: f64) -> RowsAnswer {
+    call!(mt_new_vector(a, b; tolerance))
 }
 
 pub fn grid_paths(
@@ -308,20 +331,24 @@ pub fn triangulate_grid(
     grid: &[f64],
     m: usize,
     n: usize,
+    tolerances: Tolerances,
     triangles: &mut [usize],
     flipped: &mut [usize],
 ) -> MeshAnswer {
-    call!(mt_triangulate_grid(grid; m, n; ; triangles, flipped))
+    let Tolerances { u, v, line } = tolerances;
+    call!(mt_triangulate_grid(grid; m, n, u, v, line; ; triangles, flipped))
 }
 
 pub fn trace_flat(
     grid: &[f64],
     m: usize,
     n: usize,
+    tolerances: Tolerances,
     pairs: &[f64],
     marks: &[u8],
     lists: TraceLists<'_>,
 ) -> PathsAnswer {
+    let Tolerances { u, v, line } = tolerances;
     let TraceLists {
         points,
         starts,
@@ -329,16 +356,20 @@ pub fn trace_flat(
         fractions,
         samples,
     } = lists;
-    call!(mt_trace_flat(grid; m, n; pairs, marks; points, starts, sides, fractions, samples))
+    call!(mt_trace_flat(
+        grid; m, n, u, v, line; pairs, marks; points, starts, sides, fractions, samples
+    ))
 }
 
 pub fn trace_samples(
     grid: &[f64],
     m: usize,
     n: usize,
+    tolerances: Tolerances,
     records: &[Sample],
     lists: TraceLists<'_>,
 ) -> PathsAnswer {
+    let Tolerances { u, v, line } = tolerances;
     let TraceLists {
         points,
         starts,
@@ -346,12 +377,15 @@ pub fn trace_samples(
         fractions,
         samples,
     } = lists;
-    call!(mt_trace_samples(grid; m, n; records; points, starts, sides, fractions, samples))
+    call!(mt_trace_samples(
+        grid; m, n, u, v, line; records; points, starts, sides, fractions, samples
+    ))
 }
 
 #[cfg(test)]
 mod tests {
     use super::*;
+    use crate::EPS;
 
     fn is_zero(seam: FoundSeam) -> bool {
         let numbers = (seam.offset, seam.steps, seam.comparisons);
@@ -362,20 +396,29 @@ mod tests {
     #[test]
     fn a_refused_answer_has_zero_seams() {
         let far = [f64::NAN; 12];
-        for (number, grid, steps, room) in [
-            (1, &[0.0; 12][..], 256, 6),
-            (2, &[0.0; 11], 1, 6),
-            (3, &[0.0; 12], 1, 5),
-            (4, &far, 1, 6),
+        for (number, grid, steps, line, room) in [
+            (1, &[0.0; 12][..], 256, EPS, 6),
+            (2, &[0.0; 11], 1, EPS, 6),
+            (13, &[0.0; 12], 1, 0.0, 6),
+            (3, &[0.0; 12], 1, EPS, 5),
+            (4, &far, 1, EPS, 6),
         ] {
             let mut triangles = vec![7; room];
-            let answer = triangulate_grid(grid, steps, 1, &mut triangles, &mut [7; 4]);
+            let tolerances = Tolerances {
+                line,
+                ..Tolerances::default()
+            };
+            let answer = triangulate_grid(grid, steps, 1, tolerances, &mut triangles, &mut [7; 4]);
             assert_eq!(answer.refusal, number);
             assert!(is_zero(answer.u) && is_zero(answer.v), "{number}");
             assert_eq!((answer.triangles, answer.pairs), (0, 0), "{number}");
         }
-        for (number, row) in [(2, &[0.0; 7][..]), (4, &far)] {
-            let answer = new_vector(&[0.0; 12], row);
+        for (number, row, tolerance) in [
+            (2, &[0.0; 7][..], EPS),
+            (13, &[0.0; 12], 0.0),
+            (4, &far, EPS),
+        ] {
+            let answer = new_vector(&[0.0; 12], row, tolerance);
             assert_eq!(answer.refusal, number);
             assert!(is_zero(answer.seam), "{number}");
         }

@@ -49,6 +49,7 @@ mod mesh;
 mod refusal;
 mod surface;
 mod texture;
+mod tolerance;
 mod trace;
 mod vector;
 
@@ -58,5 +59,6 @@ pub use mesh::{Mesh, Seams, Triangulation, triangulate_grid};
 pub use refusal::Refusal;
 pub use surface::Surface;
 pub use texture::{Plan, Texture};
+pub use tolerance::{EPS, Tolerances};
 pub use trace::{OwnedTrace, ParamPoint, Sample, Trace, TraceLists, trace_flat, trace_samples};
 pub use vector::Vector;

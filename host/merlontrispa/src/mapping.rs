@@ -33,24 +33,31 @@ pub struct Seam {
 impl Mapping {
     /// The seam between two rows of points, three numbers each: the first offset at which a fits b,
     /// forward before reverse. Rows whose ends are close are tried at all offsets, others at 0. Rows
-    /// of unequal lengths, or of fewer than two points, do not meet, after 0 comparisons.
+    /// of unequal lengths, or of fewer than two points, do not meet, after 0 comparisons. Points are
+    /// close by the tolerance, as [`Vector::all_close`](crate::Vector::all_close) says.
     ///
     /// # Errors
-    /// 2 where a row is not of whole points or has more than 65,536, 4 where a coordinate is NaN,
+    /// 2 where a row is not of whole points or has more than 65,536, 13 where the tolerance is NaN,
+    /// infinite, not above zero or above 1, whatever the rows are, 4 where a coordinate is NaN,
     /// infinite or beyond ±2^40.
     ///
     /// ```
-    /// use merlontrispa::Mapping;
+    /// use merlontrispa::{EPS, Mapping};
     ///
     /// let a = [0.0, 0.0, 0.0, 1.0, 0.0, 0.0, 2.0, 0.0, 0.0];
     /// let b = [2.0, 0.0, 0.0, 1.0, 0.0, 0.0, 0.0, 0.0, 0.0];
-    /// let mapping = Mapping::new_vector(&a, &b)?.mapping.expect("b is a, turned round");
+    /// let mapping = Mapping::new_vector(&a, &b, EPS)?.mapping.expect("b is a, turned round");
     /// assert_eq!(mapping, Mapping::Reverse { offset: 0, steps: 2 });
     /// assert_eq!(mapping.map_index(2)?, 0);
+    ///
+    /// // A row beside b, a quarter away from it.
+    /// let beside = b.map(|x| x + 0.25);
+    /// assert_eq!(Mapping::new_vector(&a, &beside, 0.25)?.mapping, None);
+    /// assert_eq!(Mapping::new_vector(&a, &beside, 0.5)?.mapping, Some(mapping));
     /// # Ok::<(), merlontrispa::Refusal>(())
     /// ```
-    pub fn new_vector(a: &[f64], b: &[f64]) -> Result<Seam, Refusal> {
-        let answer = boundary::new_vector(a, b);
+    pub fn new_vector(a: &[f64], b: &[f64], tolerance: f64) -> Result<Seam, Refusal> {
+        let answer = boundary::new_vector(a, b, tolerance);
         Refusal::check(answer.refusal)?;
         Ok(answer.seam.into())
     }

@@ -1,6 +1,7 @@
 use crate::boundary;
 use crate::mapping::Seam;
 use crate::refusal::Refusal;
+use crate::tolerance::Tolerances;
 
 /// The two seams of a grid.
 #[derive(Debug, Clone, Copy, PartialEq, Eq, Hash)]
@@ -26,16 +27,20 @@ pub struct Triangulation {
 /// triangles that meet along a reversed seam, each (smaller, larger), ascending (Rules 4).
 ///
 /// The grid has three numbers for each point, and point (u, v) has the number `u * (v_steps + 1) + v`.
-/// All places of the two lists past what is written become zero.
+/// Of the tolerances those of the seams count, but none may be refused. All places of the two lists
+/// past what is written become zero.
 ///
 /// # Errors
-/// 1, 2, 3 (`triangles` has less than `6 * u_steps * v_steps` places, or `flipped` less than
-/// `2 * (u_steps + v_steps)`) and 4. The lists are then as they were.
+/// 1, 2, 13, 3 (`triangles` has less than `6 * u_steps * v_steps` places, or `flipped` less than
+/// `2 * (u_steps + v_steps)`) and 4, tested in this order. The lists are then as they were.
 ///
 /// ```
+/// use merlontrispa::{Tolerances, triangulate_grid};
+///
 /// let grid = [0.0, 0.0, 0.0, 0.0, 1.0, 0.0, 1.0, 0.0, 0.0, 1.0, 1.0, 5.0];
 /// let (mut triangles, mut flipped) = ([0; 6], [0; 4]);
-/// let written = merlontrispa::triangulate_grid(&grid, 1, 1, &mut triangles, &mut flipped)?;
+/// let tolerances = Tolerances::default();
+/// let written = triangulate_grid(&grid, 1, 1, tolerances, &mut triangles, &mut flipped)?;
 /// assert_eq!((written.triangles, written.flipped), (2, 0));
 /// assert_eq!(triangles, [0, 2, 1, 2, 3, 1]);
 /// # Ok::<(), merlontrispa::Refusal>(())
@@ -44,10 +49,11 @@ pub fn triangulate_grid(
     grid: &[f64],
     u_steps: usize,
     v_steps: usize,
+    tolerances: Tolerances,
     triangles: &mut [usize],
     flipped: &mut [usize],
 ) -> Result<Triangulation, Refusal> {
-    let answer = boundary::triangulate_grid(grid, u_steps, v_steps, triangles, flipped);
+    let answer = boundary::triangulate_grid(grid, u_steps, v_steps, tolerances, triangles, flipped);
     Refusal::check(answer.refusal)?;
     Ok(Triangulation {
         seams: Seams {

@@ -3,6 +3,7 @@ use crate::mapping::{Mapping, Seam};
 use crate::mesh::{Mesh, Seams, Triangulation, triangulate_grid};
 use crate::refusal::Refusal;
 use crate::texture::Texture;
+use crate::tolerance::Tolerances;
 use crate::trace::{OwnedTrace, Trace, TraceLists, trace_flat};
 
 /// A surface sampled into a grid of points, checked once.
@@ -32,10 +33,12 @@ pub struct Surface<'a> {
     grid: &'a [f64],
     u_steps: usize,
     v_steps: usize,
+    tolerances: Tolerances,
 }
 
 impl<'a> Surface<'a> {
-    /// The surface of a grid with M and N steps.
+    /// The surface of a grid with M and N steps. Its tolerances are the default,
+    /// [`EPS`](crate::EPS) three times.
     ///
     /// # Errors
     /// 1 for M or N that is not from 1 to 255, 2 for a grid that has not `3 * (M + 1) * (N + 1)`
@@ -50,12 +53,45 @@ impl<'a> Surface<'a> {
     /// ```
     pub fn new(grid: &'a [f64], u_steps: usize, v_steps: usize) -> Result<Self, Refusal> {
         // A trace without samples looks at the grid and at nothing else.
-        trace_flat(grid, u_steps, v_steps, &[], &[], TraceLists::default())?;
+        let (tolerances, lists) = (Tolerances::default(), TraceLists::default());
+        trace_flat(grid, u_steps, v_steps, tolerances, &[], &[], lists)?;
         Ok(Self {
             grid,
             u_steps,
             v_steps,
+            tolerances,
         })
+    }
+
+    /// The same grid with other tolerances, by which its seams are found and its lines drawn. Lines
+    /// of the grid ask for none.
+    ///
+    /// # Errors
+    /// 13 where one of the three is NaN, infinite, not above zero or above 1.
+    ///
+    /// ```
+    /// use merlontrispa::{EPS, Refusal, Surface, Tolerances};
+    ///
+    /// let grid = [0.0, 0.0, 0.0, 0.0, 1.0, 0.0, 1.0, 0.0, 0.0, 1.0, 1.0, 0.0];
+    /// let surface = Surface::new(&grid, 1, 1)?;
+    /// let coarse = Tolerances { u: EPS, v: EPS, line: 0.5 };
+    /// // The last point is a quarter from the one before it.
+    /// let curve = [Some([0.0, 0.25]), Some([0.75, 0.25]), Some([1.0, 0.25])];
+    /// assert_eq!(surface.trace(&curve)?.lines.points.len(), 3);
+    /// assert_eq!(surface.with_tolerances(coarse)?.trace(&curve)?.lines.points.len(), 2);
+    ///
+    /// let refused = Tolerances { line: 0.0, ..coarse };
+    /// assert_eq!(surface.with_tolerances(refused), Err(Refusal::Tolerance));
+    /// # Ok::<(), merlontrispa::Refusal>(())
+    /// ```
+    pub fn with_tolerances(self, tolerances: Tolerances) -> Result<Self, Refusal> {
+        tolerances.check()?;
+        Ok(Self { tolerances, ..self })
+    }
+
+    /// Its tolerances.
+    pub fn tolerances(self) -> Tolerances {
+        self.tolerances
     }
 
     /// M, the number of steps in u.
@@ -78,7 +114,8 @@ impl<'a> Surface<'a> {
         self.grid.as_chunks().0
     }
 
-    /// The seam between column u = 0 and column u = M, and the one between row v = 0 and row v = N.
+    /// The seam between column u = 0 and column u = M, by the tolerance of u, and the one between
+    /// row v = 0 and row v = N, by that of v.
     ///
     /// ```
     /// use merlontrispa::{Mapping, Surface};
@@ -102,8 +139,8 @@ impl<'a> Surface<'a> {
         let (first_column, _) = self.points().split_at(column);
         let (_, last_column) = self.points().split_at(self.u_steps * column);
         Seams {
-            u: seam(first_column, last_column),
-            v: seam(first_row, last_row),
+            u: seam(first_column, last_column, self.tolerances.u),
+            v: seam(first_row, last_row, self.tolerances.v),
         }
     }
 
@@ -117,7 +154,7 @@ impl<'a> Surface<'a> {
         2 * (self.u_steps + self.v_steps)
     }
 
-    /// [`triangulate_grid`] of this surface.
+    /// [`triangulate_grid`] of this surface, with its tolerances.
     ///
     /// # Errors
     /// 3 for a list shorter than [`Surface::triangles_room`] or [`Surface::flipped_room`]; both are
@@ -140,7 +177,8 @@ impl<'a> Surface<'a> {
         triangles: &mut [usize],
         flipped: &mut [usize],
     ) -> Result<Triangulation, Refusal> {
-        triangulate_grid(self.grid, self.u_steps, self.v_steps, triangles, flipped)
+        let (m, n) = (self.u_steps, self.v_steps);
+        triangulate_grid(self.grid, m, n, self.tolerances, triangles, flipped)
     }
 
     /// Allocates two lists and does [`Surface::triangulate_into`] with them.
@@ -208,8 +246,8 @@ impl<'a> Surface<'a> {
         lines
     }
 
-    /// The lines of a curve across the cells, by [`trace_flat`]: `pairs` has u and v of each
-    /// sample, and `marks` is 1 for a point and 0 for a break.
+    /// The lines of a curve across the cells, by [`trace_flat`] with this surface's tolerances:
+    /// `pairs` has u and v of each sample, and `marks` is 1 for a point and 0 for a break.
     ///
     /// # Errors
     /// 2 for pairs that are not two numbers for each mark or more than 65,537 marks, 9 and 10,
@@ -241,8 +279,8 @@ impl<'a> Surface<'a> {
         marks: &[u8],
         mut lists: TraceLists<'b>,
     ) -> Result<Trace<'b>, Refusal> {
-        let lent = lists.reborrow();
-        let drawn = trace_flat(self.grid, self.u_steps, self.v_steps, pairs, marks, lent)?;
+        let (m, n, lent) = (self.u_steps, self.v_steps, lists.reborrow());
+        let drawn = trace_flat(self.grid, m, n, self.tolerances, pairs, marks, lent)?;
         Ok(Trace::new(lists, drawn))
     }
 
@@ -355,13 +393,14 @@ impl<'a> Surface<'a> {
     }
 }
 
-/// The seam between two rows of a checked grid.
-fn seam(a: &[[f64; 3]], b: &[[f64; 3]]) -> Seam {
-    answered(Mapping::new_vector(a.as_flattened(), b.as_flattened()))
+/// The seam between two rows of a checked grid, by a checked tolerance.
+fn seam(a: &[[f64; 3]], b: &[[f64; 3]], tolerance: f64) -> Seam {
+    let (a, b) = (a.as_flattened(), b.as_flattened());
+    answered(Mapping::new_vector(a, b, tolerance))
 }
 
-/// The answer of a call of which all refusals are ruled out: the grid was checked, and the lists are as
-/// long as they need be.
+/// The answer of a call of which all refusals are ruled out: the grid and the tolerances were checked,
+/// and the lists are as long as they need be.
 fn answered<T>(answer: Result<T, Refusal>) -> T {
     answer.unwrap_or_else(|refusal| unreachable!("{refusal}"))
 }

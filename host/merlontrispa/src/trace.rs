@@ -1,6 +1,7 @@
 use crate::boundary;
 use crate::lines::{Drawn, Lines, OwnedLines};
 use crate::refusal::Refusal;
+use crate::tolerance::Tolerances;
 
 /// The lists that a trace is written to. A point takes three numbers of `points`, two of `sides`,
 /// one of `fractions` and one of `samples`; an end of a list that is too short for one more point
@@ -47,9 +48,9 @@ pub struct Trace<'a> {
     ///
     /// Numbers never fall from a point to the next, on into the next line too. Each is at least 1
     /// and less than the count of samples; for a number k, samples k - 1 and k are points. A point
-    /// that is left out, because it is close to the last one of its line, leaves that one's number as
-    /// it is: where a leg begins at the point at which the one before it ended, the number of the
-    /// earlier leg stands.
+    /// that is left out, because it is close to the last one of its line by [`Tolerances::line`],
+    /// leaves that one's number as it is: where a leg begins at the point at which the one before it
+    /// ended, the number of the earlier leg stands.
     pub samples: &'a [usize],
 }
 
@@ -121,13 +122,16 @@ impl OwnedTrace {
 /// The lines that a curve draws where it crosses the sides of a grid's triangles (Rules 6 and 7).
 ///
 /// The curve is a list of samples: `pairs` has u and v of each, and `marks` is 1 for a point and 0 for
-/// a break, whose pair is not looked at. All places of the lists past what is drawn become zero.
+/// a break, whose pair is not looked at. A point that is close to the last one of its line, by the
+/// tolerance of lines, is left out; the other two tolerances change nothing, but none may be refused.
+/// All places of the lists past what is drawn become zero.
 ///
 /// # Errors
-/// 1, 2, 4, 9 and 10, which leave the lists as they were; 11 and 12, which leave them all zero.
+/// 1, 2, 13, 4, 9 and 10, tested in this order, which leave the lists as they were; 11 and 12, which
+/// leave them all zero.
 ///
 /// ```
-/// use merlontrispa::{TraceLists, trace_flat};
+/// use merlontrispa::{Tolerances, TraceLists, trace_flat};
 ///
 /// let grid = [0.0, 0.0, 0.0, 0.0, 1.0, 0.0, 1.0, 0.0, 0.0, 1.0, 1.0, 5.0];
 /// let (mut points, mut starts) = ([0.0; 6], [0; 1]);
@@ -139,7 +143,8 @@ impl OwnedTrace {
 ///     fractions: &mut fractions,
 ///     samples: &mut samples,
 /// };
-/// let drawn = trace_flat(&grid, 1, 1, &[0.0, 0.25, 0.75, 0.25], &[1, 1], lists)?;
+/// let (tolerances, pairs) = (Tolerances::default(), [0.0, 0.25, 0.75, 0.25]);
+/// let drawn = trace_flat(&grid, 1, 1, tolerances, &pairs, &[1, 1], lists)?;
 /// assert_eq!((drawn.points, drawn.lines), (2, 1));
 /// assert_eq!((sides, fractions), ([0, 1, 2, 1], [0.25, 0.25]));
 /// // Both points were made from the leg that ends at sample 1.
@@ -150,11 +155,12 @@ pub fn trace_flat(
     grid: &[f64],
     u_steps: usize,
     v_steps: usize,
+    tolerances: Tolerances,
     pairs: &[f64],
     marks: &[u8],
     lists: TraceLists<'_>,
 ) -> Result<Drawn, Refusal> {
-    boundary::trace_flat(grid, u_steps, v_steps, pairs, marks, lists).into()
+    boundary::trace_flat(grid, u_steps, v_steps, tolerances, pairs, marks, lists).into()
 }
 
 /// A point of the parameter plane.
@@ -203,11 +209,11 @@ impl Sample {
 /// [`trace_flat`], which needs 14 KB; a thread that Rust starts has 2 MiB unless it asks for less.
 ///
 /// # Errors
-/// 1, 2 (more than 65,537 records), 4, 9 and 10, which leave the lists as they were; 11 and 12, which
-/// leave them all zero.
+/// 1, 2 (more than 65,537 records), 13, 4, 9 and 10, tested in this order, which leave the lists as
+/// they were; 11 and 12, which leave them all zero.
 ///
 /// ```
-/// use merlontrispa::{Sample, TraceLists, trace_samples};
+/// use merlontrispa::{Sample, Tolerances, TraceLists, trace_samples};
 ///
 /// let grid = [0.0, 0.0, 0.0, 0.0, 1.0, 0.0, 1.0, 0.0, 0.0, 1.0, 1.0, 5.0];
 /// let records = [Sample::BREAK, Sample::at(0.0, 0.25), Sample::at(0.75, 0.25)];
@@ -220,7 +226,7 @@ impl Sample {
 ///     fractions: &mut fractions,
 ///     samples: &mut samples,
 /// };
-/// let drawn = trace_samples(&grid, 1, 1, &records, lists)?;
+/// let drawn = trace_samples(&grid, 1, 1, Tolerances::default(), &records, lists)?;
 /// assert_eq!((drawn.points, drawn.lines), (2, 1));
 /// assert_eq!((sides, fractions), ([0, 1, 2, 1], [0.25, 0.25]));
 /// // The break is counted too.
@@ -231,8 +237,9 @@ pub fn trace_samples(
     grid: &[f64],
     u_steps: usize,
     v_steps: usize,
+    tolerances: Tolerances,
     records: &[Sample],
     lists: TraceLists<'_>,
 ) -> Result<Drawn, Refusal> {
-    boundary::trace_samples(grid, u_steps, v_steps, records, lists).into()
+    boundary::trace_samples(grid, u_steps, v_steps, tolerances, records, lists).into()
 }

@@ -3,10 +3,11 @@ use crate::boundary;
 /// A point or direction of three f64. The operations round once per component.
 ///
 /// ```
-/// use merlontrispa::Vector;
+/// use merlontrispa::{EPS, Vector};
 ///
 /// let p = Vector::new(1.0, 2.0, 3.0);
-/// assert!(p.all_close(p.add(Vector::new(1e-10, 0.0, 0.0))));
+/// let q = p.add(Vector::new(0.25, 0.0, 0.0));
+/// assert!(p.all_close(q, 0.5) && !p.all_close(q, 0.25) && !p.all_close(q, EPS));
 /// ```
 #[derive(Debug, Clone, Copy, PartialEq, Default)]
 pub struct Vector {
@@ -42,9 +43,21 @@ impl Vector {
     }
 
     /// Whether the two are close (Rules 2.1): of the magnitudes of their three differences, the
-    /// largest is less than 10^-9.
-    pub fn all_close(self, other: Self) -> bool {
-        boundary::mt_vector_all_close(self.x, self.y, self.z, other.x, other.y, other.z)
+    /// largest is less than the tolerance.
+    ///
+    /// It takes every tolerance, also those that other calls refuse: with one that is NaN or not
+    /// above zero nothing is close.
+    ///
+    /// ```
+    /// use merlontrispa::Vector;
+    ///
+    /// let p = Vector::new(1.0, 2.0, 3.0);
+    /// assert!(p.all_close(p, 5e-324) && p.all_close(p, f64::INFINITY));
+    /// assert!(!p.all_close(p, 0.0) && !p.all_close(p, f64::NAN));
+    /// ```
+    pub fn all_close(self, other: Self, tolerance: f64) -> bool {
+        let (Self { x, y, z }, o) = (self, other);
+        boundary::mt_vector_all_close(x, y, z, o.x, o.y, o.z, tolerance)
     }
 }
 
