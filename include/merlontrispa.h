@@ -18,11 +18,16 @@
  * written must overlap no other list of the call; two lists that are read may. A list of length 0
  * is never looked at, so its pointer may be NULL.
  *
+ * Tolerances (Rules 2). Points count as one where they are close by a tolerance, as
+ * mt_vector_all_close says: by u_tolerance at the u seam, by v_tolerance at the v seam, by
+ * line_tolerance along a traced line. Each is above 0 and at most 1; 1e-9 is that of the original.
+ * A function that takes all three tests each of them, used or not.
+ *
  * Answers. `refusal` is MT_OK, which is 0, or the number of a refusal. A refused answer has 0 in
- * all other fields. Refusals 1 to 10 leave the written lists as they were, 11 and 12 leave them all
- * zero. After success each place of a written list past what the answer's counts name is zero
- * (Rules 8). Where more than one refusal applies, the first in the order that stands above the
- * function is answered; 11 and 12 come as the walk along the curve meets them (Rules 11.2).
+ * all other fields. Refusals 11 and 12 leave the written lists all zero, the others as they were.
+ * After success each place of a written list past what the answer's counts name is zero (Rules 8).
+ * Where more than one refusal applies, the first in the order that stands above the function is
+ * answered; 11 and 12 come as the walk along the curve meets them (Rules 11.2).
  *
  * The library allocates nothing and keeps nothing between calls: it calls no function but C's
  * memset, memcpy and memmove, and has no data that it writes. So any number of threads may call it
@@ -76,7 +81,9 @@ enum mt_refusal {
     /* The curve meets a side where no cell can be told (the original panics there). */
     MT_NO_STEP = 11,
     /* A lent list is full. */
-    MT_FULL = 12
+    MT_FULL = 12,
+    /* A tolerance is NaN, infinite, not above zero or above 1. */
+    MT_TOLERANCE = 13
 };
 
 /* ---- Seams (Rules 3) ------------------------------------------------------------------------- */
@@ -112,12 +119,14 @@ typedef struct mt_rows_answer {
 
 /*
  * Searches the seam between two rows of points, three numbers each: the first offset at which a
- * fits b, forward before reverse. Rows whose ends are close (mt_vector_all_close) are tried at all
- * offsets, others at 0 alone. Rows of different lengths, or of fewer than two points, do not meet,
- * after 0 comparisons.
- * Refusals: 2 (a row is not of whole points, or has more than 65,536), 4.
+ * fits b, forward before reverse. Points fit where they are close by the tolerance
+ * (mt_vector_all_close). Rows whose ends are close are tried at all offsets, others at 0 alone.
+ * Rows of different lengths, or of fewer than two points, do not meet, after 0 comparisons; their
+ * tolerance is tested too.
+ * Refusals: 2 (a row is not of whole points, or has more than 65,536), 13, 4.
  */
-mt_rows_answer mt_new_vector(const double *a, size_t a_len, const double *b, size_t b_len);
+mt_rows_answer mt_new_vector(const double *a, size_t a_len, const double *b, size_t b_len,
+                             double tolerance);
 
 /* Whether the rows of a mapping run against each other: `reverse`, whatever the other two are. */
 bool mt_is_reverse(bool reverse, size_t offset, size_t steps);
@@ -150,14 +159,16 @@ typedef struct mt_mesh_answer {
 } mt_mesh_answer;
 
 /*
- * Finds the seams of a grid, joins them, and writes its triangles, three point numbers each, and
- * the pairs of triangles that meet along a reversed seam, two triangle numbers each, (smaller,
- * larger), ascending.
+ * Finds the seams of a grid, that of u by u_tolerance and that of v by v_tolerance, joins them, and
+ * writes its triangles, three point numbers each, and the pairs of triangles that meet along a
+ * reversed seam, two triangle numbers each, (smaller, larger), ascending. line_tolerance is tested
+ * and not used.
  * Leaves 3 * triangles numbers in `triangles`, 2 * pairs in `flipped`, and zeros after them.
- * Refusals: 1, 2, 3 (`triangles` has less than 6 * m * n places, or `flipped` less than
+ * Refusals: 1, 2, 13, 3 (`triangles` has less than 6 * m * n places, or `flipped` less than
  * 2 * (m + n)), 4.
  */
 mt_mesh_answer mt_triangulate_grid(const double *grid, size_t grid_len, size_t m, size_t n,
+                                   double u_tolerance, double v_tolerance, double line_tolerance,
                                    size_t *triangles, size_t triangles_len,
                                    size_t *flipped, size_t flipped_len);
 
@@ -223,7 +234,9 @@ mt_part mt_get(const double *points, size_t points_len,
 /*
  * Draws the lines of a curve where it crosses the sides of a grid's triangles. The curve is a list
  * of samples: `pairs` has u and v of each, and `marks` is 1 for a point and 0 for a break, whose
- * pair is not looked at. A line has at least two points.
+ * pair is not looked at. A line has at least two points. A point that is close to the last one of
+ * its line, by line_tolerance, is left out; u_tolerance and v_tolerance are tested and not used.
+ * Whether the curve is on a side, or inside the grid, is decided by 1e-9 whatever the tolerances.
  * Each drawn point is (1 - t) * p + t * q for two grid points p and q. It takes three numbers of
  * `points`, two of `sides` (the number of p, that of q), one of `fractions` (t) and one of
  * `samples`; an end of a list that is too short for one more point holds none. Each line takes one
@@ -231,13 +244,14 @@ mt_part mt_get(const double *points, size_t points_len,
  * A point's number in `samples` says which leg of the curve made it, a leg being what lies between
  * a sample and the next: it is the number of the leg's later sample, counted from 0, breaks too. So
  * it is at least 1, samples k - 1 and k are points for a number k, and numbers never fall from a
- * drawn point to the next, on into the next line too. A point that is left out, because it is close
- * to the last one of its line, leaves that one's number as it is.
+ * drawn point to the next, on into the next line too. A point that is left out leaves the number of
+ * the one that it is close to as it is.
  * Leaves so many numbers for each point and line of the answer in the lists, and zeros after them.
  * Refusals: 1, 2 (`grid` has not 3 * (m + 1) * (n + 1) numbers, `pairs` not two for each mark, or
- * there are more than 65,537 marks), 4, 9, 10; 11 and 12, which leave all five lists zero.
+ * there are more than 65,537 marks), 13, 4, 9, 10; 11 and 12, which leave all five lists zero.
  */
 mt_paths_answer mt_trace_flat(const double *grid, size_t grid_len, size_t m, size_t n,
+                              double u_tolerance, double v_tolerance, double line_tolerance,
                               const double *pairs, size_t pairs_len,
                               const uint8_t *marks, size_t marks_len,
                               double *points, size_t points_len,
@@ -266,6 +280,7 @@ typedef struct mt_sample {
  * Refusals: those of mt_trace_flat; 2 where there are more than 65,537 records.
  */
 mt_paths_answer mt_trace_samples(const double *grid, size_t grid_len, size_t m, size_t n,
+                                 double u_tolerance, double v_tolerance, double line_tolerance,
                                  const mt_sample *records, size_t records_len,
                                  double *points, size_t points_len,
                                  size_t *starts, size_t starts_len,
@@ -351,9 +366,11 @@ mt_components mt_vector_sub(double ax, double ay, double az, double bx, double b
 /* The components of a times s, rounded once each. */
 mt_components mt_vector_mul_scalar(double ax, double ay, double az, double s);
 
-/* Whether a and b are close: of the magnitudes of their three differences, the largest (mt_max) is
- * less than 10^-9. */
-bool mt_vector_all_close(double ax, double ay, double az, double bx, double by, double bz);
+/* Whether a and b are close by a tolerance: of the magnitudes of their three differences, the
+ * largest (mt_max) is less than it. Any tolerance is taken; with one that is a NaN or not above
+ * zero nothing is close. */
+bool mt_vector_all_close(double ax, double ay, double az, double bx, double by, double bz,
+                         double tolerance);
 
 /* ---- Numbers (Rules 12) ---------------------------------------------------------------------- */
 

@@ -27,8 +27,8 @@ pub struct Triangulation {
 /// triangles that meet along a reversed seam, each (smaller, larger), ascending (Rules 4).
 ///
 /// The grid has three numbers for each point, and point (u, v) has the number `u * (v_steps + 1) + v`.
-/// Of the tolerances those of the seams count, but none may be refused. All places of the two lists
-/// past what is written become zero.
+/// The tolerance of lines is tested and not used. All places of the two lists past what is written
+/// become zero.
 ///
 /// # Errors
 /// 1, 2, 13, 3 (`triangles` has less than `6 * u_steps * v_steps` places, or `flipped` less than

@@ -123,8 +123,8 @@ impl OwnedTrace {
 ///
 /// The curve is a list of samples: `pairs` has u and v of each, and `marks` is 1 for a point and 0 for
 /// a break, whose pair is not looked at. A point that is close to the last one of its line, by the
-/// tolerance of lines, is left out; the other two tolerances change nothing, but none may be refused.
-/// All places of the lists past what is drawn become zero.
+/// tolerance of lines, is left out; the other two are tested and not used. All places of the lists
+/// past what is drawn become zero.
 ///
 /// # Errors
 /// 1, 2, 13, 4, 9 and 10, tested in this order, which leave the lists as they were; 11 and 12, which
