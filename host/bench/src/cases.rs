@@ -1,9 +1,9 @@
 //! The rows of the table.
 
 use crate::clock::{Table, call};
-use crate::inputs::{Lists, circle, grid, klein, turn};
+use crate::inputs::{Lists, TOLERANCES, circle, grid, klein, turn};
 use crate::rows;
-use merlontrispa::{Sample, trace_flat, trace_samples};
+use merlontrispa::{EPS, Mapping, Sample, trace_flat, trace_samples};
 
 /// Cells along u and along v.
 const STEPS: usize = 255;
@@ -53,6 +53,13 @@ fn seams(table: &Table) {
     ] {
         rows::seam(table, name, a, &b);
     }
+    let row = open.as_flattened();
+    // The points are further apart than either, so that both search the same.
+    table.row(
+        "seam at 0.5 beside EPS, open, 256 points",
+        call(|| Mapping::new_vector(row, row, 0.5)),
+        call(|| Mapping::new_vector(row, row, EPS)),
+    );
 }
 
 /// The entry that takes records beside the flat one, in the place of the original.
@@ -63,8 +70,14 @@ fn records(table: &Table, grid: &[f64]) {
     let [mut by_records, mut by_flat] = [0; 2].map(|_| Lists::new(8 * samples.len()));
     table.row(
         "records beside flat, 10,000 legs of half a step",
-        call(|| trace_samples(grid, STEPS, STEPS, &records, by_records.lend())),
-        call(|| trace_flat(grid, STEPS, STEPS, pairs, &marks, by_flat.lend())),
+        call(|| {
+            let lists = by_records.lend();
+            trace_samples(grid, STEPS, STEPS, TOLERANCES, &records, lists)
+        }),
+        call(|| {
+            let lists = by_flat.lend();
+            trace_flat(grid, STEPS, STEPS, TOLERANCES, pairs, &marks, lists)
+        }),
     );
     assert_eq!(by_records, by_flat);
 }

@@ -1,7 +1,14 @@
 //! Surfaces and rows to measure on, and lists to draw into.
 
-use merlontrispa::TraceLists;
+use merlontrispa::{EPS, Tolerances, TraceLists};
 use std::f64::consts::TAU;
+
+/// Those of the original, so that both do the same.
+pub const TOLERANCES: Tolerances = Tolerances {
+    u: EPS,
+    v: EPS,
+    line: EPS,
+};
 
 /// The numbers of a grid of `steps` by `steps` cells, from the point at each u and v.
 pub fn grid(steps: usize, point: impl Fn(usize, usize) -> [f64; 3]) -> Vec<f64> {

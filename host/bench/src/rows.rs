@@ -1,8 +1,8 @@
 //! Rows of the table: a call of the library beside the original's, on the same input.
 
 use crate::clock::{Input, Table, call};
-use crate::inputs::Lists;
-use merlontrispa::{Mapping, grid_paths, trace_flat, triangulate_grid};
+use crate::inputs::{Lists, TOLERANCES};
+use merlontrispa::{EPS, Mapping, grid_paths, trace_flat, triangulate_grid};
 use original::{CyclicMapping, ParametricSurfaceTexture, Sample, Surface, vectors};
 
 /// The search for the seam between two rows.
@@ -11,7 +11,7 @@ pub fn seam(table: &Table, name: &str, a: &[[f64; 3]], b: &[[f64; 3]]) {
     let [p, q] = [a, b].map(vectors);
     table.row(
         name,
-        call(|| Mapping::new_vector(a, b)),
+        call(|| Mapping::new_vector(a, b, EPS)),
         call(|| CyclicMapping::new_vector(&p, &q)),
     );
 }
@@ -22,7 +22,10 @@ pub fn triangles(table: &Table, name: &str, steps: usize, grid: &[f64]) {
     let (mut triangles, mut flipped) = (vec![0; 6 * steps * steps], vec![0; 4 * steps]);
     table.row(
         name,
-        call(|| triangulate_grid(grid, steps, steps, &mut triangles, &mut flipped)),
+        call(|| {
+            let (triangles, flipped) = (&mut triangles, &mut flipped);
+            triangulate_grid(grid, steps, steps, TOLERANCES, triangles, flipped)
+        }),
         Input(
             || points.clone(),
             |points| Surface::triangulate(points, steps, steps),
@@ -49,7 +52,10 @@ pub fn trace(table: &Table, name: &str, steps: usize, grid: &[f64], samples: &[[
     let paths = surface.trace(&curve).expect("the original draws it");
     let mut lists = Lists::new(paths.total_len());
     let (pairs, marks) = (samples.as_flattened(), vec![1; samples.len()]);
-    let mut library = || trace_flat(grid, steps, steps, pairs, &marks, lists.lend());
+    let mut library = || {
+        let lists = lists.lend();
+        trace_flat(grid, steps, steps, TOLERANCES, pairs, &marks, lists)
+    };
     let drawn = library().expect("the lists hold it");
     assert_eq!(drawn.points, paths.total_len(), "both draw the same");
     table.row(name, call(library), call(|| surface.trace(&curve)));

@@ -6,9 +6,9 @@
 //! that ends well is found by halving. What a call takes is the depth that it costs against a call
 //! of nothing, in bytes.
 
-use crate::inputs::{Lists, circle, klein};
+use crate::inputs::{Lists, TOLERANCES, circle, klein};
 use merlontrispa::{
-    Drawn, Lines, Mapping, Refusal, Sample, Texture, TraceLists, grid_paths, trace_flat,
+    Drawn, EPS, Lines, Mapping, Refusal, Sample, Texture, TraceLists, grid_paths, trace_flat,
     trace_samples, triangulate_grid,
 };
 use std::env;
@@ -160,13 +160,16 @@ fn search() -> Call {
         let points = (0..=steps).flat_map(|j| circle(j + shift, steps));
         points.map(|x| 1e3 * x).collect()
     });
-    Box::new(move || Mapping::new_vector(&a, &b).is_ok())
+    Box::new(move || Mapping::new_vector(&a, &b, EPS).is_ok())
 }
 
 fn triangulation() -> Call {
     let (grid, mut triangles) = (klein(STEPS), vec![0; 6 * STEPS * STEPS]);
     let mut flipped = vec![0; 4 * STEPS];
-    Box::new(move || triangulate_grid(&grid, STEPS, STEPS, &mut triangles, &mut flipped).is_ok())
+    Box::new(move || {
+        let (triangles, flipped) = (&mut triangles, &mut flipped);
+        triangulate_grid(&grid, STEPS, STEPS, TOLERANCES, triangles, flipped).is_ok()
+    })
 }
 
 fn grid_lines() -> Call {
@@ -196,14 +199,15 @@ fn line() -> Call {
 fn flat_trace() -> Call {
     let (samples, marks) = (across(), vec![1; 100]);
     drawing(move |grid, lists| {
-        trace_flat(grid, STEPS, STEPS, samples.as_flattened(), &marks, lists)
+        let pairs = samples.as_flattened();
+        trace_flat(grid, STEPS, STEPS, TOLERANCES, pairs, &marks, lists)
     })
 }
 
 fn trace_of_records() -> Call {
     let records = across().into_iter().map(|[u, v]| Sample::at(u, v));
     let records: Vec<_> = records.collect();
-    drawing(move |grid, lists| trace_samples(grid, STEPS, STEPS, &records, lists))
+    drawing(move |grid, lists| trace_samples(grid, STEPS, STEPS, TOLERANCES, &records, lists))
 }
 
 /// 100 samples from corner to corner and back.

@@ -2,7 +2,7 @@
 //! texture.
 
 use crate::clock::{Table, call};
-use crate::inputs::{Lists, grid};
+use crate::inputs::{Lists, TOLERANCES, grid};
 use merlontrispa::{Refusal, Texture, trace_flat};
 use original::{ParametricSurfaceTexture, Surface, vectors};
 
@@ -85,8 +85,8 @@ impl Drawing {
 
     /// Appends the lines of the samples.
     fn trace(&mut self, grid: &[f64]) -> Result<(), Refusal> {
-        let (pairs, marks) = (&self.pairs, &self.marks);
-        let drawn = trace_flat(grid, STEPS, STEPS, pairs, marks, self.lists.lend())?;
+        let (pairs, marks, lists) = (&self.pairs, &self.marks, self.lists.lend());
+        let drawn = trace_flat(grid, STEPS, STEPS, TOLERANCES, pairs, marks, lists)?;
         let (points, starts) = &mut self.all;
         let before = points.len() / 3;
         let new = &self.lists.starts[..drawn.lines];

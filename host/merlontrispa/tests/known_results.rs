@@ -1,10 +1,11 @@
 //! The known results of Rules 3, 4, 6 and 7, on the library: each that an open call can show.
-//! `host/original/tests/known_results.rs` has the same ones on the original.
+//! `host/original/tests/known_results.rs` has the same ones on the original. Those of other
+//! tolerances than EPS are in `tolerances.rs`.
 
 use merlontrispa::Mapping::{Forward, Reverse};
-use merlontrispa::{Drawn, Mapping, Refusal, Seam, Surface, TraceLists, trace_flat};
-
-const EPS: f64 = 1e-9;
+use merlontrispa::{
+    Drawn, EPS, Mapping, Refusal, Seam, Surface, Tolerances, TraceLists, trace_flat,
+};
 
 /// One cell, flat, so that nothing joins.
 const CELL: [f64; 12] = [0.0, 0.0, 0.0, 0.0, 1.0, 0.0, 1.0, 0.0, 0.0, 1.0, 1.0, 0.0];
@@ -12,7 +13,7 @@ const CELL: [f64; 12] = [0.0, 0.0, 0.0, 0.0, 1.0, 0.0, 1.0, 0.0, 0.0, 1.0, 1.0, 
 /// The seam of two rows on the x axis.
 fn search(a: &[f64], b: &[f64]) -> Seam {
     let [a, b] = [a, b].map(|xs| xs.iter().flat_map(|&x| [x, 0.0, 0.0]).collect::<Vec<_>>());
-    Mapping::new_vector(&a, &b).expect("two rows")
+    Mapping::new_vector(&a, &b, EPS).expect("two rows")
 }
 
 #[test]
@@ -101,7 +102,16 @@ fn traced_with(
         fractions: &mut fractions,
         samples: &mut samples,
     };
-    let answer = trace_flat(&CELL, 1, 1, [from, to].as_flattened(), &[1, 1], lists);
+    let (tolerances, pairs) = (Tolerances::default(), [from, to]);
+    let answer = trace_flat(
+        &CELL,
+        1,
+        1,
+        tolerances,
+        pairs.as_flattened(),
+        &[1, 1],
+        lists,
+    );
     let numbers = starts.iter().chain(&sides).chain(&samples);
     let numbers = numbers.map(|&number| number as f64);
     let left = points.iter().chain(&fractions).copied().chain(numbers);
