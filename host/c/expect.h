@@ -1,5 +1,5 @@
-/* What test.c and guard.c share: the counts of what held and what did not, and what tells seams
- * apart. */
+/* What test.c and guard.c share: the counts of what held and what did not, what tells seams apart,
+ * and tolerances. */
 #ifndef EXPECT_H
 #define EXPECT_H
 
@@ -31,6 +31,17 @@ static inline bool mesh_empty(mt_mesh_answer mesh) {
     return same_seam(mesh.u, (mt_found_seam){0}) && same_seam(mesh.v, (mt_found_seam){0})
         && mesh.triangles == 0 && mesh.pairs == 0;
 }
+
+/* Tolerances, as they are lent together. */
+typedef struct tolerances {
+    double u, v, line;
+} tolerances;
+
+/* Tolerances, as three arguments. */
+#define GIVEN(tolerances) (tolerances).u, (tolerances).v, (tolerances).line
+
+/* The tolerance of the original, which each may be. */
+#define EPS 1e-9
 
 /* guard.c */
 void guarded_lists(void);

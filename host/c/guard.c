@@ -95,7 +95,19 @@ static size_t below(size_t top) {
 
 /* Mostly 0, so that rows often meet, and now and then a number that is refused. */
 static double coordinate(void) {
-    return below(400) == 0 ? 1e13 : (double)(below(12) == 0);
+    return below(400) == 0 ? 1e13 : below(12) == 0 ? (below(2) ? 1 : 0.25) : 0;
+}
+
+/* Mostly the original's, else one that tells such coordinates apart or does not, and now and then
+ * one that is refused. */
+static double tolerance(void) {
+    static const double refused[] = {0, -1, 1 + 0x1p-52, 1e300};
+    static const double taken[] = {EPS, EPS, 0x1p-1074, 0.25, 0.5, 1};
+    return below(60) == 0 ? refused[below(4)] : taken[below(6)];
+}
+
+static bool fits(double tolerance) {
+    return 0 < tolerance && tolerance <= 1;
 }
 
 static double parameter(size_t steps) {
@@ -119,10 +131,12 @@ static size_t some_steps(void) {
 static double grid[3 * 6 * 6], pairs[2 * 16];
 static uint8_t marks[16];
 static size_t m, n, grid_len;
+static tolerances given;
 
 static void next_grid(void) {
     m = some_steps();
     n = some_steps();
+    given = (tolerances){tolerance(), tolerance(), tolerance()};
     grid_len = m <= 4 && n <= 4 ? near(3 * (m + 1) * (n + 1)) : 12;
     for (size_t i = 0; i < grid_len; i++) {
         grid[i] = coordinate();
@@ -165,6 +179,13 @@ static bool any_far(size_t count) {
     return false;
 }
 
+/* Whether 13 is answered where a tolerance is refused, unless 1 or 2 is, and nowhere else. */
+static bool thirteen_fits(uint8_t refusal) {
+    bool all_fit = fits(given.u) && fits(given.v) && fits(given.line);
+    return all_fit ? refusal != MT_TOLERANCE
+                   : refusal == MT_STEPS || refusal == MT_LENGTH || refusal == MT_TOLERANCE;
+}
+
 /* Whether a search between rows of so many steps may have found this. */
 static bool seam_fits(mt_found_seam seam, size_t steps) {
     if (seam.found) {
@@ -181,10 +202,14 @@ static bool finds_seams(void) {
     }
     const double *a = reads(0, grid, a_len * sizeof *a);
     const double *b = reads(1, grid + a_len, b_len * sizeof *b);
-    mt_rows_answer rows = mt_new_vector(a, a_len, b, b_len);
+    double taken = tolerance();
+    mt_rows_answer rows = mt_new_vector(a, a_len, b, b_len, taken);
     ended[rows.refusal]++;
     bool whole = a_len % 3 == 0 && b_len % 3 == 0;
-    if (rows.refusal != (!whole ? MT_LENGTH : any_far(a_len + b_len) ? MT_COORDINATE : MT_OK)) {
+    uint8_t refusal = !whole ? MT_LENGTH
+        : !fits(taken) ? MT_TOLERANCE
+        : any_far(a_len + b_len) ? MT_COORDINATE : MT_OK;
+    if (rows.refusal != refusal) {
         return false;
     }
     if (rows.refusal != MT_OK || a_len != b_len || a_len < 6) {
@@ -199,11 +224,12 @@ static bool triangulates(void) {
     size_t flipped_len = near(2 * (m % 256 + n % 256));
     size_t *triangles = writes(1, triangles_len * sizeof *triangles);
     size_t *flipped = writes(2, flipped_len * sizeof *flipped);
-    mt_mesh_answer mesh = mt_triangulate_grid(lent_grid(), grid_len, m, n,
+    mt_mesh_answer mesh = mt_triangulate_grid(lent_grid(), grid_len, m, n, GIVEN(given),
                                               triangles, triangles_len, flipped, flipped_len);
     ended[mesh.refusal]++;
-    bool fits = mesh.refusal == MT_OK ? seam_fits(mesh.u, n) && seam_fits(mesh.v, m) : mesh_empty(mesh);
-    return fits && left(1, mesh.refusal, 3 * mesh.triangles * sizeof *triangles)
+    bool found = seam_fits(mesh.u, n) && seam_fits(mesh.v, m);
+    return (mesh.refusal == MT_OK ? found : mesh_empty(mesh)) && thirteen_fits(mesh.refusal)
+        && left(1, mesh.refusal, 3 * mesh.triangles * sizeof *triangles)
         && left(2, mesh.refusal, 2 * mesh.pairs * sizeof *flipped);
 }
 
@@ -283,11 +309,13 @@ static bool traces_records(size_t count, const size_t lens[5]) {
     }
     const mt_sample *lent_records = reads(1, records, count * sizeof *records);
     page page = writes_page(lens);
-    mt_paths_answer drawn = mt_trace_samples(lent_grid(), grid_len, m, n, lent_records, count,
+    mt_paths_answer drawn = mt_trace_samples(lent_grid(), grid_len, m, n, GIVEN(given),
+                                             lent_records, count,
                                              page.points, lens[0], page.starts, lens[1],
                                              page.sides, lens[2], page.fractions, lens[3],
                                              page.samples, lens[4]);
-    return page_left(drawn) && numbers_fit(page.samples, drawn, count);
+    return page_left(drawn) && thirteen_fits(drawn.refusal)
+        && numbers_fit(page.samples, drawn, count);
 }
 
 static bool traces(void) {
@@ -303,14 +331,14 @@ static bool traces(void) {
     const double *lent_pairs = reads(1, pairs, pairs_len * sizeof *pairs);
     const uint8_t *lent_marks = reads(2, marks, count);
     page page = writes_page(lens);
-    mt_paths_answer drawn = mt_trace_flat(lent_grid(), grid_len, m, n,
+    mt_paths_answer drawn = mt_trace_flat(lent_grid(), grid_len, m, n, GIVEN(given),
                                           lent_pairs, pairs_len, lent_marks, count,
                                           page.points, lens[0], page.starts, lens[1],
                                           page.sides, lens[2], page.fractions, lens[3],
                                           page.samples, lens[4]);
     ended[drawn.refusal]++;
-    return page_left(drawn) && numbers_fit(page.samples, drawn, count)
-        && traces_records(count, lens);
+    return page_left(drawn) && thirteen_fits(drawn.refusal)
+        && numbers_fit(page.samples, drawn, count) && traces_records(count, lens);
 }
 
 /* Whether all trials of a call go well, and some end with each of these refusals. */
@@ -334,9 +362,9 @@ static bool tried(bool (*call)(void), size_t count, const uint8_t *refusals) {
 
 void guarded_lists(void) {
     map_lists();
-    EXPECT(TRIED(finds_seams, MT_LENGTH, MT_COORDINATE));
-    EXPECT(TRIED(triangulates, MT_STEPS, MT_LENGTH, MT_ROOM, MT_COORDINATE));
+    EXPECT(TRIED(finds_seams, MT_LENGTH, MT_TOLERANCE, MT_COORDINATE));
+    EXPECT(TRIED(triangulates, MT_STEPS, MT_LENGTH, MT_TOLERANCE, MT_ROOM, MT_COORDINATE));
     EXPECT(TRIED(draws_and_reads_lines, MT_STEPS, MT_LENGTH, MT_ROOM, MT_COORDINATE, MT_NOT_THERE));
-    EXPECT(TRIED(traces, MT_STEPS, MT_LENGTH, MT_COORDINATE, MT_MARK, MT_SAMPLE, MT_NO_STEP,
-                 MT_FULL));
+    EXPECT(TRIED(traces, MT_STEPS, MT_LENGTH, MT_TOLERANCE, MT_COORDINATE, MT_MARK, MT_SAMPLE,
+                 MT_NO_STEP, MT_FULL));
 }

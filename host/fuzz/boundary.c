@@ -1,6 +1,7 @@
 /* Calls the library through its C boundary with what a fuzzer's bytes say, and checks what is true
    of every call: which refusal is given (Rules 11; of 11 only that more room does not change it),
-   what it leaves in the lent lists, and zeros past the counts (Rules 8); numbers inside the grid.
+   what it leaves in the lent lists, and zeros past the counts (Rules 8); numbers inside the grid;
+   which seam is found (Rules 3), and that neighbours on a line are not close (Rules 7.3).
    A list lies against a page that cannot be touched, so that reading or writing past it ends the
    process. */
 #include "input.h"
@@ -43,6 +44,18 @@ static inline __attribute__((always_inline)) void noted(size_t number) {
 
 struct grid { size_t m, n, length; struct list list; };
 
+/* Of the u seam, of the v seam, and of neighbours on a line. */
+struct tolerances { double u, v, line; };
+
+static struct tolerances any_tolerances(struct input *input) {
+    double u = tolerance(input), v = tolerance(input), line = tolerance(input);
+    return (struct tolerances){u, v, line};
+}
+
+static int tolerance_fits(double x) {
+    return isfinite(x) && 0 < x && x <= 1;
+}
+
 static int coordinate_fits(double x) {
     return isfinite(x) && fabs(x) <= 0x1p40;
 }
@@ -81,13 +94,16 @@ static struct grid any_grid(struct input *input, int front) {
     return (struct grid){m, n, numbers, floats(input, 0, numbers, front)};
 }
 
-/* The first of 1, 2, 3 and 4 that applies. */
-static int grid_refusal(const struct grid *grid, int lengths, int room) {
+/* The first of 1, 2, 13, 3 and 4 that applies; where there are no tolerances 13 does not. */
+static int grid_refusal(const struct grid *grid, int lengths, const struct tolerances *given, int room) {
     if (!steps_fit(grid->m, grid->n)) {
         return MT_STEPS;
     }
     if (!lengths || grid->length != 3 * (grid->m + 1) * (grid->n + 1)) {
         return MT_LENGTH;
+    }
+    if (given && !(tolerance_fits(given->u) && tolerance_fits(given->v) && tolerance_fits(given->line))) {
+        return MT_TOLERANCE;
     }
     if (!room) {
         return MT_ROOM;
@@ -113,14 +129,53 @@ static int below(const size_t *numbers, size_t length, size_t limit) {
     return 1;
 }
 
-static void seam_holds(const mt_found_seam *seam, size_t steps) {
-    noted(seam->found ? 2 * (seam->offset > 0) + seam->reverse : 4);
-    HOLDS(seam->comparisons <= 2 + 2 * (uint64_t)steps * (steps + 1));
-    if (seam->found) {
-        HOLDS(seam->steps == steps && seam->offset < steps);
-    } else {
-        HOLDS(!seam->reverse && !seam->offset && !seam->steps);
+/* Rules 2.1, for coordinates that fit. */
+static int close_by(double tolerance, const double *p, const double *q) {
+    return fmax(fmax(fabs(p[0] - q[0]), fabs(p[1] - q[1])), fabs(p[2] - q[2])) < tolerance;
+}
+
+/* Two rows of steps + 1 points, each so many numbers after the one before it. */
+struct rows { const double *a, *b; size_t stride, steps; double tolerance; uint64_t comparisons; };
+
+static int compared(struct rows *rows, const double *p, const double *q) {
+    rows->comparisons++;
+    return close_by(rows->tolerance, p, q);
+}
+
+/* Whether b fits along a, by the table of Rules 3.2. */
+static int row_fits(struct rows *rows, int reverse, size_t offset) {
+    size_t steps = rows->steps;
+    for (size_t j = 0; j <= steps; j++) {
+        size_t partner = !offset  ? (reverse ? steps - j : j)
+                         : reverse ? (offset + steps - j % steps) % steps
+                                   : (offset + j) % steps;
+        if (!compared(rows, rows->a + rows->stride * j, rows->b + rows->stride * partner)) {
+            return 0;
+        }
     }
+    return 1;
+}
+
+/* Rules 3.2 and 3.3. */
+static mt_found_seam seam_of(struct rows *rows) {
+    size_t last = rows->stride * rows->steps;
+    int closed = compared(rows, rows->a, rows->a + last) && compared(rows, rows->b, rows->b + last);
+    for (size_t offset = 0; offset < (closed ? rows->steps : 1); offset++) {
+        for (int reverse = 0; reverse < 2; reverse++) {
+            if (row_fits(rows, reverse, offset)) {
+                return (mt_found_seam){1, reverse, offset, rows->steps, rows->comparisons};
+            }
+        }
+    }
+    return (mt_found_seam){.comparisons = rows->comparisons};
+}
+
+static void seam_holds(const mt_found_seam *seam, struct rows rows) {
+    noted(seam->found ? 2 * (seam->offset > 0) + seam->reverse : 4);
+    mt_found_seam found = seam_of(&rows);
+    HOLDS(seam->found == found.found && seam->reverse == found.reverse);
+    HOLDS(seam->offset == found.offset && seam->steps == found.steps);
+    HOLDS(seam->comparisons == found.comparisons);
 }
 
 static int seam_zero(const mt_found_seam *seam) {
@@ -132,9 +187,12 @@ static void search(struct input *input) {
     size_t a_len = length(input, 3 * count(input, MOST_POINTS) % 96);
     size_t b_len = byte(input) % 4 ? a_len : length(input, a_len);
     struct list a = floats(input, 0, a_len, front), b = floats(input, 1, b_len, front);
-    mt_rows_answer told = mt_new_vector(a.at, a_len, b.at, b_len);
-    int fit = all_fit(&a) && all_fit(&b);
-    int refusal = a_len % 3 || b_len % 3 ? MT_LENGTH : fit ? MT_OK : MT_COORDINATE;
+    double given = tolerance(input);
+    mt_rows_answer told = mt_new_vector(a.at, a_len, b.at, b_len, given);
+    int refusal = a_len % 3 || b_len % 3        ? MT_LENGTH
+                  : !tolerance_fits(given)      ? MT_TOLERANCE
+                  : all_fit(&a) && all_fit(&b) ? MT_OK
+                                                : MT_COORDINATE;
     noted(told.refusal);
     HOLDS(told.refusal == refusal);
     HOLDS(untouched(&a) && untouched(&b));
@@ -145,7 +203,7 @@ static void search(struct input *input) {
     if (a_len < 6 || a_len != b_len) {
         HOLDS(!told.seam.found && !told.seam.comparisons);
     } else {
-        seam_holds(&told.seam, a_len / 3 - 1);
+        seam_holds(&told.seam, (struct rows){a.at, b.at, 3, a_len / 3 - 1, given, 0});
     }
 }
 
@@ -169,18 +227,22 @@ static void triangulate(struct input *input) {
     size_t flipped_len = length(input, small ? 2 * (m + n) : 4);
     struct list triangles = lend(1, triangles_len * sizeof(size_t), front);
     struct list flipped = lend(2, flipped_len * sizeof(size_t), front);
-    mt_mesh_answer told = mt_triangulate_grid(grid.list.at, grid.length, m, n, triangles.at,
-                                              triangles_len, flipped.at, flipped_len);
+    struct tolerances given = any_tolerances(input);
+    mt_mesh_answer told = mt_triangulate_grid(grid.list.at, grid.length, m, n, given.u, given.v,
+                                              given.line, triangles.at, triangles_len, flipped.at,
+                                              flipped_len);
+    int room = triangles_len >= 6 * m * n && flipped_len >= 2 * (m + n);
     noted(told.refusal);
-    HOLDS(told.refusal == grid_refusal(&grid, 1, triangles_len >= 6 * m * n && flipped_len >= 2 * (m + n)));
+    HOLDS(told.refusal == grid_refusal(&grid, 1, &given, room));
     HOLDS(untouched(&grid.list));
     if (told.refusal) {
         HOLDS(untouched(&triangles) && untouched(&flipped));
         HOLDS(seam_zero(&told.u) && seam_zero(&told.v) && !told.triangles && !told.pairs);
         return;
     }
-    seam_holds(&told.u, n);
-    seam_holds(&told.v, m);
+    const double *first = grid.list.at;
+    seam_holds(&told.u, (struct rows){first, first + 3 * m * (n + 1), 3, n, given.u, 0});
+    seam_holds(&told.v, (struct rows){first, first + 3 * n, 3 * (n + 1), m, given.v, 0});
     noted(told.pairs);
     HOLDS(told.triangles <= 2 * m * n && told.pairs <= m + n);
     HOLDS(below(triangles.at, 3 * told.triangles, (m + 1) * (n + 1)));
@@ -206,7 +268,7 @@ static void draw_grid(struct input *input) {
                                          starts.at, starts_len);
     int room = points_len >= 6 * (m + 1) * (n + 1) && starts_len >= m + n + 2;
     noted(told.refusal);
-    HOLDS(told.refusal == grid_refusal(&grid, 1, room));
+    HOLDS(told.refusal == grid_refusal(&grid, 1, NULL, room));
     HOLDS(untouched(&grid.list));
     if (told.refusal) {
         HOLDS(untouched(&points) && untouched(&starts) && !told.points && !told.lines);
@@ -282,14 +344,19 @@ static int page_zero(const struct page *page, size_t points, size_t lines) {
         && zero_from(&page->samples, points * sizeof(size_t));
 }
 
-/* Each line has two points or more; each point is (1 - t) p + t q of two points of the grid. */
-static void drawn_holds(const struct grid *grid, const struct page *page, size_t points, size_t lines) {
+/* Each line has two points or more, of which no two neighbours are close; each point is
+   (1 - t) p + t q of two points of the grid. */
+static void drawn_holds(const struct grid *grid, const struct page *page, size_t points, size_t lines,
+                        double line_tolerance) {
     const double *grid_at = grid->list.at, *points_at = page->points.at, *fractions = page->fractions.at;
     const size_t *starts = page->starts.at, *sides = page->sides.at;
     HOLDS(!points == !lines);
     for (size_t i = 0; i < lines; i++) {
         size_t end = i + 1 < lines ? starts[i + 1] : points;
         HOLDS(starts[i] <= end && end - starts[i] >= 2);
+        for (size_t j = starts[i] + 1; j < end; j++) {
+            HOLDS(!close_by(line_tolerance, points_at + 3 * (j - 1), points_at + 3 * j));
+        }
     }
     HOLDS(below(sides, 2 * points, (grid->m + 1) * (grid->n + 1)));
     for (size_t i = 0; i < points; i++) {
@@ -341,8 +408,9 @@ static struct list any_marks(struct input *input, size_t samples, int front) {
 }
 
 /* The records of these pairs and marks are traced as the pairs and marks were. */
-static void records_hold(const struct grid *grid, const double *pairs, const uint8_t *marks, size_t samples,
-                         const size_t lens[5], int front, const struct page *flat, mt_paths_answer told) {
+static void records_hold(const struct grid *grid, struct tolerances given, const double *pairs,
+                         const uint8_t *marks, size_t samples, const size_t lens[5], int front,
+                         const struct page *flat, mt_paths_answer told) {
     struct list list = lend(8, samples * sizeof(mt_sample), front);
     mt_sample *records = list.at;
     for (size_t i = 0; i < samples; i++) {
@@ -352,9 +420,9 @@ static void records_hold(const struct grid *grid, const double *pairs, const uin
     keep(&list);
     struct page page = lend_page(9, lens, front);
     mt_paths_answer again = mt_trace_samples(
-        grid->list.at, grid->length, grid->m, grid->n, records, samples, page.points.at, lens[0],
-        page.starts.at, lens[1], page.sides.at, lens[2], page.fractions.at, lens[3], page.samples.at,
-        lens[4]);
+        grid->list.at, grid->length, grid->m, grid->n, given.u, given.v, given.line, records, samples,
+        page.points.at, lens[0], page.starts.at, lens[1], page.sides.at, lens[2], page.fractions.at,
+        lens[3], page.samples.at, lens[4]);
     HOLDS(untouched(&grid->list) && untouched(&list));
     HOLDS(again.refusal == told.refusal && again.points == told.points && again.lines == told.lines);
     HOLDS(same_page(&page, flat));
@@ -362,15 +430,16 @@ static void records_hold(const struct grid *grid, const double *pairs, const uin
 
 /* What a curve was refused by as it was drawn: with room for all its points 12 does not come, and
    11 stays. */
-static void walk_refusal_holds(const struct grid *grid, const struct list *pairs,
+static void walk_refusal_holds(const struct grid *grid, struct tolerances given, const struct list *pairs,
                                const struct list *marks, uint8_t refusal) {
     const size_t lens[5] = {3 * ROOM_FOR_ALL, ROOM_FOR_ALL, 2 * ROOM_FOR_ALL, ROOM_FOR_ALL,
                             ROOM_FOR_ALL};
     struct page page = lend_page(9, lens, 0);
     mt_paths_answer roomy = mt_trace_flat(
-        grid->list.at, grid->length, grid->m, grid->n, pairs->at, pairs->bytes / sizeof(double),
-        marks->at, marks->bytes, page.points.at, lens[0], page.starts.at, lens[1], page.sides.at,
-        lens[2], page.fractions.at, lens[3], page.samples.at, lens[4]);
+        grid->list.at, grid->length, grid->m, grid->n, given.u, given.v, given.line, pairs->at,
+        pairs->bytes / sizeof(double), marks->at, marks->bytes, page.points.at, lens[0],
+        page.starts.at, lens[1], page.sides.at, lens[2], page.fractions.at, lens[3], page.samples.at,
+        lens[4]);
     HOLDS(refusal == MT_NO_STEP ? roomy.refusal == MT_NO_STEP
                                 : refusal == MT_FULL && roomy.refusal != MT_FULL);
 }
@@ -387,30 +456,31 @@ static void trace(struct input *input) {
         lens[i] = length(input, lens[i]);
     }
     struct page page = lend_page(3, lens, front);
+    struct tolerances given = any_tolerances(input);
     mt_paths_answer told = mt_trace_flat(
-        grid.list.at, grid.length, grid.m, grid.n, pairs.at, pairs_len, marks.at, samples, page.points.at,
-        lens[0], page.starts.at, lens[1], page.sides.at, lens[2], page.fractions.at, lens[3],
-        page.samples.at, lens[4]);
+        grid.list.at, grid.length, grid.m, grid.n, given.u, given.v, given.line, pairs.at, pairs_len,
+        marks.at, samples, page.points.at, lens[0], page.starts.at, lens[1], page.sides.at, lens[2],
+        page.fractions.at, lens[3], page.samples.at, lens[4]);
     noted(told.refusal);
     HOLDS(untouched(&grid.list) && untouched(&pairs) && untouched(&marks));
     HOLDS(!told.refusal || (!told.points && !told.lines));
-    int refusal = grid_refusal(&grid, pairs_len == 2 * samples, 1);
+    int refusal = grid_refusal(&grid, pairs_len == 2 * samples, &given, 1);
     if (!refusal) {
         refusal = curve_refusal(pairs.at, marks.at, samples);
     }
     if (refusal) {
         HOLDS(told.refusal == refusal && page_untouched(&page));
     } else if (told.refusal) {
-        walk_refusal_holds(&grid, &pairs, &marks, told.refusal);
+        walk_refusal_holds(&grid, given, &pairs, &marks, told.refusal);
         HOLDS(page_zero(&page, 0, 0));
     } else {
         noted(told.lines);
         HOLDS(page_zero(&page, told.points, told.lines));
-        drawn_holds(&grid, &page, told.points, told.lines);
+        drawn_holds(&grid, &page, told.points, told.lines, given.line);
         numbers_hold(&page, told.points, marks.at, samples);
     }
     if (pairs_len == 2 * samples) {
-        records_hold(&grid, pairs.at, marks.at, samples, lens, front, &page, told);
+        records_hold(&grid, given, pairs.at, marks.at, samples, lens, front, &page, told);
     }
 }
 

@@ -35,6 +35,14 @@ size_t length(struct input *input, size_t least) {
     return least > less ? least - less : 0;
 }
 
+/* The float of the next eight bytes. */
+static double any_number(struct input *input) {
+    uint64_t bits = word(input);
+    double x;
+    memcpy(&x, &bits, sizeof x);
+    return x;
+}
+
 double number(struct input *input) {
     static const double edges[] = {-0.0, 1e-9, -1e-9, 0x1p40, -0x1p40, 0x1.0000000000001p40, 0x1p20,
                                    0x1.0000000000001p20, 5e-324, 0.9999999990000001, 1.000000001, INFINITY,
@@ -43,13 +51,18 @@ double number(struct input *input) {
     if (first < 224) {
         return (first - 80) / 4.0;
     }
-    if (first < 240) {
-        return edges[first - 224];
+    return first < 240 ? edges[first - 224] : any_number(input);
+}
+
+double tolerance(struct input *input) {
+    static const double taken[] = {1e-9,   0.25,                 0.5,  1,
+                                   5e-324, 0x1.0000000000001p-2, 0.75, 0x1.fffffffffffffp-1};
+    static const double edges[] = {0.0, -0.0, 0x1.0000000000001p0, -1, INFINITY, NAN, -5e-324, 2};
+    uint8_t first = byte(input);
+    if (first < 224) {
+        return taken[first % 8];
     }
-    uint64_t bits = word(input);
-    double x;
-    memcpy(&x, &bits, sizeof x);
-    return x;
+    return first < 240 ? edges[first % 8] : any_number(input);
 }
 
 /* A place of so much room between two pages that cannot be touched. */

@@ -19,6 +19,9 @@ size_t length(struct input *input, size_t least);
 /* A float: often small and whole or a quarter, at an edge of what is allowed, or any at all. */
 double number(struct input *input);
 
+/* A tolerance: mostly one that is taken, 10^-9 for the byte 0, or at an edge, or any at all. */
+double tolerance(struct input *input);
+
 /* A list and a copy of what stood in it. */
 struct list { void *at, *copy; size_t bytes; };
 
