@@ -1,7 +1,7 @@
 //! What the library makes of a grid: its seams, its lines, its rim and its flipped triangles.
 
 use crate::pieces::Parts;
-use merlontrispa::{Mapping, OwnedLines, Refusal, Seam, Seams, Surface, Texture, Vector};
+use merlontrispa::{EPS, Mapping, OwnedLines, Refusal, Seam, Seams, Surface, Texture, Vector};
 
 pub type Point = [f64; 3];
 
@@ -83,10 +83,11 @@ fn texture_lines(
     Ok((lines, samples))
 }
 
-/// Whether all points of a line are close to its first.
+/// Whether all points of a line are close to its first, by EPS: an edge that a surface's tolerances
+/// would take for a point is still drawn.
 fn is_dot(line: &[Point]) -> bool {
     let first = Vector::from(line[0]);
-    line.iter().all(|p| first.all_close(Vector::from(*p)))
+    line.iter().all(|p| first.all_close(Vector::from(*p), EPS))
 }
 
 /// Each seam with the indices of the two grid lines that it joins, or would join.

@@ -10,7 +10,7 @@ mod svg;
 
 use camera::Camera;
 use drawing::Drawing;
-use merlontrispa::{Mapping, Plan, Refusal, Seam, Surface, Texture};
+use merlontrispa::{Mapping, Plan, Refusal, Seam, Surface, Texture, Tolerances};
 use options::{HELP, Options, Request, Style};
 use std::io::Write;
 use std::process::ExitCode;
@@ -58,6 +58,9 @@ fn draw(options: &Options) -> Result<(), String> {
         let first = first.map(|first| format!("; the first is {first}"));
         refused(refusal) + &first.unwrap_or_default()
     })?;
+    let surface = surface
+        .with_tolerances(tolerances(options))
+        .map_err(refused)?;
     let drawing = Drawing::new(surface, texture).map_err(refused)?;
     let camera = Camera::fitting(surface.points())
         .ok_or("all points of this surface are seen at one place, and there is nothing to draw")?;
@@ -102,6 +105,12 @@ fn texture(options: &Options) -> Texture {
     }
 }
 
+/// The tolerances, as the library has them.
+fn tolerances(options: &Options) -> Tolerances {
+    let options::Tolerances { u, v, line } = options.tolerances;
+    Tolerances { u, v, line }
+}
+
 fn write(output: &str, text: &str) -> Result<(), String> {
     let written = match output {
         STDOUT => std::io::stdout().lock().write_all(text.as_bytes()),
@@ -117,7 +126,14 @@ fn title(options: &Options) -> String {
         Texture::Spiral { spacing, arms } => format!("spiral, spacing {spacing}, arms {arms}"),
     };
     let [m, n] = options.steps;
-    format!("{}, {m} × {n} steps, {texture}", options.surface.name)
+    let tolerances = match tolerances(options) {
+        given if given == Tolerances::default() => String::new(),
+        Tolerances { u, v, line } => format!(", tolerances {u:?}, {v:?}, {line:?}"),
+    };
+    format!(
+        "{}, {m} × {n} steps, {texture}{tolerances}",
+        options.surface.name
+    )
 }
 
 /// What the library found and drew.

@@ -26,7 +26,7 @@ fn failure(words: &[&str]) -> (i32, String) {
 
 #[test]
 fn a_bad_option_ends_with_2_and_one_sentence() {
-    let cases: [&[&str]; 9] = [
+    let cases: [&[&str]; 12] = [
         &["tours"],
         &["--size", "3"],
         &["--steps", "forty"],
@@ -36,6 +36,9 @@ fn a_bad_option_ends_with_2_and_one_sentence() {
         &["torus", "--highlight", "20"],
         &["--texture", "swirl", "--highlight", "0"],
         &["--texture", "spiral", "--highlight", "2.5"],
+        &["--tolerance", "0.1"],
+        &["torus", "--tolerance", "1,1,near"],
+        &["torus", "--tolerance", "1,0,1"],
     ];
     for words in cases {
         let (status, said) = failure(&[words, &["-o", "-"]].concat());
@@ -170,6 +173,65 @@ fn the_pieces_of_a_highlighted_sample_are_counted() {
     }
 }
 
+/// The card of a command, and what was said of it.
+fn card(words: &[&str]) -> (String, String) {
+    let output = draw(&[words, &["-o", "-"]].concat());
+    assert!(output.status.success(), "{words:?}: {output:?}");
+    let text = |bytes| String::from_utf8(bytes).expect("UTF-8");
+    (text(output.stdout), text(output.stderr))
+}
+
+/// A band whose ends miss each other by five thousandths, since 6.28 is not quite a turn.
+const NEARLY_CLOSED: [&str; 5] = ["moebius-band", "--u", "0..6.28", "--seams", "--flipped"];
+
+#[test]
+fn a_seam_is_found_at_a_coarser_tolerance_of_its_own() {
+    let with = |given| card(&[&NEARLY_CLOSED[..], &["--tolerance", given]].concat());
+    let (open, said) = card(&NEARLY_CLOSED);
+    assert!(said.contains("\nseams: u none; v none\n"), "{said}");
+    assert!(said.starts_with("moebius-band, 96 × 12 steps, grid\n"));
+    assert!(!open.contains("-seam") && !open.contains("<polygon "));
+
+    let (closed, said) = with("0.01,1e-9,1e-9");
+    assert!(
+        said.contains("\nseams: u reversed, offset 0; v none\n"),
+        "{said}"
+    );
+    let title = "moebius-band, 96 × 12 steps, grid, tolerances 0.01, 1e-9, 1e-9";
+    assert!(said.starts_with(&format!("{title}\n")), "{said}");
+    assert!(closed.contains(&format!("<title>{title}</title>")));
+    assert!(closed.contains(r#"class="reversed-seam""#));
+    assert_eq!(closed.matches("<polygon ").count(), 2 * 12);
+
+    // Those of v and of lines find no seam of u, and one that is given as it would be changes
+    // nothing.
+    let (_, said) = with("1e-9,1,1");
+    assert!(said.contains("\nseams: u none;"), "{said}");
+    assert_eq!(with("1e-9,1e-9,1e-9").0, open);
+}
+
+#[test]
+fn a_coarser_tolerance_of_lines_leaves_points_out() {
+    let swirl = ["torus", "--texture", "swirl"];
+    let points = |said: &str| -> usize {
+        let count = said
+            .split(" lines, ")
+            .nth(1)
+            .and_then(|rest| rest.split(' ').next());
+        count.expect("a count").parse().expect("a number")
+    };
+    let coarse = |given| {
+        let (card, said) = card(&[&swirl[..], &["--tolerance", given]].concat());
+        (points(&said), card)
+    };
+    let (card, said) = card(&swirl);
+    let (all, few) = (points(&said), coarse("1e-9,1e-9,0.3").0);
+    assert!(few > 0 && 2 * few < all, "{few} of {all}");
+    // The tolerances of seams leave none out.
+    assert_eq!(coarse("0.3,0.3,1e-9").0, all);
+    assert_eq!(coarse("1e-9,1e-9,1e-9"), (all, card));
+}
+
 /// The words of a command line in which values with spaces stand in single quotes.
 fn words(command: &str) -> Vec<String> {
     let parts = command.split('\'').enumerate();
@@ -194,7 +256,7 @@ fn examples(text: &str) -> Vec<Vec<String>> {
 #[test]
 fn every_example_of_the_help_draws() {
     let examples = examples(&stdout(&["--help"]));
-    assert!(examples.len() >= 14);
+    assert!(examples.len() >= 15);
     for mut example in examples {
         if let Some(at) = example.iter().position(|word| word == "-o") {
             example.truncate(at);

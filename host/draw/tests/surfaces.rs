@@ -1,7 +1,7 @@
 //! The surfaces, as the library finds them.
 
-use merlontrispa::{Mapping, Refusal, Surface};
-use options::{Formula, ParametricSurface, names};
+use merlontrispa::{EPS, Mapping, Refusal, Surface, Tolerances};
+use options::{Formula, ParametricSurface, Request, names};
 
 /// The seams of a named surface, and the count of its flipped pairs.
 fn seams(name: &str, [m, n]: [usize; 2]) -> (Option<Mapping>, Option<Mapping>, usize) {
@@ -99,4 +99,45 @@ fn the_first_coordinate_that_the_library_refuses_is_found() {
         assert_eq!(refused, expected.map(|_| Refusal::Coordinate), "{formula}");
         assert_eq!(surface.first_refused(steps).as_deref(), expected);
     }
+}
+
+/// The rule of 13 stands in the options too, which are read before there is a library.
+#[test]
+fn a_tolerance_is_a_fault_where_the_library_refuses_it() {
+    let given = options::Tolerances::default();
+    assert_eq!([given.u, given.v, given.line], [EPS; 3]);
+    let surface = Surface::new(&[0.0; 12], 1, 1).expect("a surface");
+    let (after_one, before_one) = (1.0_f64.next_up(), 1.0_f64.next_down());
+    let edges = [
+        5e-324,
+        EPS,
+        0.5,
+        before_one,
+        1.0,
+        after_one,
+        f64::MAX,
+        f64::INFINITY,
+        0.0,
+    ];
+    let mut taken = 0;
+    for edge in edges
+        .into_iter()
+        .chain(edges.map(|edge| -edge))
+        .chain([f64::NAN])
+    {
+        for place in 0..3 {
+            let mut three = [EPS; 3];
+            three[place] = edge;
+            let [u, v, line] = three;
+            let text = format!("--tolerance={u:?},{v:?},{line:?}");
+            let other = surface.with_tolerances(Tolerances { u, v, line });
+            assert_eq!(
+                Request::parse([text.clone()]).is_ok(),
+                other.is_ok(),
+                "{text}"
+            );
+            taken += usize::from(other.is_ok());
+        }
+    }
+    assert_eq!(taken, 3 * 5);
 }

@@ -4,11 +4,12 @@ use crate::formula::{Formula, constant};
 use crate::parametric::{ParametricSurface, names};
 use std::collections::BTreeMap;
 
-const WITH_VALUE: [&str; 10] = [
+const WITH_VALUE: [&str; 11] = [
     "--formula",
     "--u",
     "--v",
     "--steps",
+    "--tolerance",
     "--texture",
     "--spacing",
     "--twist",
@@ -25,6 +26,11 @@ const MOST_SAMPLES: usize = 65_536;
 /// The library takes 1 for a spacing that is not above this, or not finite.
 const LEAST_SPACING: f64 = 1e-9;
 
+/// The largest tolerance: the library refuses what is above it, and what is not above 0.
+const LARGEST_TOLERANCE: f64 = 1.0;
+
+/// The library's own EPS.
+const TOLERANCE: f64 = 1e-9;
 const SPACING: f64 = 3.0;
 const TWIST: f64 = 0.5;
 const ARMS: usize = 2;
@@ -45,12 +51,33 @@ pub struct Options {
     pub surface: ParametricSurface,
     /// Its steps in u and in v.
     pub steps: [usize; 2],
+    /// Its tolerances.
+    pub tolerances: Tolerances,
     /// The lines on it.
     pub texture: Texture,
     /// What is drawn beside them.
     pub style: Style,
     /// The file that is written, `-` for standard output.
     pub output: String,
+}
+
+/// How near points must be to count as one: the library's tolerances, in a crate that is built
+/// without the library.
+#[derive(Debug, Clone, Copy, PartialEq)]
+pub struct Tolerances {
+    /// Of the seam between the first u and the last.
+    pub u: f64,
+    /// Of the seam between the first v and the last.
+    pub v: f64,
+    /// Of neighbours on a line of the texture.
+    pub line: f64,
+}
+
+impl Default for Tolerances {
+    fn default() -> Self {
+        let [u, v, line] = [TOLERANCE; 3];
+        Self { u, v, line }
+    }
 }
 
 /// The lines on a surface: the library's texture, in a crate that is built without the library.
@@ -110,6 +137,7 @@ impl Request {
         let surface = given.surface()?;
         let options = Options {
             steps: given.steps()?.unwrap_or(surface.steps),
+            tolerances: given.tolerances()?.unwrap_or_default(),
             texture: given.texture()?,
             style: Style {
                 seams: given.has("--seams"),
@@ -248,6 +276,33 @@ impl Given {
         }
     }
 
+    fn tolerances(&self) -> Result<Option<Tolerances>, String> {
+        let Some(text) = self.value("--tolerance") else {
+            return Ok(None);
+        };
+        let parts: Vec<_> = text.split(',').map(str::trim).collect();
+        let [u, v, line] = parts[..] else {
+            return Err(format!(
+                "--tolerance wants three numbers U,V,LINE, such as 0.01,0.01,0.1, not '{text}'"
+            ));
+        };
+        let tolerance = |name: &str, text: &str| match text.parse() {
+            Err(_) => Err(format!(
+                "{name} of --tolerance wants a number, not '{text}'"
+            )),
+            Ok(number) if number > 0.0 && number <= LARGEST_TOLERANCE => Ok(number),
+            Ok(_) => Err(format!(
+                "{name} of --tolerance wants a number above 0 and at most {LARGEST_TOLERANCE}, \
+                 not '{text}'"
+            )),
+        };
+        Ok(Some(Tolerances {
+            u: tolerance("U", u)?,
+            v: tolerance("V", v)?,
+            line: tolerance("LINE", line)?,
+        }))
+    }
+
     fn texture(&self) -> Result<Texture, String> {
         let texture = match self.value("--texture").unwrap_or("grid") {
             "grid" => Texture::Grid,
@@ -351,6 +406,7 @@ mod tests {
     fn nothing_given_is_a_torus() {
         let options = card("");
         assert_eq!(Some(options.surface), ParametricSurface::named("torus"));
+        assert_eq!(options.tolerances, Tolerances::default());
         assert_eq!(options.texture, Texture::Grid);
         assert_eq!(options.style, Style::default());
         assert_eq!(options.output, "card.svg");
@@ -387,6 +443,23 @@ mod tests {
     }
 
     #[test]
+    fn tolerances_are_three_numbers() {
+        let tolerances = |text: &str| {
+            let words = ["--tolerance", text].map(String::from);
+            match Request::parse(words) {
+                Ok(Request::Card(options)) => options.tolerances,
+                other => panic!("{text}: {other:?}"),
+            }
+        };
+        let [u, v, line] = [0.01, 1e-9, 0.5];
+        assert_eq!(tolerances("0.01,1e-9,.5"), Tolerances { u, v, line });
+        assert_eq!(tolerances(" 0.01, 1e-9, 0.5"), Tolerances { u, v, line });
+        // The least and the largest that the library takes.
+        let [u, v, line] = [5e-324, 1.0, 1.0];
+        assert_eq!(tolerances("5e-324,1,1.0"), Tolerances { u, v, line });
+    }
+
+    #[test]
     fn ranges_are_constants() {
         let options = card("--u -pi/2..pi --v 0...5 --formula x=u;y=v;z=0");
         assert_eq!(options.surface.u, [-PI / 2.0, PI]);
@@ -402,7 +475,8 @@ mod tests {
         for name in names().iter().chain(&WITH_VALUE).chain(&WITHOUT_VALUE) {
             assert!(words.contains(name), "{name}");
         }
-        for number in [SPACING, TWIST, ARMS as f64] {
+        let numbers = [SPACING, TWIST, ARMS as f64].map(|number| number.to_string());
+        for number in numbers.into_iter().chain([format!("{TOLERANCE:?} each")]) {
             assert!(
                 HELP.contains(&format!(" {number} if not given")),
                 "{number}"
@@ -423,6 +497,37 @@ mod tests {
             ("--steps 40", "--steps wants two counts"),
             ("--steps 40x-2", "--steps wants two counts"),
             ("--steps 4x4 --steps 5x5", "--steps is given twice"),
+            ("--tolerance", "--tolerance wants a value"),
+            (
+                "--tolerance 0.1",
+                "--tolerance wants three numbers U,V,LINE, such as 0.01,0.01,0.1, not '0.1'",
+            ),
+            ("--tolerance 0.1,0.1", "three numbers U,V,LINE"),
+            ("--tolerance 1,1,1,1", "three numbers U,V,LINE"),
+            ("--tolerance=", "three numbers U,V,LINE"),
+            (
+                "--tolerance 1,near,1",
+                "V of --tolerance wants a number, not 'near'",
+            ),
+            (
+                "--tolerance ,1,1",
+                "U of --tolerance wants a number, not ''",
+            ),
+            (
+                "--tolerance 1,1,0",
+                "LINE of --tolerance wants a number above 0 and at most 1, not '0'",
+            ),
+            (
+                "--tolerance -0.1,1,1",
+                "U of --tolerance wants a number above 0 and at most 1, not '-0.1'",
+            ),
+            ("--tolerance 1,1.5,1", "at most 1, not '1.5'"),
+            ("--tolerance 1,1,nan", "at most 1, not 'nan'"),
+            ("--tolerance 1,1,inf", "at most 1, not 'inf'"),
+            ("--tolerance 1,1,-0", "at most 1, not '-0'"),
+            ("--tolerance 1,1,1.0000000000000002", "at most 1"),
+            // A number that is too small for an f64 is 0.
+            ("--tolerance 1,1,1e-400", "at most 1, not '1e-400'"),
             ("--seams=yes", "--seams takes no value"),
             ("--texture dots", "--texture is grid, swirl or spiral"),
             ("--twist 1", "--twist goes with --texture swirl"),
