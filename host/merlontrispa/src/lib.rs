@@ -2,7 +2,7 @@
 //!
 //! A host samples a curved surface into a grid of points. A [`Surface`] is such a grid, checked. The
 //! library finds which edges of it join, turns its cells into triangles, and traces pen lines across
-//! the cells.
+//! the cells. How near points must be to count as one is said by the surface's [`Tolerances`].
 //!
 //! ```
 //! use merlontrispa::{Mapping, Surface};
