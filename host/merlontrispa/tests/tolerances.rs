@@ -1,10 +1,9 @@
 //! Tolerances: by which of them each call goes, which it refuses and when, and the known results of
 //! other tolerances than EPS.
 
-use merlontrispa::Mapping::{Forward, Reverse};
 use merlontrispa::{
-    Drawn, EPS, Mapping, Refusal, Sample, Seam, Surface, Texture, Tolerances, TraceLists, Vector,
-    trace_flat, trace_samples, triangulate_grid,
+    Drawn, EPS, Mapping, ParamPoint, Refusal, Sample, Surface, Texture, Tolerances, TraceLists,
+    Vector, trace_flat, trace_samples, triangulate_grid,
 };
 
 /// The least f64 above zero.
@@ -61,10 +60,20 @@ const INPUT: Input<'static> = Input {
     room: 12,
 };
 
-/// What a call answers, and whether each list that it was lent has a 9 in each place, as it had.
-type Left<T> = (Result<T, Refusal>, bool);
+/// A leg that meets a side where no cell can be told.
+const NO_STEP: [Sample; 2] = [Sample::at(1.0, 1_048_576.0), Sample::at(1.0, 1.0 + EPS)];
 
-fn triangulated(input: Input<'_>, tolerances: Tolerances) -> Left<usize> {
+fn forward(offset: usize, steps: usize) -> Option<Mapping> {
+    Some(Mapping::Forward { offset, steps })
+}
+
+/// What a call answers, and whether each list that it was lent has a 9 in each place, as it had.
+type Left = (Result<usize, Refusal>, bool);
+
+/// A call, which answers how many triangles or points it wrote.
+type Call = fn(Input<'_>, Tolerances) -> Left;
+
+fn triangulated(input: Input<'_>, tolerances: Tolerances) -> Left {
     let [mut triangles, mut flipped] = [0; 2].map(|_| vec![9; input.room]);
     let Input { grid, m, .. } = input;
     let answer = triangulate_grid(grid, m, 1, tolerances, &mut triangles, &mut flipped);
@@ -73,7 +82,7 @@ fn triangulated(input: Input<'_>, tolerances: Tolerances) -> Left<usize> {
 }
 
 /// A trace into five lists of so many places each.
-fn traced(room: usize, trace: impl Fn(TraceLists<'_>) -> Result<Drawn, Refusal>) -> Left<usize> {
+fn traced(room: usize, trace: impl Fn(TraceLists<'_>) -> Result<Drawn, Refusal>) -> Left {
     let [mut points, mut fractions] = [0; 2].map(|_| vec![9.0; room]);
     let [mut starts, mut sides, mut samples] = [0; 3].map(|_| vec![9; room]);
     let answer = trace(TraceLists {
@@ -88,7 +97,7 @@ fn traced(room: usize, trace: impl Fn(TraceLists<'_>) -> Result<Drawn, Refusal>)
     (answer.map(|drawn| drawn.points), untouched)
 }
 
-fn traced_flat(input: Input<'_>, tolerances: Tolerances) -> Left<usize> {
+fn traced_flat(input: Input<'_>, tolerances: Tolerances) -> Left {
     let pairs: Vec<_> = input
         .samples
         .iter()
@@ -101,17 +110,16 @@ fn traced_flat(input: Input<'_>, tolerances: Tolerances) -> Left<usize> {
     })
 }
 
-fn traced_records(input: Input<'_>, tolerances: Tolerances) -> Left<usize> {
+fn traced_records(input: Input<'_>, tolerances: Tolerances) -> Left {
     traced(input.room, |lists| {
         trace_samples(input.grid, input.m, 1, tolerances, input.samples, lists)
     })
 }
 
-const TRACES: [fn(Input<'_>, Tolerances) -> Left<usize>; 2] = [traced_flat, traced_records];
+const TRACES: [Call; 2] = [traced_flat, traced_records];
 
-/// The three calls, each of which hands back how much it wrote.
-const CALLS: [fn(Input<'_>, Tolerances) -> Left<usize>; 3] =
-    [triangulated, traced_flat, traced_records];
+/// All that take three tolerances.
+const CALLS: [Call; 3] = [triangulated, traced_flat, traced_records];
 
 #[test]
 fn the_default_is_eps_three_times() {
@@ -161,117 +169,52 @@ fn the_least_and_the_largest_pass_in_each_place_of_each_call() {
             assert_eq!(other.points(), surface.points());
         }
         let seam = Mapping::new_vector(&CELL[..6], &CELL[..6], taken).expect("a search");
-        let mapping = Forward {
-            offset: 0,
-            steps: 1,
-        };
         // At 1 the ends of the rows, 1 apart, are still not close.
-        let comparisons = 3;
-        let mapping = Some(mapping);
-        assert_eq!(
-            seam,
-            Seam {
-                mapping,
-                comparisons
-            },
-            "{taken}"
-        );
+        let found = (seam.mapping, seam.comparisons);
+        assert_eq!(found, (forward(0, 1), 3), "{taken}");
     }
 }
 
-/// What a call answers where something else is wrong as well.
 #[test]
 fn thirteen_comes_after_1_and_2_and_before_all_others() {
-    let refused = Tolerances {
-        line: 0.0,
-        ..EVERY_EPS
-    };
     let far = [1e13; 12];
-    let with = |sample| [INPUT.samples[0], sample];
-    let mark = with(Sample {
-        mark: 2,
-        ..Sample::BREAK
-    });
-    let sample = with(Sample::at(f64::NAN, 0.0));
-    let no_step = [Sample::at(1.0, 1_048_576.0), Sample::at(1.0, 1.0 + EPS)];
-    let many = vec![Sample::BREAK; 65_538];
-
-    for call in CALLS {
-        let answer = |input| call(input, refused);
-        assert_eq!(
-            answer(Input { m: 256, ..INPUT }),
-            (Err(Refusal::Steps), true)
-        );
-        let grid = &CELL[..11];
-        assert_eq!(
-            answer(Input { grid, ..INPUT }),
-            (Err(Refusal::Length), true)
-        );
-        let wrong = [
-            Input { room: 0, ..INPUT },
-            Input {
-                grid: &far,
-                ..INPUT
-            },
-            Input {
-                samples: &mark,
-                ..INPUT
-            },
-            Input {
-                samples: &sample,
-                ..INPUT
-            },
-            Input {
-                samples: &no_step,
-                ..INPUT
-            },
-        ];
-        for input in wrong {
-            assert_eq!(answer(input), (Err(Refusal::Tolerance), true));
+    let with = |samples| Input { samples, ..INPUT };
+    let on = |grid| Input { grid, ..INPUT };
+    let (mark, point) = (2, ParamPoint { u: 0.0, v: 0.0 });
+    let (no_mark, no_point) = ([Sample { mark, point }], [Sample::at(f64::NAN, 0.0)]);
+    // What the three calls answer at EPS, 0 where they do not refuse.
+    let cases = [
+        (INPUT, [0, 0, 0]),
+        (Input { m: 256, ..INPUT }, [1, 1, 1]),
+        (on(&CELL[..11]), [2, 2, 2]),
+        (with(&[Sample::BREAK; 65_538]), [0, 2, 2]),
+        (Input { room: 0, ..INPUT }, [3, 12, 12]),
+        (on(&far), [4, 4, 4]),
+        (with(&no_mark), [0, 9, 9]),
+        (with(&no_point), [0, 10, 10]),
+        (with(&NO_STEP), [0, 11, 11]),
+    ];
+    for (input, numbers) in cases {
+        for (call, number) in CALLS.into_iter().zip(numbers) {
+            let refusal = Refusal::from_number(number);
+            assert_eq!(call(input, EVERY_EPS).0.err(), refusal);
+            for tolerances in in_each_place(0.0) {
+                let first = refusal.filter(|refusal| refusal.number() <= 2);
+                let left = (Err(first.unwrap_or(Refusal::Tolerance)), true);
+                assert_eq!(call(input, tolerances), left, "{number}");
+            }
         }
     }
-    for trace in TRACES {
-        let left = (Err(Refusal::Length), true);
-        assert_eq!(
-            trace(
-                Input {
-                    samples: &many,
-                    ..INPUT
-                },
-                refused
-            ),
-            left
-        );
-    }
+    let [tolerances, ..] = in_each_place(0.0);
     let odd = traced(12, |lists| {
-        trace_flat(&CELL, 1, 1, refused, &[0.0; 3], &[1, 1], lists)
+        trace_flat(&CELL, 1, 1, tolerances, &[0.0; 3], &[1, 1], lists)
     });
     assert_eq!(odd, (Err(Refusal::Length), true));
 
-    let search = |a: &[f64], b: &[f64]| Mapping::new_vector(a, b, 0.0);
-    assert_eq!(search(&CELL[..7], &far), Err(Refusal::Length));
-    assert_eq!(search(&CELL, &far), Err(Refusal::Tolerance));
-    // The same inputs at a tolerance that is taken, so that each is wrong by itself.
-    assert_eq!(
-        Mapping::new_vector(&CELL, &far, EPS),
-        Err(Refusal::Coordinate)
-    );
-    let numbers = |input| CALLS.map(|call| call(input, EVERY_EPS).0.err().map(Refusal::number));
-    assert_eq!(
-        numbers(Input { room: 0, ..INPUT }),
-        [Some(3), Some(12), Some(12)]
-    );
-    assert_eq!(
-        numbers(Input {
-            grid: &far,
-            ..INPUT
-        }),
-        [Some(4); 3]
-    );
-    for (samples, number) in [(&mark, 9), (&sample, 10), (&no_step, 11)] {
-        let input = Input { samples, ..INPUT };
-        assert_eq!(numbers(input), [None, Some(number), Some(number)]);
-    }
+    let search = |row: &[f64], tolerance| Mapping::new_vector(row, &far, tolerance);
+    assert_eq!(search(&CELL[..7], 0.0), Err(Refusal::Length));
+    assert_eq!(search(&CELL, 0.0), Err(Refusal::Tolerance));
+    assert_eq!(search(&CELL, 1.0), Err(Refusal::Coordinate));
 }
 
 /// The seam of two rows on the x axis.
@@ -286,13 +229,8 @@ fn search(a: [f64; 4], b: [f64; 4], tolerance: f64) -> (Option<Mapping>, u64) {
 fn rows_meet_where_they_are_closer_than_the_tolerance() {
     let (a, b) = ([0.0, 1.0, 2.0, 3.0], [3.25, 2.25, 1.25, 0.25]);
     assert_eq!(search(a, b, 0.25), (None, 3));
-    let reversed = (
-        Some(Reverse {
-            offset: 0,
-            steps: 3,
-        }),
-        6,
-    );
+    let (offset, steps) = (0, 3);
+    let reversed = (Some(Mapping::Reverse { offset, steps }), 6);
     assert_eq!(search(a, b, 0.25_f64.next_up()), reversed);
     assert_eq!(search(a, b, 1.0), reversed);
 }
@@ -300,23 +238,16 @@ fn rows_meet_where_they_are_closer_than_the_tolerance() {
 #[test]
 fn the_ends_of_a_row_are_compared_by_the_tolerance_too() {
     let (a, b) = ([0.0, 1.0, 2.0, 0.4], [1.0, 2.0, 0.0, 1.4]);
-    let turned = (
-        Some(Forward {
-            offset: 2,
-            steps: 3,
-        }),
-        10,
-    );
-    assert_eq!(search(a, b, 0.5), turned);
+    assert_eq!(search(a, b, 0.5), (forward(2, 3), 10));
     assert_eq!(search(a, b, 0.4), (None, 3));
 }
 
 #[test]
 fn a_point_closer_to_the_last_one_than_the_tolerance_of_lines_is_left_out() {
     for trace in TRACES {
-        let points = |line| {
-            let room = 18;
-            trace(Input { room, ..INPUT }, Tolerances { line, ..EVERY_EPS }).0
+        let points = |tolerance| {
+            let [.., line] = in_each_place(tolerance);
+            trace(INPUT, line).0
         };
         assert_eq!(points(0.25), Ok(3));
         assert_eq!(points(0.25_f64.next_up()), Ok(2));
@@ -326,39 +257,34 @@ fn a_point_closer_to_the_last_one_than_the_tolerance_of_lines_is_left_out() {
     }
 }
 
-/// What the trace asks of u and v, it asks by EPS.
 #[test]
-fn no_tolerance_moves_the_border_of_the_grid() {
-    let coarse = Tolerances {
-        u: 1.0,
-        v: 1.0,
-        line: 1.0,
-    };
-    let inside = [Sample::at(0.0, -EPS), Sample::at(1.0, -EPS)];
-    let outside = [Sample::at(0.0, -2.0 * EPS), Sample::at(1.0, -2.0 * EPS)];
-    let no_step = [Sample::at(1.0, 1_048_576.0), Sample::at(1.0, 1.0 + EPS)];
+fn the_tolerances_of_seams_leave_a_trace_as_it_is() {
     for trace in TRACES {
-        let answer = |samples, tolerances| {
-            let room = 18;
-            trace(
-                Input {
-                    samples,
-                    room,
-                    ..INPUT
-                },
-                tolerances,
-            )
-            .0
-        };
-        for tolerances in [EVERY_EPS, coarse] {
-            assert_eq!(answer(&outside, tolerances), Ok(0));
-            assert_eq!(answer(&no_step, tolerances), Err(Refusal::NoStep));
+        for tolerance in TAKEN {
+            let [u, v, _] = in_each_place(tolerance);
+            assert_eq!([u, v].map(|given| trace(INPUT, given).0), [Ok(3), Ok(3)]);
         }
-        assert_eq!(answer(&inside, EVERY_EPS), Ok(2));
     }
 }
 
-/// A tube, twice around: its last column misses the first by 0.01, its last row by 0.1.
+/// Whether a curve is on a side, or inside the grid, is decided by EPS.
+#[test]
+fn no_tolerance_moves_the_border_of_the_grid() {
+    let leg_at = |v| [Sample::at(0.0, v), Sample::at(1.0, v)];
+    let (inside, outside) = (leg_at(-EPS), leg_at(-2.0 * EPS));
+    let [u, v, line] = [1.0; 3];
+    for trace in TRACES {
+        for tolerances in [EVERY_EPS, Tolerances { u, v, line }] {
+            let answer = |samples| trace(Input { samples, ..INPUT }, tolerances).0;
+            assert_eq!(answer(&inside), Ok(2));
+            assert_eq!(answer(&outside), Ok(0));
+            assert_eq!(answer(&NO_STEP), Err(Refusal::NoStep));
+        }
+    }
+}
+
+/// A surface that is closed in u and in v, but that its last column misses the first by 0.01, and its
+/// last row the first by 0.1.
 fn nearly_closed() -> Vec<f64> {
     let (m, n) = (3, 4);
     let points = (0..=m).flat_map(|u| (0..=n).map(move |v| (u, v)));
@@ -373,14 +299,7 @@ fn nearly_closed() -> Vec<f64> {
 fn each_seam_is_found_by_its_own_tolerance() {
     let grid = nearly_closed();
     let surface = Surface::new(&grid, 3, 4).expect("a grid");
-    let u_seam = Some(Forward {
-        offset: 0,
-        steps: 4,
-    });
-    let v_seam = Some(Forward {
-        offset: 0,
-        steps: 3,
-    });
+    let (u_seam, v_seam) = (forward(0, 4), forward(0, 3));
     for (u, v, found) in [
         (EPS, EPS, [None, None]),
         (0.02, EPS, [u_seam, None]),
@@ -402,11 +321,8 @@ fn each_seam_is_found_by_its_own_tolerance() {
 #[test]
 fn a_surface_draws_by_its_tolerance_of_lines_but_for_the_grid() {
     let surface = Surface::new(&CELL, 1, 1).expect("a grid");
-    let coarse = Tolerances {
-        line: 0.25,
-        ..EVERY_EPS
-    };
-    let coarse = surface.with_tolerances(coarse).expect("tolerances");
+    let [.., line] = in_each_place(0.25);
+    let coarse = surface.with_tolerances(line).expect("tolerances");
     assert_eq!(coarse.grid_lines(), surface.grid_lines());
     let (spacing, twist) = (0.5, 0.5);
     let swirl = Texture::Swirl { spacing, twist };
