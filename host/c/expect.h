@@ -32,15 +32,15 @@ static inline bool mesh_empty(mt_mesh_answer mesh) {
         && mesh.triangles == 0 && mesh.pairs == 0;
 }
 
-/* Tolerances, as they are lent together. */
+/* The three tolerances of a call. */
 typedef struct tolerances {
     double u, v, line;
 } tolerances;
 
-/* Tolerances, as three arguments. */
+/* They as its arguments. */
 #define GIVEN(tolerances) (tolerances).u, (tolerances).v, (tolerances).line
 
-/* The tolerance of the original, which each may be. */
+/* The tolerance of the original. */
 #define EPS 1e-9
 
 /* guard.c */

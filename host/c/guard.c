@@ -9,6 +9,7 @@
 
 #include "expect.h"
 
+#include <math.h>
 #include <stdlib.h>
 #include <string.h>
 #include <sys/mman.h>
@@ -98,12 +99,12 @@ static double coordinate(void) {
     return below(400) == 0 ? 1e13 : below(12) == 0 ? (below(2) ? 1 : 0.25) : 0;
 }
 
-/* Mostly the original's, else one that tells such coordinates apart or does not, and now and then
- * one that is refused. */
+/* One that tells such coordinates apart or one that does not, and now and then one that is
+ * refused. */
 static double tolerance(void) {
-    static const double refused[] = {0, -1, 1 + 0x1p-52, 1e300};
+    static const double refused[] = {0, -0.0, -1, 1 + 0x1p-52, INFINITY, NAN};
     static const double taken[] = {EPS, EPS, 0x1p-1074, 0.25, 0.5, 1};
-    return below(60) == 0 ? refused[below(4)] : taken[below(6)];
+    return below(60) == 0 ? refused[below(6)] : taken[below(6)];
 }
 
 static bool fits(double tolerance) {
@@ -136,7 +137,9 @@ static tolerances given;
 static void next_grid(void) {
     m = some_steps();
     n = some_steps();
-    given = (tolerances){tolerance(), tolerance(), tolerance()};
+    given.u = tolerance();
+    given.v = tolerance();
+    given.line = tolerance();
     grid_len = m <= 4 && n <= 4 ? near(3 * (m + 1) * (n + 1)) : 12;
     for (size_t i = 0; i < grid_len; i++) {
         grid[i] = coordinate();
@@ -202,12 +205,12 @@ static bool finds_seams(void) {
     }
     const double *a = reads(0, grid, a_len * sizeof *a);
     const double *b = reads(1, grid + a_len, b_len * sizeof *b);
-    double taken = tolerance();
-    mt_rows_answer rows = mt_new_vector(a, a_len, b, b_len, taken);
+    double within = tolerance();
+    mt_rows_answer rows = mt_new_vector(a, a_len, b, b_len, within);
     ended[rows.refusal]++;
     bool whole = a_len % 3 == 0 && b_len % 3 == 0;
     uint8_t refusal = !whole ? MT_LENGTH
-        : !fits(taken) ? MT_TOLERANCE
+        : !fits(within) ? MT_TOLERANCE
         : any_far(a_len + b_len) ? MT_COORDINATE : MT_OK;
     if (rows.refusal != refusal) {
         return false;

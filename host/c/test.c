@@ -302,7 +302,7 @@ static bool all_end_with(uint8_t refusal, double tolerance) {
     return all;
 }
 
-/* Where 13 stands among the refusals: after 1 and 2, before 3, 4, 9, 10, 11 and 12. */
+/* Where 13 stands among the refusals: after 1 and 2, before all others. */
 static void order_of_13(void) {
     const tolerances none = {0, 0, 0};
     const double far[] = {0, 0, 0, 0, 1, 0, 1, 0, 0, 1, 1, NAN};
