@@ -338,7 +338,7 @@ static bool finds(const double a[4], const double b[4], double tolerance, mt_fou
     return told.refusal == MT_OK && same_seam(told.seam, seam);
 }
 
-/* The known results of other tolerances than EPS. */
+/* The known results of Rules 2, and the seam of each tolerance. */
 static void coarse(void) {
     const mt_found_seam none = {.comparisons = 3}, reverse = {true, true, 0, 3, 6};
     const double line[] = {0, 1, 2, 3}, back[] = {3.25, 2.25, 1.25, 0.25};

@@ -5,7 +5,8 @@ use crate::refusal::Refusal;
 /// answers as the original does.
 pub const EPS: f64 = 1e-9;
 
-/// How far apart two points may be and still count as one, at the seams and along a line.
+/// How far apart two points may be and still count as one, at the seams and along a line (Rules
+/// 2.3).
 ///
 /// Two points are close by a tolerance if of the magnitudes of their three differences the largest
 /// is less than it ([`Vector::all_close`](crate::Vector::all_close)). Each tolerance is a distance

@@ -1,6 +1,6 @@
 //! The known results of Rules 3, 4, 6 and 7, on the library: each that an open call can show.
-//! `host/original/tests/known_results.rs` has the same ones on the original. Those of other
-//! tolerances than EPS are in `tolerances.rs`.
+//! `host/original/tests/known_results.rs` has the same ones on the original. Those of Rules 2, on
+//! tolerances, are in `tolerances.rs`.
 
 use merlontrispa::Mapping::{Forward, Reverse};
 use merlontrispa::{

@@ -1,5 +1,5 @@
 //! Tolerances: by which of them each call goes, which it refuses and when, and the known results of
-//! other tolerances than EPS.
+//! Rules 2.
 
 use merlontrispa::{
     Drawn, EPS, Mapping, ParamPoint, Refusal, Sample, Surface, Texture, Tolerances, TraceLists,
