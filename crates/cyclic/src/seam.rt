@@ -1,5 +1,6 @@
 // Rules 3.1 to 3.3: the search for a seam between two rows of points.
 use crate::mapping::CyclicMapping;
+use float::consts::EPS;
 use refusal::Check;
 use refusal::Refusal;
 ghost use mathlib.Core.Path.{_≡_};
@@ -7,6 +8,7 @@ ghost use mathlib.Core.Bool.{true, cond};
 ghost use Prim.Native.Nat.{ℕ, _+_, _-_, _*_, _/_, _≤_, _<_};
 ghost use lib.ListN.{length};
 ghost use Rattle.grid.specs.Grid.{pointAt};
+ghost use Rattle.float.specs.Consts.{eps};
 ghost use Rattle.vector.specs.Vectors.{allClose};
 ghost use Rattle.cyclic.specs.Mapping.{image, HasIndex};
 ghost use Rattle.cyclic.specs.Search.{rowOf, Rows, closeAt, searched, closed, searchRows, search};
@@ -65,17 +67,14 @@ fn points_close(a: &[f64], i: usize, b: &[f64], k: usize, tolerance: f64) -> boo
     grid::point_at(a, i).all_close(grid::point_at(b, k), tolerance)
 }
 
-// Whether two points differ by less than the tolerance in each coordinate, and so are close. It has no branch, and so
-// is fast.
-fn points_near(a: &[f64], i: usize, b: &[f64], k: usize, tolerance: f64) -> bool
+// Whether two points differ by less than EPS in each coordinate, and so are close by EPS. It has no branch, and compares
+// with a constant, and so is fast.
+fn points_near(a: &[f64], i: usize, b: &[f64], k: usize) -> bool
     requires { ⌜ (3 * i + 3 ≤ length (now a)) × (3 * k + 3 ≤ length (now b)) ⌝ }
-    ensures { λ r. ⌜ (r ≡ true →
-        allClose (pointAt (now (a .entry)) i) (pointAt (now (b .entry)) k) tolerance ≡ true) ⌝ }
+    ensures { λ r. ⌜ (r ≡ true → allClose (pointAt (now (a .entry)) i) (pointAt (now (b .entry)) k) eps ≡ true) ⌝ }
 {
     let d = grid::point_at(a, i).sub(grid::point_at(b, k));
-    ((-tolerance < d.x) & (d.x < tolerance))
-        & ((-tolerance < d.y) & (d.y < tolerance))
-        & ((-tolerance < d.z) & (d.z < tolerance))
+    ((-EPS < d.x) & (d.x < EPS)) & ((-EPS < d.y) & (d.y < EPS)) & ((-EPS < d.z) & (d.z < EPS))
 }
 
 // Whether the rows are closed. The ends of b are compared only where those of a are close.
@@ -137,7 +136,7 @@ fn opposite(j: usize, steps: usize, reverse: bool) -> usize
 }
 
 // How many points of a, from the first on, are known to be close to their images at offset 0. Contiguous
-// rows are compared two points at a time; of others nothing is known.
+// rows are compared two points at a time, by EPS, which a tolerance is seldom below; of others nothing is known.
 fn close_run(
     a: &[f64],
     a_start: usize,
@@ -157,11 +156,14 @@ fn close_run(
     if stride != 1 {
         return run;
     }
+    if !(EPS <= tolerance) {
+        return run;
+    }
     while run + 2 <= steps {
         let k = opposite(run, steps, reverse);
         let next = opposite(run + 1, steps, reverse);
-        if !(points_near(a, a_start + run, b, b_start + k, tolerance)
-            & points_near(a, a_start + run + 1, b, b_start + next, tolerance)) {
+        if !(points_near(a, a_start + run, b, b_start + k)
+            & points_near(a, a_start + run + 1, b, b_start + next)) {
             return run;
         }
         run += 2;

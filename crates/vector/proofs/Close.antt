@@ -2,14 +2,14 @@
 -- but `larger` leaves a NaN out: so a NaN difference is passed over, and only three of them are never close.
 use mathlib.Core.Path.{_≡_, refl, sym, _∙_}
 use mathlib.Core.Bool.{Bool, true, false, not, _&&_, _||_, or-true, or-false, and-true, and-false, true≢false}
-use lib.Ieee.{Float, nan, inf, fin, binary64, lt, eq, neg, sub, ofBits, isNan}
+use lib.Ieee.{Float, nan, inf, fin, binary64, lt, le, eq, neg, sub, ofBits, isNan}
 use borrow.Author.Tests.{not-true, not-false}
 use Rattle.float.specs.Consts.{eps, zero64, one64}
 use Rattle.float.specs.Sign.{absolute, isFinite}
 use Rattle.float.specs.Order.{larger}
 use Rattle.float.specs.Table.{computed}
 use Rattle.basics.proofs.Tests.{and-both, cannot}
-use Rattle.float.proofs.Less.{eq-self}
+use Rattle.float.proofs.Less.{lt-le-trans, eq-self}
 use Rattle.float.proofs.Differences.{sub-swap, sub-not-nan, sub-self}
 use Rattle.float.proofs.Between.{abs-below}
 use Rattle.float.proofs.Larger.{abs-nan, larger-nan, larger-under, nan-not-below}
@@ -109,6 +109,11 @@ close-within a b d t e h =
     let y = within-below (d .y) t (each .1) in
     let z = within-below (d .z) t (xy .1) in
     close-differences a b d t e ∙ simp (x .0, y .0, z .0, x .1)
+
+-- ---- what is close by a tolerance is close by a larger one
+pub close-coarser : (a b : Vector) (s t : Float) → le s t ≡ true → allClose a b s ≡ true → allClose a b t ≡ true
+unfolding allClose
+close-coarser a b s t l h = lt-le-trans (largest (absolutes (minus a b))) s t h l
 
 -- ---- finite points are close where the three differences are below the tolerance
 abbrev pub Finite : Vector → Type 0

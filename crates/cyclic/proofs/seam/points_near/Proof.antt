@@ -1,7 +1,9 @@
--- `cyclic::seam::points_near` meets its contract: differences below the tolerance make two points close.
+-- `cyclic::seam::points_near` meets its contract: differences below EPS make two points close.
 use borrow.Author.Needs.{needs}
 use mathlib.Core.Path.{ap₂, _∙_}
 use denote.Ref.{now}
+use lib.Ieee.{ofBits}
+use Rattle.float.specs.Consts.{eps}
 use Rattle.vector.specs.Vectors.{minus}
 use Rattle.vector.proofs.Close.{close-within}
 use Rattle.grid.specs.Grid.{pointAt}
@@ -16,12 +18,13 @@ abbrev subtracted : tie.After-struct-known6 → tie.After-sub
 subtracted c = c .before .before .before .before .before .before
 
 returns : tie.Need-returns
+unfolding eps ofBits
 returns c =
     let d = subtracted c in
     let q = d .before in
     let p = q .before in
     let s = started p .args in
-    λ h. close-within (pointAt (now (s .a)) (s .i)) (pointAt (now (s .b)) (s .k)) (d .sub .result) (s .tolerance)
+    λ h. close-within (pointAt (now (s .a)) (s .i)) (pointAt (now (s .b)) (s .k)) (d .sub .result) eps
     (d .sub .ensures ∙ ap₂ minus (p .point-at .ensures) (q .point-at2 .ensures)) h
 
 pub points-near-spec : {M : Type 1} → statement M
