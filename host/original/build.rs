@@ -1,6 +1,10 @@
 //! Finds the original's sources: in the folder that LARNT_SRC names, else in ../shared/docs/src beside
-//! the repository. Where they are, `cfg(larnt)` is set and `larnt.rs` in OUT_DIR names each file.
+//! the repository. Where they are, `cfg(larnt)` is set, and OUT_DIR has what names their files, and
+//! the edited copies of some of them (edits.rs).
 
+mod edits;
+
+use edits::{Edit, LENT, TOLERANT, edited};
 use std::env;
 use std::fs;
 use std::path::{Path, PathBuf};
@@ -24,51 +28,45 @@ fn main() {
     println!("cargo::rustc-cfg=larnt");
     println!("cargo::metadata=present=1");
     let out = PathBuf::from(env::var_os("OUT_DIR").expect("cargo sets OUT_DIR"));
-    fs::write(out.join("larnt.rs"), modules(&sources)).expect("OUT_DIR can be written");
-    fs::write(out.join("parametric.rs"), include(&sources)).expect("OUT_DIR can be written");
-    match lent(&sources) {
-        Ok(text) => fs::write(out.join("lent.rs"), text).expect("OUT_DIR can be written"),
-        Err(fault) => println!("cargo::error={fault}"),
+    if let Err(fault) = provide(&sources, &out) {
+        println!("cargo::error={fault}");
     }
 }
 
-/// The files that are modules of their own.
-fn modules(sources: &Path) -> String {
-    ["path", "util", "vector"]
-        .map(|name| {
-            let file = sources.join(name).with_extension("rs");
-            format!("#[allow(clippy::all, dead_code, missing_docs, unexpected_cfgs)]\n#[path = {file:?}]\nmod {name};\n")
-        })
-        .concat()
+/// Writes what the crate includes: the unchanged files by their paths, and the copies.
+fn provide(sources: &Path, out: &Path) -> Result<(), String> {
+    let unchanged = ["path", "util", "vector"].map(|name| module(name, sources));
+    write(&out.join("larnt.rs"), &unchanged.concat())?;
+    let parametric = sources.join("parametric.rs");
+    write(
+        &out.join("parametric.rs"),
+        &format!("include!({parametric:?});\n"),
+    )?;
+    copy(sources, "parametric.rs", &LENT, &out.join("lent"))?;
+    let tolerant = out.join("tolerant");
+    copy(sources, "parametric.rs", &TOLERANT, &tolerant)?;
+    copy(sources, "vector.rs", &TOLERANT, &tolerant)?;
+    write(&out.join("tolerant.rs"), &module("vector", &tolerant))
 }
 
-/// The file that stands inside a module of ours, beside functions that call its private ones.
-fn include(sources: &Path) -> String {
-    format!("include!({:?});\n", sources.join("parametric.rs"))
+/// A file of a folder that is a module of its own.
+fn module(name: &str, folder: &Path) -> String {
+    let file = folder.join(name).with_extension("rs");
+    format!(
+        "#[allow(clippy::all, dead_code, missing_docs, unexpected_cfgs, unused_imports)]\n\
+         #[path = {file:?}]\nmod {name};\n"
+    )
 }
 
-/// What differs in the copy whose rays are lent a direction, and how often each stands in the file.
-const LENT: [(&str, &str, usize); 3] = [
-    (
-        "use crate::util::{ParamEdge, ParamPoint, trace_parametric_edge_curve};",
-        "use super::lent::{ParamEdge, ParamPoint, cosine, sine, trace_parametric_edge_curve};",
-        1,
-    ),
-    ("angle.cos()", "cosine(angle)", 2),
-    ("angle.sin()", "sine(angle)", 2),
-];
+/// Writes an edited copy of a source to a folder.
+fn copy(sources: &Path, file: &str, edits: &[Edit], folder: &Path) -> Result<(), String> {
+    let source = sources.join(file);
+    let text = fs::read_to_string(&source);
+    let text = text.map_err(|fault| format!("{}: {fault}", source.display()))?;
+    fs::create_dir_all(folder).map_err(|fault| format!("{}: {fault}", folder.display()))?;
+    write(&folder.join(file), &edited(file, text, edits)?)
+}
 
-/// A copy of parametric.rs in which a sample's cosine and sine are lent, or a sentence that says
-/// what is not in the file as it should be.
-fn lent(sources: &Path) -> Result<String, String> {
-    let file = sources.join("parametric.rs");
-    let text = fs::read_to_string(&file).map_err(|fault| format!("{}: {fault}", file.display()))?;
-    LENT.iter().try_fold(text, |text, &(words, other, count)| {
-        match text.matches(words).count() {
-            found if found == count => Ok(text.replace(words, other)),
-            found => Err(format!(
-                "{words} stands {found} times in parametric.rs, and not {count}"
-            )),
-        }
-    })
+fn write(file: &Path, text: &str) -> Result<(), String> {
+    fs::write(file, text).map_err(|fault| format!("{}: {fault}", file.display()))
 }

@@ -8,7 +8,7 @@
 /// The copy, and beside it what its rays are made by.
 #[allow(clippy::all, dead_code, missing_docs)]
 mod copy {
-    include!(concat!(env!("OUT_DIR"), "/lent.rs"));
+    include!(concat!(env!("OUT_DIR"), "/lent/parametric.rs"));
 
     /// A surface that has no points, since the samples of a ray need none.
     pub fn surface(u_steps: usize, v_steps: usize) -> ParametricSurface {

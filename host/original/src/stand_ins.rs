@@ -7,7 +7,7 @@ pub(crate) mod common {
 }
 
 pub(crate) mod bounding_box {
-    use crate::vector::Vector;
+    use super::super::vector::Vector;
 
     #[derive(Debug, Clone, Copy, Default)]
     pub struct BBox;
@@ -24,7 +24,7 @@ pub(crate) mod bounding_box {
 }
 
 pub(crate) mod filter {
-    use crate::vector::Vector;
+    use super::super::vector::Vector;
 
     pub trait Filter {
         fn filter(&self, v: Vector) -> Option<Vector>;
@@ -42,7 +42,7 @@ pub(crate) mod ray {
 }
 
 pub(crate) mod matrix {
-    use crate::vector::Vector;
+    use super::super::vector::Vector;
 
     /// The identity.
     #[derive(Debug, Clone, Copy)]
@@ -60,12 +60,12 @@ pub(crate) mod matrix {
 }
 
 pub(crate) mod shape {
+    use super::super::path::Paths;
+    use super::super::vector::Vector;
     use super::bounding_box::BBox;
     use super::hit::Hit;
     use super::matrix::Matrix;
     use super::ray::Ray;
-    use crate::path::Paths;
-    use crate::vector::Vector;
 
     pub trait Shape {
         fn bounding_box(&self) -> BBox;
@@ -83,10 +83,10 @@ pub(crate) mod shape {
 }
 
 pub(crate) mod mesh {
+    use super::super::vector::Vector;
     use super::bounding_box::BBox;
     use super::hit::Hit;
     use super::ray::Ray;
-    use crate::vector::Vector;
     use std::collections::HashSet;
 
     #[derive(Debug, Clone)]

@@ -2,7 +2,7 @@
 #![cfg(larnt)]
 
 use original::CyclicMapping::{Forward, Reverse};
-use original::{CyclicMapping, Sample, Side, Surface, Vector, seams, step_index};
+use original::{CyclicMapping, Sample, Side, Surface, Vector, step_index};
 
 const EPS: f64 = 1e-9;
 
@@ -11,7 +11,7 @@ fn row(xs: &[f64]) -> Vec<Vector> {
 }
 
 fn search(a: &[f64], b: &[f64]) -> (Option<(char, usize, usize)>, u64) {
-    let (found, comparisons) = seams::search(&row(a), &row(b));
+    let (found, comparisons) = original::search(&row(a), &row(b));
     let found = found.map(|mapping| match mapping {
         CyclicMapping::Forward(offset, steps) => ('F', offset, steps),
         CyclicMapping::Reverse(offset, steps) => ('R', offset, steps),

@@ -1,50 +1,14 @@
-//! A surface from its grid: triangles, flipped pairs, lines and traces.
+//! A surface from its grid: triangles, flipped pairs, lines and traces, by the file that this stands
+//! in: unchanged or edited.
 #![warn(missing_docs)]
 
-use super::{ParametricSurface, ParametricSurfaceTexture};
-use crate::matrix::Matrix;
-use crate::path::Paths;
-use crate::shape::{RenderArgs, Shape};
-use crate::util::{ParamEdge, ParamPoint, trace_parametric_edge_curve};
-use crate::vector::Vector;
+use super::super::matrix::Matrix;
+use super::{
+    ParamEdge, ParamPoint, ParametricSurface, ParametricSurfaceTexture, Paths, RenderArgs, Shape,
+    Vector, same_point, trace_parametric_edge_curve,
+};
+use crate::walk::{Made, Sample, Side, Walk, caught};
 use std::cell::{Cell, RefCell};
-use std::panic::{self, AssertUnwindSafe};
-use std::sync::Once;
-
-/// A sample of a curve: u and v, or a break.
-pub type Sample = Option<(f64, f64)>;
-
-/// The two grid points that a drawn point lies between, and where (Rules 7.2).
-#[derive(Debug, Clone, Copy, PartialEq)]
-pub struct Side {
-    /// The number of p.
-    pub p: usize,
-    /// The number of q.
-    pub q: usize,
-    /// How far the point lies from p to q.
-    pub t: f64,
-}
-
-/// A point that the walk of a trace makes.
-#[derive(Debug, Clone, Copy)]
-pub struct Made {
-    /// The point and what it was made from, or nothing where the original panics.
-    pub point: Option<(Vector, Side)>,
-    /// The number of the sample that the original took last before it made the point, from 0 on.
-    pub sample: usize,
-    /// Whether it is close to the last pending point, or nothing where no point is pending.
-    pub close: Option<bool>,
-}
-
-/// The walk of a trace. It goes on where the original panics.
-#[derive(Debug, Clone)]
-pub struct Walk {
-    /// The points that it makes, in order. A pending line was flushed before each one at which no
-    /// point is pending, and at the end.
-    pub made: Vec<Made>,
-    /// Those that the original's own lines keep.
-    pub kept: Vec<Made>,
-}
 
 /// A surface of `u_steps` by `v_steps` cells.
 pub struct Surface(ParametricSurface);
@@ -110,7 +74,7 @@ impl Surface {
                 let side = self.side(edge, at);
                 let mut made = made.borrow_mut();
                 made.push(Made {
-                    point: side.map(|side| (self.0.edge_point(edge, at), side)),
+                    point: side.map(|side| (self.0.edge_point(edge, at).into(), side)),
                     sample: taken.get() - 1,
                     close: None,
                 });
@@ -119,7 +83,7 @@ impl Surface {
             |last: &usize, place| {
                 let mut made = made.borrow_mut();
                 let both = made[*last].point.zip(made[*place].point);
-                let close = both.is_some_and(|((a, _), (b, _))| a.all_close(b));
+                let close = both.is_some_and(|((a, _), (b, _))| same_point(a.into(), b.into()));
                 made[*place].close = Some(close);
                 close
             },
@@ -165,23 +129,14 @@ fn points(samples: &[Sample]) -> impl Iterator<Item = Option<ParamPoint>> {
         .map(|sample| sample.map(|(u, v)| ParamPoint::new(u, v)))
 }
 
-thread_local! {
-    static EXPECTED: Cell<bool> = const { Cell::new(false) };
+impl From<[f64; 3]> for Vector {
+    fn from([x, y, z]: [f64; 3]) -> Self {
+        Self { x, y, z }
+    }
 }
 
-/// The call's answer, or nothing where it panics. Such a panic is not reported.
-fn caught<T>(call: impl FnOnce() -> T) -> Option<T> {
-    static QUIET: Once = Once::new();
-    QUIET.call_once(|| {
-        let report = panic::take_hook();
-        panic::set_hook(Box::new(move |info| {
-            if !EXPECTED.get() {
-                report(info);
-            }
-        }));
-    });
-    EXPECTED.set(true);
-    let answer = panic::catch_unwind(AssertUnwindSafe(call));
-    EXPECTED.set(false);
-    answer.ok()
+impl From<Vector> for [f64; 3] {
+    fn from(Vector { x, y, z }: Vector) -> Self {
+        [x, y, z]
+    }
 }
