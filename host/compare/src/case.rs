@@ -2,7 +2,7 @@
 
 use crate::mappings::mapping;
 use crate::text::{Text, Words};
-use merlontrispa::{Drawn, Mapping, Texture, Vector};
+use merlontrispa::{Drawn, Mapping, Texture, Tolerances, Vector};
 use std::collections::HashSet;
 use std::ops::Range;
 
@@ -19,6 +19,18 @@ pub trait Case: Clone + 'static {
 
     /// Cases that are smaller or plainer than this one, the smallest first. None leads back to it.
     fn smaller(&self) -> Smaller<Self>;
+
+    /// Writes it as the field of a struct.
+    fn write_field(&self, name: &str, text: &mut Text) {
+        text.field(name);
+        self.write(text);
+    }
+
+    /// What `write_field` wrote.
+    fn read_field(name: &str, words: &mut Words<'_>) -> Result<Self, String> {
+        words.expect(name)?;
+        Self::read(words)
+    }
 }
 
 /// Makes a struct a case by its fields: each has a line of its own, and may be made smaller alone. What
@@ -27,18 +39,12 @@ macro_rules! case {
     ($type:ident { $($field:ident),+ } $(, first $first:expr)?) => {
         impl $crate::case::Case for $type {
             fn write(&self, text: &mut $crate::text::Text) {
-                $(
-                    text.field(stringify!($field));
-                    self.$field.write(text);
-                )+
+                $(self.$field.write_field(stringify!($field), text);)+
             }
 
             fn read(words: &mut $crate::text::Words<'_>) -> Result<Self, String> {
                 Ok(Self {
-                    $($field: {
-                        words.expect(stringify!($field))?;
-                        $crate::case::Case::read(words)?
-                    }),+
+                    $($field: $crate::case::Case::read_field(stringify!($field), words)?),+
                 })
             }
 
@@ -62,6 +68,7 @@ pub(crate) use case;
 
 case!(Vector { x, y, z });
 case!(Drawn { points, lines });
+case!(Tolerances { u, v, line });
 
 impl Case for f64 {
     fn write(&self, text: &mut Text) {
@@ -178,6 +185,32 @@ impl<A: Case, B: Case> Case for (A, B) {
     }
 }
 
+/// A field of this type has no line where it is `None`, and stays what it is of the two.
+impl<T: Case> Case for Option<T> {
+    fn write(&self, text: &mut Text) {
+        self.iter().for_each(|x| x.write(text));
+    }
+
+    fn read(words: &mut Words<'_>) -> Result<Self, String> {
+        T::read(words).map(Some)
+    }
+
+    fn smaller(&self) -> Smaller<Self> {
+        match self {
+            None => Box::new(std::iter::empty()),
+            Some(x) => Box::new(x.smaller().map(Some)),
+        }
+    }
+
+    fn write_field(&self, name: &str, text: &mut Text) {
+        self.iter().for_each(|x| x.write_field(name, text));
+    }
+
+    fn read_field(name: &str, words: &mut Words<'_>) -> Result<Self, String> {
+        words.take(name).then(|| T::read(words)).transpose()
+    }
+}
+
 impl<T: Case> Case for Vec<T> {
     fn write(&self, text: &mut Text) {
         text.word("[");
@@ -188,7 +221,7 @@ impl<T: Case> Case for Vec<T> {
     fn read(words: &mut Words<'_>) -> Result<Self, String> {
         words.expect("[")?;
         let mut list = Self::new();
-        while !words.closes() {
+        while !words.take("]") {
             list.push(T::read(words)?);
         }
         Ok(list)

@@ -2,6 +2,7 @@
 
 pub mod grids;
 pub mod lists;
+pub mod tolerances;
 
 use crate::random::Random;
 
@@ -114,13 +115,21 @@ pub fn whole(random: &mut Random) -> usize {
     n as usize
 }
 
-/// A value about as far from `x` as closeness reaches.
+/// A value about as far from `x` as EPS.
 pub fn near(random: &mut Random, x: f64) -> f64 {
+    about(random, x, EPS)
+}
+
+/// A value about so far from `x`.
+pub fn about(random: &mut Random, x: f64, distance: f64) -> f64 {
     match random.below(4) {
         0 => x,
-        1 => x + random.of(&[-EPS, EPS]),
-        2 => step(x + random.of(&[-EPS, EPS]), random.whole(-2, 2)),
-        _ => x + EPS * (4.0 * random.unit() - 2.0),
+        1 => x + random.of(&[-distance, distance]),
+        2 => {
+            let there = x + random.of(&[-distance, distance]);
+            step(there, random.whole(-2, 2))
+        }
+        _ => x + distance * (4.0 * random.unit() - 2.0),
     }
 }
 

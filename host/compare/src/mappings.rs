@@ -1,7 +1,7 @@
-//! Mappings and seams of the original in the library's types, and back.
+//! Mappings, seams and tolerances of the original in the library's types, and back.
 
-use merlontrispa::{Mapping, Seam};
-use original::{CyclicMapping, Vector};
+use merlontrispa::{Mapping, Seam, Tolerances};
+use original::{CyclicMapping, edited, vectors};
 
 pub fn mapping(reverse: bool, offset: usize, steps: usize) -> Mapping {
     if reverse {
@@ -19,9 +19,19 @@ pub fn to_original(mapping: Mapping) -> CyclicMapping {
     }
 }
 
-/// What the original's search finds, and its comparisons.
-pub fn searched(a: &[Vector], b: &[Vector]) -> Seam {
-    let (found, comparisons) = original::seams::search(a, b);
+/// The same tolerances in the edited original's type.
+pub fn to_edited(tolerances: Tolerances) -> edited::Tolerances {
+    let Tolerances { u, v, line } = tolerances;
+    edited::Tolerances { u, v, line }
+}
+
+/// What the original's search finds between two rows, three numbers to a point, and its comparisons:
+/// the edited original's where a tolerance is given.
+pub fn searched(a: &[f64], b: &[f64], tolerance: Option<f64>) -> Seam {
+    let (found, comparisons) = match tolerance {
+        None => original::search(&vectors(a), &vectors(b)),
+        Some(tolerance) => edited::search(&edited::vectors(a), &edited::vectors(b), tolerance),
+    };
     let mapping = found.map(|found| match found {
         CyclicMapping::Forward(offset, steps) => Mapping::Forward { offset, steps },
         CyclicMapping::Reverse(offset, steps) => Mapping::Reverse { offset, steps },

@@ -8,12 +8,14 @@
 //! The text is of numbers to the base 16. A field is a count and as many numbers, on a line of its
 //! own; a case is a field, which begins with its count. Field 0 has the number of cases. In a case
 //! field 0 has the call, what it is held to (0 the original, 1 docs/RULES.md) and the numbers it
-//! takes; lists follow, each its length and its places without the zeros at its end.
+//! takes, tolerances last, by their bits; lists follow, each its length and its places without the
+//! zeros at its end.
 
 use crate::inputs::grids::Grid;
+use crate::inputs::tolerances::tolerance_fits;
 use crate::layers::{lines, meshes, seams, textures, traces, vectors};
 use crate::random::Random;
-use merlontrispa::Refusal;
+use merlontrispa::{Refusal, Tolerances};
 use std::collections::BTreeMap;
 
 /// How many cases reach a thing before one more that reaches nothing else is passed over.
@@ -42,13 +44,13 @@ use Call::*;
 
 /// The calls that can be refused, each with the numbers of its refusals.
 const REFUSALS: [(Call, &[u8]); 10] = [
-    (NewVector, &[2, 4]),
+    (NewVector, &[2, 4, 13]),
     (MapIndex, &[8]),
     (MapIndexInv, &[8]),
-    (TriangulateGrid, &[1, 2, 3, 4]),
+    (TriangulateGrid, &[1, 2, 3, 4, 13]),
     (GridPaths, &[1, 2, 3, 4]),
     (Line, &[8]),
-    (TraceFlat, &[1, 2, 4, 9, 10, 11, 12]),
+    (TraceFlat, &[1, 2, 4, 9, 10, 11, 12, 13]),
     (Plan, &[1, 5, 6]),
     (Angle, &[1, 5, 6, 8]),
     (SamplePoint, &[1, 5, 6, 7, 8]),
@@ -64,11 +66,21 @@ const SEAMS: [&str; 5] = [
 ];
 
 /// What else has to be reached.
-const REACHED: [(Call, &[&str]); 6] = [
+const REACHED: [(Call, &[&str]); 7] = [
     (NewVector, &SEAMS),
+    (NewVector, &["another seam than by EPS"]),
     (
         TriangulateGrid,
-        &["many cells", "a triangle left out", "flipped pairs"],
+        &[
+            "many cells",
+            "a triangle left out",
+            "flipped pairs",
+            "another u seam than by EPS",
+            "another v seam than by EPS",
+            "u refused alone",
+            "v refused alone",
+            "line refused alone",
+        ],
     ),
     (GridPaths, &["many cells"]),
     (Line, &["the last line", "an empty line"]),
@@ -89,11 +101,27 @@ const REACHED: [(Call, &[&str]); 6] = [
             "a point close to the last one of another leg",
             "no room in the samples alone",
             "many cells",
+            "fewer points than by EPS",
+            "more points than by EPS",
+            "u refused alone",
+            "v refused alone",
+            "line refused alone",
         ],
     ),
     (
         Vector,
-        &["add", "sub", "mul_scalar", "all_close", "not all_close"],
+        &[
+            "add",
+            "sub",
+            "mul_scalar",
+            "all_close",
+            "not all_close",
+            "all_close by more than EPS",
+            "not all_close by less than EPS",
+            "a tolerance that is a NaN",
+            "a tolerance that is not above zero",
+            "a tolerance above 1",
+        ],
     ),
 ];
 
@@ -125,6 +153,25 @@ impl Recorded {
     pub fn on_grid(call: Call, refused: Option<Refusal>, grid: &Grid) -> Self {
         let steps = [grid.u_steps as u64, grid.v_steps as u64];
         Self::new(call, refused, &steps).floats(&grid.numbers)
+    }
+
+    /// A call on a grid that takes tolerances: they stand after the steps.
+    pub fn on_grid_at(
+        call: Call,
+        refused: Option<Refusal>,
+        grid: &Grid,
+        tolerances: Tolerances,
+    ) -> Self {
+        let Tolerances { u, v, line } = tolerances;
+        let mut case = Self::on_grid(call, refused, grid);
+        case.fields[0].extend([u, v, line].map(bits));
+        if refused != Some(Refusal::Tolerance) {
+            return case;
+        }
+        let fit = [u, v, line].map(tolerance_fits);
+        case.reaching_if(fit == [false, true, true], "u refused alone")
+            .reaching_if(fit == [true, false, true], "v refused alone")
+            .reaching_if(fit == [true, true, false], "line refused alone")
     }
 
     /// Held to the rules: the original has no such call.

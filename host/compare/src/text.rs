@@ -60,9 +60,9 @@ impl<'a> Words<'a> {
         self.parse(name, |word| (word == name).then_some(()))
     }
 
-    /// Whether the next word is `]`, which is then taken.
-    pub fn closes(&mut self) -> bool {
-        self.0.next_if_eq(&"]").is_some()
+    /// Whether the next word is this one, which is then taken.
+    pub fn take(&mut self, word: &str) -> bool {
+        self.0.next_if_eq(&word).is_some()
     }
 
     /// No further word.

@@ -1,10 +1,13 @@
 //! Grids whose opposite lines meet by a mapping, nearly meet, or do not, and such as are refused.
 
 use crate::case::{Smaller, case, plainer_everywhere, stretches, without};
-use crate::inputs::{COORDINATE_EDGES, COORDINATE_FAULTS, coordinates_fit, near};
+use crate::inputs::tolerances::{
+    Point, any_tolerance, row_distances, tolerance_at, tolerances_fit,
+};
+use crate::inputs::{COORDINATE_EDGES, COORDINATE_FAULTS, about, coordinates_fit, near};
 use crate::mappings::{mapping, to_original};
 use crate::random::Random;
-use merlontrispa::{Mapping, Refusal};
+use merlontrispa::{Mapping, Refusal, Tolerances};
 use std::iter;
 
 /// A grid of `u_steps` by `v_steps` cells, three numbers for each point.
@@ -28,15 +31,16 @@ impl Grid {
         }
     }
 
-    /// The first of the refusals 1, 2 and 4 that applies.
-    pub fn refusal(&self) -> Option<Refusal> {
-        self.refusal_with_lists([0; 2], |_, _| [0; 2])
+    /// The first of the refusals 1, 2, 13 and 4 that applies, 13 where tolerances are given.
+    pub fn refusal(&self, tolerances: Option<Tolerances>) -> Option<Refusal> {
+        self.refusal_with_lists(tolerances, [0; 2], |_, _| [0; 2])
     }
 
-    /// The first of the refusals 1, 2, 3 and 4 that applies where two lists of these lengths are
+    /// The first of the refusals 1, 2, 13, 3 and 4 that applies where two lists of these lengths are
     /// lent; `least` has the least lengths for so many steps.
     pub fn refusal_with_lists(
         &self,
+        tolerances: Option<Tolerances>,
         lengths: [usize; 2],
         least: fn(usize, usize) -> [usize; 2],
     ) -> Option<Refusal> {
@@ -45,6 +49,8 @@ impl Grid {
             Some(Refusal::Steps)
         } else if self.numbers.len() != 3 * (m + 1) * (n + 1) {
             Some(Refusal::Length)
+        } else if !tolerances.is_none_or(tolerances_fit) {
+            Some(Refusal::Tolerance)
         } else if iter::zip(lengths, least(m, n)).any(|(length, least)| length < least) {
             Some(Refusal::Room)
         } else if !coordinates_fit(&self.numbers) {
@@ -52,6 +58,19 @@ impl Grid {
         } else {
             None
         }
+    }
+
+    /// The points of column u, where the grid has as many numbers as its steps want.
+    pub fn column(&self, u: usize) -> Vec<Point> {
+        let points = self.numbers.as_chunks().0;
+        points[u * (self.v_steps + 1)..][..=self.v_steps].to_vec()
+    }
+
+    /// The points of row v.
+    pub fn row(&self, v: usize) -> Vec<Point> {
+        let points = self.numbers.as_chunks().0;
+        let row = points[v..].iter().step_by(self.v_steps + 1);
+        row.copied().collect()
     }
 
     /// Fewer lines, or points that still coincide where these do.
@@ -224,6 +243,57 @@ pub fn any_grid(random: &mut Random, u_steps: usize, v_steps: usize) -> Grid {
         grid.numbers[place] = near(random, grid.numbers[place]);
     }
     grid
+}
+
+/// A grid whose seams are open about as far as tolerances of theirs, and three tolerances: each any,
+/// or, for a seam, at a distance that a search of it asks about.
+pub fn gaping_grid(random: &mut Random, u_steps: usize, v_steps: usize) -> (Grid, Tolerances) {
+    let joining = Joining::any(random, u_steps, v_steps);
+    let gaps = [any_tolerance(random), any_tolerance(random)];
+    let scale = random.of(&[1.0, gaps[0], gaps[1], 1.0 / 256.0]);
+    let flat = random.below(2) == 0;
+    let mut grid = joining.grid(u_steps, v_steps, |_| {
+        let point = if flat {
+            [random.below(2) as f64, random.below(2) as f64, 0.0]
+        } else {
+            [random.unit(), 8.0 * random.unit(), -256.0 * random.unit()]
+        };
+        point.map(|x| scale * x)
+    });
+    for _ in 0..random.below(6) {
+        let number = seam_point(random, u_steps, v_steps);
+        let place = 3 * number + random.below(3) as usize;
+        let gap = random.of(&gaps);
+        grid.numbers[place] = about(random, grid.numbers[place], gap);
+    }
+    let columns = [0, u_steps].map(|u| grid.column(u));
+    let rows = [0, v_steps].map(|v| grid.row(v));
+    let tolerances = Tolerances {
+        u: gap_tolerance(random, gaps[0], &columns, joining.u),
+        v: gap_tolerance(random, gaps[1], &rows, joining.v),
+        line: any_tolerance(random),
+    };
+    (grid, tolerances)
+}
+
+/// A tolerance that is the gap of a seam, at a distance that a search of its mapping asks about, or
+/// any.
+fn gap_tolerance(
+    random: &mut Random,
+    gap: f64,
+    lines: &[Vec<Point>; 2],
+    found: Option<Mapping>,
+) -> f64 {
+    let steps = lines[0].len() - 1;
+    let found = found.unwrap_or(mapping(random.below(2) == 0, 0, steps));
+    match random.below(4) {
+        0 => any_tolerance(random),
+        1 => gap,
+        _ => {
+            let distances = row_distances(&lines[0], &lines[1], found);
+            tolerance_at(random, &distances)
+        }
+    }
 }
 
 /// The number of a point of one of the four outer lines.

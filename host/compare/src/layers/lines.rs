@@ -83,7 +83,7 @@ fn library(input: &Input) -> Output {
 fn original(input: &Input) -> Output {
     let (mut points, mut starts) = (floats(input.points), numbers(input.starts));
     let lengths = [input.points, input.starts];
-    if let Some(refusal) = input.grid.refusal_with_lists(lengths, least) {
+    if let Some(refusal) = input.grid.refusal_with_lists(None, lengths, least) {
         return (Err(refusal), (points, starts));
     }
     let paths = paths(&input.grid);

@@ -2,37 +2,54 @@
 
 use crate::case::{Smaller, case};
 use crate::driver::{Compared, Driver};
-use crate::inputs::grids::{Grid, Joining, any_grid, any_steps, spoil};
+use crate::inputs::EPS;
+use crate::inputs::grids::{Grid, Joining, any_grid, any_steps, gaping_grid, spoil};
 use crate::inputs::lists::{fewer_cells, fill, length, numbers};
+use crate::inputs::tolerances::faulty_tolerances;
 use crate::layers::seams::{kind, seam_words};
-use crate::mappings::{mapping, searched};
+use crate::mappings::{mapping, searched, to_edited};
 use crate::random::Random;
 use crate::record::{Call, Record, Recorded};
-use merlontrispa::{Mapping, Refusal, Seams, Triangulation, triangulate_grid};
-use original::{Surface, Vector, vectors};
+use merlontrispa::{Mapping, Refusal, Seams, Tolerances, Triangulation, triangulate_grid};
+use original::{Surface, edited, vectors};
 
 /// A grid and how long the lists are that are lent.
 #[derive(Clone)]
 struct Input {
     grid: Grid,
+    /// Those of the library and of the edited original. Where none are given the library is given
+    /// EPS three times, and held to the unchanged original.
+    tolerances: Option<Tolerances>,
     triangles: usize,
     flipped: usize,
 }
 
-case!(Input { grid, triangles, flipped }, first Input::fewer_cells);
+case!(Input { grid, tolerances, triangles, flipped }, first Input::fewer_cells);
 
 impl Input {
     fn new(grid: Grid, [triangles, flipped]: [usize; 2]) -> Self {
         Self {
             grid,
+            tolerances: None,
             triangles,
             flipped,
         }
     }
 
+    fn at(self, tolerances: Tolerances) -> Self {
+        Self {
+            tolerances: Some(tolerances),
+            ..self
+        }
+    }
+
     fn fewer_cells(&self) -> Smaller<Self> {
+        let tolerances = self.tolerances;
         let fewer = fewer_cells(&self.grid, [self.triangles, self.flipped], least);
-        Box::new(fewer.map(|(grid, lengths)| Self::new(grid, lengths)))
+        Box::new(fewer.map(move |(grid, lengths)| Self {
+            tolerances,
+            ..Self::new(grid, lengths)
+        }))
     }
 }
 
@@ -69,6 +86,33 @@ pub fn compare(driver: &mut Driver) -> Compared {
         faulty,
         library,
         original,
+    )?;
+    compare_at_tolerances(driver)
+}
+
+fn compare_at_tolerances(driver: &mut Driver) -> Compared {
+    let name = "triangulate_grid, at tolerances, borders of letters that are close by turns";
+    driver.compare_each(name, borders_at_tolerances(), library, original)?;
+    driver.compare(
+        "triangulate_grid, at tolerances, planted",
+        100_000,
+        gaping,
+        library,
+        original,
+    )?;
+    driver.compare(
+        "triangulate_grid, at tolerances, 255 by 255",
+        20,
+        |random| gaping_cells(random, 255, 255),
+        library,
+        original,
+    )?;
+    driver.compare(
+        "triangulate_grid, at tolerances, refusals",
+        100_000,
+        faulty_at_tolerances,
+        library,
+        original,
     )
 }
 
@@ -80,6 +124,7 @@ fn library(input: &Input) -> Output {
         &grid.numbers,
         grid.u_steps,
         grid.v_steps,
+        input.tolerances.unwrap_or_default(),
         triangles,
         flipped,
     );
@@ -91,45 +136,49 @@ fn original(input: &Input) -> Output {
     if let Some(refusal) = refusal(input) {
         return (Err(refusal), lists);
     }
-    let Grid {
-        u_steps, v_steps, ..
-    } = input.grid;
-    let points = vectors(&input.grid.numbers);
-    let seams = seams(&points, u_steps, v_steps);
-    let surface = Surface::from_grid(points, u_steps, v_steps);
-    let (triangles, flipped) = (surface.triangles(), surface.flipped());
+    let (triangles, flipped) = triangulated(&input.grid, input.tolerances);
     let told = Triangulation {
-        seams,
+        seams: seams(&input.grid, input.tolerances),
         triangles: triangles.len() / 3,
         flipped: flipped.len(),
     };
-    fill(&mut lists[0], triangles.iter().copied());
+    fill(&mut lists[0], triangles);
     fill(&mut lists[1], flipped.into_iter().flat_map(|(a, b)| [a, b]));
     (Ok(told), lists)
 }
 
+/// The triangles and flipped pairs of the original: the edited one's where tolerances are given.
+fn triangulated(grid: &Grid, tolerances: Option<Tolerances>) -> (Vec<usize>, Vec<(usize, usize)>) {
+    let (numbers, m, n) = (&grid.numbers, grid.u_steps, grid.v_steps);
+    match tolerances {
+        None => {
+            let surface = Surface::from_grid(vectors(numbers), m, n);
+            (surface.triangles().to_vec(), surface.flipped())
+        }
+        Some(tolerances) => {
+            let points = edited::vectors(numbers);
+            let surface = || edited::Surface::from_grid(points, m, n);
+            let surface = edited::at(to_edited(tolerances), surface);
+            (surface.triangles().to_vec(), surface.flipped())
+        }
+    }
+}
+
 /// The two seams that the original finds.
-fn seams(points: &[Vector], u_steps: usize, v_steps: usize) -> Seams {
-    let column = |u| -> Vec<_> {
-        (0..=v_steps)
-            .map(|v| points[u * (v_steps + 1) + v])
-            .collect()
-    };
-    let row = |v| -> Vec<_> {
-        (0..=u_steps)
-            .map(|u| points[u * (v_steps + 1) + v])
-            .collect()
-    };
+fn seams(grid: &Grid, tolerances: Option<Tolerances>) -> Seams {
+    let [u0, ue] = [0, grid.u_steps].map(|u| grid.column(u).into_flattened());
+    let [v0, ve] = [0, grid.v_steps].map(|v| grid.row(v).into_flattened());
     Seams {
-        u: searched(&column(0), &column(u_steps)),
-        v: searched(&row(0), &row(v_steps)),
+        u: searched(&u0, &ue, tolerances.map(|tolerances| tolerances.u)),
+        v: searched(&v0, &ve, tolerances.map(|tolerances| tolerances.v)),
     }
 }
 
 /// The refusal that applies.
 fn refusal(input: &Input) -> Option<Refusal> {
     let lengths = [input.triangles, input.flipped];
-    input.grid.refusal_with_lists(lengths, least)
+    let tolerances = input.tolerances;
+    input.grid.refusal_with_lists(tolerances, lengths, least)
 }
 
 /// A grid with lists that are just long enough.
@@ -141,12 +190,8 @@ fn exact(grid: Grid) -> Input {
 /// The lists of an input made shorter or longer by turns.
 fn other_room(turn: u64, input: Input) -> Input {
     let (short, long) = (|x: usize| x - 1, |x: usize| x + 7);
-    let Input {
-        grid,
-        triangles,
-        flipped,
-    } = input;
-    let lengths = match turn % 8 {
+    let (triangles, flipped) = (input.triangles, input.flipped);
+    let [triangles, flipped] = match turn % 8 {
         0 => [short(triangles), flipped],
         1 => [triangles, short(flipped)],
         2 => [long(triangles), short(flipped)],
@@ -154,7 +199,11 @@ fn other_room(turn: u64, input: Input) -> Input {
         4 => [triangles, long(flipped)],
         _ => [triangles, flipped],
     };
-    Input::new(grid, lengths)
+    Input {
+        triangles,
+        flipped,
+        ..input
+    }
 }
 
 /// None, and each mapping of rows of so many steps.
@@ -195,21 +244,46 @@ fn joinings() -> impl Iterator<Item = Input> {
 fn borders() -> impl Iterator<Item = Input> {
     let shapes = (1..=4).flat_map(|m| (1..=4).map(move |n| (m, n)));
     shapes.flat_map(|(m, n)| {
-        let outer = 2 * (m + n) as u32;
-        let letters: u64 = if outer > 12 { 2 } else { 3 };
-        (0..letters.pow(outer)).map(move |word| {
-            let mut rest = word;
-            let grid = Grid::new(m, n, |i| {
-                let (u, v) = (i / (n + 1), i % (n + 1));
-                if u > 0 && u < m && v > 0 && v < n {
-                    return [9.0, u as f64, v as f64];
-                }
-                let letter = rest % letters;
-                rest /= letters;
-                [0.0, letter as f64, 0.0]
-            });
-            other_room(word, exact(grid))
-        })
+        let letters = if m + n > 6 { 2 } else { 3 };
+        let letters = (0..letters).map(f64::from).collect();
+        bordered(m, n, letters)
+    })
+}
+
+/// Every grid of so many cells whose outer points are each one of these letters.
+fn bordered(m: usize, n: usize, letters: Vec<f64>) -> impl Iterator<Item = Input> {
+    let outer = 2 * (m + n) as u32;
+    let count = letters.len() as u64;
+    (0..count.pow(outer)).map(move |word| {
+        let mut rest = word;
+        let grid = Grid::new(m, n, |i| {
+            let (u, v) = (i / (n + 1), i % (n + 1));
+            if u > 0 && u < m && v > 0 && v < n {
+                return [9.0, u as f64, v as f64];
+            }
+            let letter = rest % count;
+            rest /= count;
+            [0.0, letters[letter as usize], 0.0]
+        });
+        other_room(word, exact(grid))
+    })
+}
+
+/// Every grid of up to 4 cells whose outer points are each one of three letters: the second is less
+/// than a quarter from the others, and the third a quarter from the first. The seams have this
+/// tolerance, the one after it, or EPS, and all pairs of these.
+fn borders_at_tolerances() -> impl Iterator<Item = Input> {
+    let letters = [0.0, 0.25f64.next_down(), 0.25];
+    let shapes = [(1, 1), (1, 2), (2, 1), (1, 3), (3, 1), (2, 2)];
+    let tolerances = [0.25, 0.25f64.next_up(), EPS];
+    let pairs = tolerances.into_iter().flat_map(move |u| {
+        let line = 1.0;
+        tolerances.map(|v| Tolerances { u, v, line })
+    });
+    pairs.flat_map(move |tolerances| {
+        let all = shapes.into_iter();
+        let all = all.flat_map(move |(m, n)| bordered(m, n, letters.to_vec()));
+        all.map(move |input| input.at(tolerances))
     })
 }
 
@@ -219,8 +293,34 @@ fn planted(random: &mut Random) -> Input {
     other_room(random.below(16), exact(grid))
 }
 
+/// A grid whose seams are open about as far as their tolerances.
+fn gaping(random: &mut Random) -> Input {
+    let (m, n) = (any_steps(random), any_steps(random));
+    let input = gaping_cells(random, m, n);
+    other_room(random.below(16), input)
+}
+
+fn gaping_cells(random: &mut Random, m: usize, n: usize) -> Input {
+    let (grid, tolerances) = gaping_grid(random, m, n);
+    exact(grid).at(tolerances)
+}
+
 fn faulty(random: &mut Random) -> Input {
-    let mut input = planted(random);
+    let input = planted(random);
+    spoiled(random, input)
+}
+
+/// The same with tolerances of which each may be refused.
+fn faulty_at_tolerances(random: &mut Random) -> Input {
+    let input = gaping(random);
+    let input = spoiled(random, input);
+    match random.below(3) {
+        0 => input,
+        _ => input.at(faulty_tolerances(random)),
+    }
+}
+
+fn spoiled(random: &mut Random, mut input: Input) -> Input {
     input.triangles = length(random, input.triangles);
     input.flipped = length(random, input.flipped);
     spoil(random, &mut input.grid);
@@ -236,6 +336,8 @@ pub fn record(record: &mut Record) {
     for _ in 0..4_000 {
         record.offer(planted(&mut random).recorded());
         record.offer(faulty(&mut random).recorded());
+        record.offer(gaping(&mut random).recorded());
+        record.offer(faulty_at_tolerances(&mut random).recorded());
     }
     for _ in 0..2 {
         let many = exact(any_grid(&mut random, 12, 9));
@@ -246,13 +348,21 @@ pub fn record(record: &mut Record) {
 impl Input {
     fn recorded(&self) -> Recorded {
         let (told, [triangles, flipped]) = original(self);
-        let case = Recorded::on_grid(Call::TriangulateGrid, told.err(), &self.grid);
+        let tolerances = self.tolerances.unwrap_or_default();
+        let call = Call::TriangulateGrid;
+        let case = Recorded::on_grid_at(call, told.err(), &self.grid, tolerances);
         let case = match told {
             Err(refusal) => case.told(Err(refusal)).words(&[]).words(&[]),
             Ok(told) => {
                 let Seams { u, v } = told.seams;
+                let by_eps = seams(&self.grid, None);
                 let joined = format!("u {}, v {}", kind(u.mapping), kind(v.mapping));
                 let most = 2 * self.grid.u_steps * self.grid.v_steps;
+                let [other_u, other_v] =
+                    [(u, by_eps.u), (v, by_eps.v)].map(|(a, b)| a.mapping != b.mapping);
+                let case = case
+                    .reaching_if(other_u, "another u seam than by EPS")
+                    .reaching_if(other_v, "another v seam than by EPS");
                 case.told(Ok([told.triangles, told.flipped]))
                     .words(&seam_words(&u))
                     .words(&seam_words(&v))
@@ -297,6 +407,35 @@ mod tests {
             counts[usize::from(number)] += 1;
         }
         assert!(counts.iter().all(|&count| count > 500), "{counts:?}");
+        let mut counts = [0; 14];
+        for _ in 0..20_000 {
+            let number = refusal(&faulty_at_tolerances(&mut random)).map_or(0, Refusal::number);
+            counts[usize::from(number)] += 1;
+        }
+        let told = [0, 1, 2, 13, 3, 4].map(|number| counts[number]);
+        assert!(told.iter().all(|&count| count > 400), "{counts:?}");
+    }
+
+    /// Tolerances find other seams than EPS, of u as of v, and do not find such as EPS does.
+    #[test]
+    fn tolerances_decide_seams() {
+        let mut random = Random::new(1);
+        let (mut more, mut fewer, mut both) = ([0; 2], [0; 2], 0);
+        for _ in 0..10_000 {
+            let input = gaping(&mut random);
+            let found = |tolerances| {
+                let Seams { u, v } = seams(&input.grid, tolerances);
+                [u, v].map(|seam| seam.mapping.is_some())
+            };
+            let (here, by_eps) = (found(input.tolerances), found(None));
+            for axis in [0, 1] {
+                more[axis] += u32::from(here[axis] && !by_eps[axis]);
+                fewer[axis] += u32::from(!here[axis] && by_eps[axis]);
+            }
+            both += u32::from(here == [true; 2]);
+        }
+        let all = [more[0], more[1], fewer[0], fewer[1], both];
+        assert!(all.iter().all(|&count| count > 100), "{all:?}");
     }
 
     /// A triangulation that says of no pair that it is flipped.

@@ -4,7 +4,9 @@
 use crate::case::{Case, Smaller};
 use crate::driver::{Compared, Driver};
 use crate::inputs::grids::all_steps;
-use crate::layers::traces::curves::{self, Scene, Scenes, bent, faulty, spare, traced};
+use crate::layers::traces::curves::{
+    self, Scene, Scenes, bent, faulty, faulty_at_tolerances, spare, traced, traced_at,
+};
 use crate::layers::traces::{self, Output, called};
 use crate::random::Random;
 use crate::text::{Text, Words};
@@ -45,7 +47,22 @@ fn compare_beside(driver: &mut Driver, name: &str, other: fn(&Input) -> Output) 
     driver.compare(
         &format!("trace_samples beside {name}, refusals"),
         50_000,
-        faulty_records,
+        |random| records(random, faulty),
+        library,
+        other,
+    )?;
+    let mut few = Scenes::dense(200, |random| 1 + random.below(4) as usize);
+    driver.compare(
+        &format!("trace_samples beside {name}, at tolerances, few cells"),
+        20_000,
+        |random| Input(traced_at(random, &mut few)),
+        library,
+        other,
+    )?;
+    driver.compare(
+        &format!("trace_samples beside {name}, at tolerances, refusals"),
+        20_000,
+        |random| records(random, faulty_at_tolerances),
         library,
         other,
     )
@@ -88,8 +105,9 @@ impl Case for Input {
 
 fn library(input: &Input) -> Output {
     let records = input.records();
-    called(&input.0, |grid, lists| {
-        trace_samples(&grid.numbers, grid.u_steps, grid.v_steps, &records, lists)
+    called(&input.0, |grid, tolerances, lists| {
+        let (m, n) = (grid.u_steps, grid.v_steps);
+        trace_samples(&grid.numbers, m, n, tolerances, &records, lists)
     })
 }
 
@@ -121,7 +139,7 @@ fn around(scene: &Rc<Scene>, count: usize, more: usize) -> Input {
     });
     let marks = (0..count).map(|i| u8::from(i % 1_000 != 999));
     let (pairs, marks) = (pairs.collect(), marks.collect());
-    Input(curves::Input::new(scene, pairs, marks, |need| {
+    Input(curves::Input::new(scene, None, pairs, marks, |need| {
         let mut room = spare(need, more % 3);
         match more {
             3 => room.fractions = need.points.saturating_sub(1),
@@ -133,7 +151,7 @@ fn around(scene: &Rc<Scene>, count: usize, more: usize) -> Input {
 }
 
 /// Faults, but for a number of pairs that is not the number of marks, which records cannot have.
-fn faulty_records(random: &mut Random) -> Input {
+fn records(random: &mut Random, faulty: fn(&mut Random) -> curves::Input) -> Input {
     loop {
         if let Some(input) = Input::of(faulty(random)) {
             return input;
@@ -144,7 +162,7 @@ fn faulty_records(random: &mut Random) -> Input {
 #[cfg(test)]
 mod tests {
     use super::*;
-    use merlontrispa::{Refusal, TraceLists};
+    use merlontrispa::{Refusal, Tolerances, TraceLists};
 
     /// What a trace of so many samples across one cell answers, drawing into lists of one number each.
     fn told(count: usize) -> Result<usize, Refusal> {
@@ -159,7 +177,9 @@ mod tests {
             samples: &mut samples,
         };
         let records = vec![Sample::BREAK; count];
-        trace_samples(&scene.grid.numbers, 1, 1, &records, lists).map(|drawn| drawn.points)
+        let tolerances = Tolerances::default();
+        trace_samples(&scene.grid.numbers, 1, 1, tolerances, &records, lists)
+            .map(|drawn| drawn.points)
     }
 
     #[test]

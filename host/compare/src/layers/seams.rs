@@ -2,12 +2,17 @@
 
 use crate::case::{Smaller, case, plainer_everywhere, stretches, without};
 use crate::driver::{Compared, Driver};
-use crate::inputs::{COORDINATE_EDGES, COORDINATE_FAULTS, EPS, coordinates_fit, near, whole};
+use crate::inputs::tolerances::{
+    Point, TOLERANCE_EDGES, TOLERANCE_FAULTS, any_tolerance, faulty_tolerance, row_distances,
+    tolerance_at, tolerance_fits,
+};
+use crate::inputs::{
+    COORDINATE_EDGES, COORDINATE_FAULTS, EPS, about, coordinates_fit, near, whole,
+};
 use crate::mappings::{mapping, searched, to_original};
 use crate::random::Random;
-use crate::record::{Call, Record, Recorded};
+use crate::record::{Call, Record, Recorded, bits};
 use merlontrispa::{Mapping, Refusal, Seam};
-use original::vectors;
 use std::collections::HashSet;
 use std::iter;
 
@@ -16,11 +21,44 @@ use std::iter;
 struct Rows {
     a: Vec<f64>,
     b: Vec<f64>,
+    /// By which points are close, for the library and the edited original. Where it is not given
+    /// the library is given EPS, and held to the unchanged original.
+    tolerance: Option<f64>,
 }
 
-case!(Rows { a, b }, first Rows::simpler);
+case!(Rows { a, b, tolerance }, first Rows::simpler);
 
 impl Rows {
+    fn new(a: Vec<f64>, b: Vec<f64>) -> Self {
+        Self {
+            a,
+            b,
+            tolerance: None,
+        }
+    }
+
+    fn at(self, tolerance: f64) -> Self {
+        Self {
+            tolerance: Some(tolerance),
+            ..self
+        }
+    }
+
+    /// The first of 2, 13 and 4 that applies.
+    fn refusal(&self) -> Option<Refusal> {
+        let rows = [&self.a, &self.b];
+        let row_fits = |row: &Vec<f64>| row.len().is_multiple_of(3) && row.len() / 3 <= 65_536;
+        if !rows.into_iter().all(row_fits) {
+            Some(Refusal::Length)
+        } else if !self.tolerance.is_none_or(tolerance_fits) {
+            Some(Refusal::Tolerance)
+        } else if !rows.into_iter().all(|row| coordinates_fit(row)) {
+            Some(Refusal::Coordinate)
+        } else {
+            None
+        }
+    }
+
     /// Rows without the same places of both, without the same points, or of points that still coincide.
     fn simpler(&self) -> Smaller<Self> {
         let (first, second) = (self.clone(), self.clone());
@@ -30,6 +68,7 @@ impl Rows {
             Self {
                 a: without(&first.a, &numbers),
                 b: without(&first.b, &numbers),
+                ..first
             }
         });
         let points = distinct(&self.a);
@@ -38,11 +77,14 @@ impl Rows {
             Self {
                 a: without_points(&second.a, &gone),
                 b: without_points(&second.b, &gone),
+                ..second
             }
         });
         let length = self.a.len();
-        let numbers = [&self.a[..], &self.b].concat();
+        let both = length + self.b.len();
+        let numbers = [&self.a[..], &self.b, self.tolerance.as_slice()].concat();
         let plainer = plainer_everywhere(&numbers).map(move |mut a| Self {
+            tolerance: a.split_off(both).pop(),
             b: a.split_off(length),
             a,
         });
@@ -53,23 +95,26 @@ impl Rows {
 /// The points of a row by their bits, each once.
 fn distinct(row: &[f64]) -> Vec<[u64; 3]> {
     let mut seen = HashSet::new();
-    let points = row.as_chunks().0.iter().map(bits);
+    let points = row.as_chunks().0.iter().map(point_bits);
     points.filter(|&point| seen.insert(point)).collect()
 }
 
 fn without_points(row: &[f64], gone: &HashSet<[u64; 3]>) -> Vec<f64> {
     let (points, rest) = row.as_chunks();
-    let left = points.iter().filter(|point| !gone.contains(&bits(point)));
+    let left = points
+        .iter()
+        .filter(|point| !gone.contains(&point_bits(point)));
     left.flatten().chain(rest).copied().collect()
 }
 
-fn bits(point: &[f64; 3]) -> [u64; 3] {
+fn point_bits(point: &Point) -> [u64; 3] {
     point.map(f64::to_bits)
 }
 
 pub fn compare(driver: &mut Driver) -> Compared {
     compare_mappings(driver)?;
-    compare_searches(driver)
+    compare_searches(driver)?;
+    compare_searches_at_tolerances(driver)
 }
 
 fn compare_mappings(driver: &mut Driver) -> Compared {
@@ -109,13 +154,13 @@ fn compare_searches(driver: &mut Driver) -> Compared {
     search(
         driver,
         "rows of three letters, up to 6 points",
-        small_rows(letters),
+        small_rows(letters, 6),
     )?;
     let letters = [0.0, 0.6, 1.2].map(|x| [0.0, x * EPS, 0.0]);
     search(
         driver,
         "rows of letters that are close by turns",
-        small_rows(letters),
+        small_rows(letters, 6),
     )?;
     search(driver, "rows of up to 65,536 points", long_rows())?;
     driver.compare(
@@ -135,6 +180,33 @@ fn compare_searches(driver: &mut Driver) -> Compared {
     )
 }
 
+fn compare_searches_at_tolerances(driver: &mut Driver) -> Compared {
+    search(
+        driver,
+        "at tolerances, rows of letters that are close by turns",
+        close_by_turns(),
+    )?;
+    search(
+        driver,
+        "at tolerances, rows of all lengths",
+        lengths_at_tolerances(),
+    )?;
+    driver.compare(
+        "new_vector, at tolerances, planted",
+        600_000,
+        gaping,
+        library_search,
+        original_search,
+    )?;
+    driver.compare(
+        "new_vector, at tolerances, refusals",
+        100_000,
+        faulty_at_tolerances,
+        library_search,
+        original_search,
+    )
+}
+
 fn search(driver: &mut Driver, name: &str, rows: impl IntoIterator<Item = Rows>) -> Compared {
     driver.compare_each(
         &format!("new_vector, {name}"),
@@ -145,18 +217,14 @@ fn search(driver: &mut Driver, name: &str, rows: impl IntoIterator<Item = Rows>)
 }
 
 fn library_search(rows: &Rows) -> Result<Seam, Refusal> {
-    Mapping::new_vector(&rows.a, &rows.b)
+    Mapping::new_vector(&rows.a, &rows.b, rows.tolerance.unwrap_or(EPS))
 }
 
 fn original_search(rows: &Rows) -> Result<Seam, Refusal> {
-    let row_fits = |row: &[f64]| row.len().is_multiple_of(3) && row.len() / 3 <= 65_536;
-    if !row_fits(&rows.a) || !row_fits(&rows.b) {
-        return Err(Refusal::Length);
+    match rows.refusal() {
+        Some(refusal) => Err(refusal),
+        None => Ok(searched(&rows.a, &rows.b, rows.tolerance)),
     }
-    if !coordinates_fit(&rows.a) || !coordinates_fit(&rows.b) {
-        return Err(Refusal::Coordinate);
-    }
-    Ok(searched(&vectors(&rows.a), &vectors(&rows.b)))
 }
 
 #[derive(Clone, Copy)]
@@ -215,22 +283,56 @@ fn up_to(random: &mut Random, top: usize) -> usize {
     }
 }
 
-/// Each pair of rows of up to 6 points over three letters, and shorter ones of different length.
-fn small_rows(letters: [[f64; 3]; 3]) -> impl Iterator<Item = Rows> {
+/// Each pair of rows of up to so many points over three letters, and shorter ones of different length.
+fn small_rows(letters: [Point; 3], most: u32) -> impl Iterator<Item = Rows> {
     let different = (0..=3).flat_map(|a| (0..=3).map(move |b| (a, b)));
-    let lengths = different.chain((4..=6).map(|n| (n, n)));
+    let lengths = different.chain((4..=most).map(|n| (n, n)));
     lengths.flat_map(move |(a, b)| {
-        (0..3u64.pow(a + b)).map(move |word| Rows {
-            a: spell(letters, word, a),
-            b: spell(letters, word / 3u64.pow(a), b),
+        (0..3u64.pow(a + b)).map(move |word| {
+            Rows::new(
+                spell(letters, word, a),
+                spell(letters, word / 3u64.pow(a), b),
+            )
         })
     })
 }
 
 /// The word's digits to the base 3 as letters, the lowest first.
-fn spell(letters: [[f64; 3]; 3], word: u64, length: u32) -> Vec<f64> {
+fn spell(letters: [Point; 3], word: u64, length: u32) -> Vec<f64> {
     let digit = |place| letters[(word / 3u64.pow(place) % 3) as usize];
     (0..length).flat_map(digit).collect()
+}
+
+/// Each pair of rows of up to 5 points over three letters of which the second is less than the
+/// tolerance from the others, and the third just as far as it from the first.
+fn close_by_turns() -> impl Iterator<Item = Rows> {
+    let tolerances = [5e-324, 1e-300, 0.25, 1.0];
+    tolerances.into_iter().flat_map(|tolerance: f64| {
+        let letters = [0.0, tolerance.next_down(), tolerance].map(|x| [0.0, 0.0, x]);
+        small_rows(letters, 5).map(move |rows| rows.at(tolerance))
+    })
+}
+
+/// Rows of each length at tolerances that are allowed and that are not, some with a coordinate that
+/// is not.
+fn lengths_at_tolerances() -> impl Iterator<Item = Rows> {
+    let lengths = [0, 1, 3, 4, 6, 9, 196_608, 196_611];
+    let short = lengths.iter().flat_map(|&a| lengths.map(|b| (a, b)));
+    let short = short.filter(|(a, b)| a.min(b) < &10);
+    let tolerances = TOLERANCE_EDGES.into_iter().chain(TOLERANCE_FAULTS);
+    let tolerances: Vec<_> = tolerances.collect();
+    let all: Vec<_> = short.collect();
+    all.into_iter().flat_map(move |(a, b)| {
+        let last = if a < 10 { [1.0, f64::NAN] } else { [1.0; 2] };
+        let tolerances = tolerances.clone();
+        tolerances.into_iter().flat_map(move |tolerance| {
+            last.map(|last| {
+                let mut rows = Rows::new(vec![1.0; a], vec![1.0; b]);
+                rows.a.last_mut().into_iter().for_each(|x| *x = last);
+                rows.at(tolerance)
+            })
+        })
+    })
 }
 
 /// Rows that fit by a mapping, whole or but for one point that is moved about as far as closeness
@@ -259,8 +361,54 @@ fn planted(random: &mut Random) -> Rows {
     rows
 }
 
+/// Rows that fit by a mapping, but for some points, often ends, that are moved about as far as a
+/// tolerance; at that one, at any, or at a distance that a search of the mapping asks about.
+fn gaping(random: &mut Random) -> Rows {
+    let steps = match random.below(4) {
+        0 => 1 + random.below(4) as usize,
+        _ => 1 + random.below(20) as usize,
+    };
+    let gap = any_tolerance(random);
+    let scale = random.of(&[1.0, gap, 0.5 * gap, 1.0 / 1024.0]);
+    let mut points = pattern(random, steps + 1);
+    points
+        .as_flattened_mut()
+        .iter_mut()
+        .for_each(|x| *x *= scale);
+    let closed = random.below(4) != 0;
+    let reverse = random.below(2) == 0;
+    let offset = if closed {
+        random.below(steps as u64) as usize
+    } else {
+        0
+    };
+    let mut rows = fitting(&points, closed, reverse, offset);
+    for _ in 0..random.below(4) {
+        let row = match random.below(2) {
+            0 => &mut rows.a,
+            _ => &mut rows.b,
+        };
+        let point = match random.below(2) {
+            0 => random.of(&[0, steps]),
+            _ => random.below(steps as u64 + 1) as usize,
+        };
+        let place = 3 * point + random.below(3) as usize;
+        row[place] = about(random, row[place], gap);
+    }
+    let tolerance = match random.below(4) {
+        0 => any_tolerance(random),
+        1 => gap,
+        _ => {
+            let [a, b] = [&rows.a, &rows.b].map(|row| row.as_chunks().0);
+            let distances = row_distances(a, b, mapping(reverse, offset, steps));
+            tolerance_at(random, &distances)
+        }
+    };
+    rows.at(tolerance)
+}
+
 /// Points that repeat often, now and then or never.
-fn pattern(random: &mut Random, count: usize) -> Vec<[f64; 3]> {
+fn pattern(random: &mut Random, count: usize) -> Vec<Point> {
     let period = match random.below(3) {
         0 => 1 + random.below(3) as usize,
         1 => 1 + random.below(count as u64) as usize,
@@ -279,7 +427,7 @@ fn pattern(random: &mut Random, count: usize) -> Vec<[f64; 3]> {
 
 /// Row a of these points, the last the same as the first where it is closed, and the row b that it
 /// fits.
-fn fitting(points: &[[f64; 3]], closed: bool, reverse: bool, offset: usize) -> Rows {
+fn fitting(points: &[Point], closed: bool, reverse: bool, offset: usize) -> Rows {
     let steps = points.len() - 1;
     let offset = if closed { offset } else { 0 };
     let mapping = to_original(mapping(reverse, offset, steps));
@@ -294,10 +442,7 @@ fn fitting(points: &[[f64; 3]], closed: bool, reverse: bool, offset: usize) -> R
     if closed {
         b[steps] = b[0];
     }
-    Rows {
-        a: a.into_flattened(),
-        b: b.into_flattened(),
-    }
+    Rows::new(a.into_flattened(), b.into_flattened())
 }
 
 /// The longest rows that are taken: a seam at the first, the second and the last offset, and none.
@@ -325,10 +470,7 @@ fn limits() -> impl Iterator<Item = Rows> {
         .flat_map(move |a| lengths.map(|b| (a, b)));
     let long = pairs.flat_map(|(a, b)| {
         [1.0, f64::NAN].map(|last| {
-            let mut rows = Rows {
-                a: vec![1.0; a],
-                b: vec![1.0; b],
-            };
+            let mut rows = Rows::new(vec![1.0; a], vec![1.0; b]);
             if let Some(x) = rows.b.last_mut() {
                 *x = last;
             }
@@ -340,10 +482,7 @@ fn limits() -> impl Iterator<Item = Rows> {
         (0..6).map(move |place| {
             let mut row = vec![edge; 6];
             row[place] = 2.0;
-            Rows {
-                a: row.clone(),
-                b: row,
-            }
+            Rows::new(row.clone(), row)
         })
     });
     long.chain(at_edges)
@@ -351,7 +490,21 @@ fn limits() -> impl Iterator<Item = Rows> {
 
 /// Rows with none, one or both of the faults that are refused, or with coordinates at their limits.
 fn faulty(random: &mut Random) -> Rows {
-    let mut rows = planted(random);
+    let rows = planted(random);
+    spoiled(random, rows)
+}
+
+/// The same at a tolerance that may be refused too.
+fn faulty_at_tolerances(random: &mut Random) -> Rows {
+    let rows = gaping(random);
+    let rows = spoiled(random, rows);
+    match random.below(3) {
+        0 => rows,
+        _ => rows.at(faulty_tolerance(random)),
+    }
+}
+
+fn spoiled(random: &mut Random, mut rows: Rows) -> Rows {
     for row in [&mut rows.a, &mut rows.b] {
         if random.below(3) == 0 {
             row.truncate(row.len() - 1 - random.below(2) as usize);
@@ -376,23 +529,23 @@ pub fn record(record: &mut Record) {
         }
     }
     let x = |xs: &[f64]| xs.iter().flat_map(|&x| [x, 0.0, 0.0]).collect();
-    let zeros = |a, b| Rows {
-        a: vec![0.0; a],
-        b: vec![0.0; b],
-    };
+    let rows = |a: &[f64], b: &[f64]| Rows::new(x(a), x(b));
+    let zeros = |a, b| Rows::new(vec![0.0; a], vec![0.0; b]);
+    let apart = rows(&[0.0, 1.0, 2.0, 3.0], &[3.25, 2.25, 1.25, 0.25]);
+    let closed = rows(&[0.0, 1.0, 2.0, 0.4], &[1.0, 2.0, 0.0, 1.4]);
     for rows in [
-        Rows {
-            a: x(&[0.0, 1.0, 2.0, 3.0]),
-            b: x(&[3.0, 2.0, 1.0, 0.0]),
-        },
-        Rows {
-            a: x(&[0.0, 1.0, 2.0, 0.0]),
-            b: x(&[1.0, 2.0, 0.0, 1.0]),
-        },
-        Rows {
-            a: x(&[0.0, 1.0, 2.0]),
-            b: x(&[1.0, 2.0, 3.0]),
-        },
+        rows(&[0.0, 1.0, 2.0, 3.0], &[3.0, 2.0, 1.0, 0.0]),
+        rows(&[0.0, 1.0, 2.0, 0.0], &[1.0, 2.0, 0.0, 1.0]),
+        rows(&[0.0, 1.0, 2.0], &[1.0, 2.0, 3.0]),
+        apart.clone().at(0.25),
+        apart.clone().at(0.25f64.next_up()),
+        apart.at(1.0),
+        closed.clone().at(0.5),
+        closed.at(0.4),
+        zeros(0, 0).at(-0.0),
+        zeros(3, 3).at(f64::NAN),
+        zeros(6, 9).at(1.0f64.next_up()),
+        zeros(6, 6).at(5e-324),
         zeros(196_608, 3),
         zeros(196_611, 0),
         zeros(0, 0),
@@ -405,6 +558,8 @@ pub fn record(record: &mut Record) {
     for _ in 0..10_000 {
         record.offer(planted(&mut random).recorded());
         record.offer(faulty(&mut random).recorded());
+        record.offer(gaping(&mut random).recorded());
+        record.offer(faulty_at_tolerances(&mut random).recorded());
     }
 }
 
@@ -449,12 +604,18 @@ impl Direction {
 impl Rows {
     fn recorded(&self) -> Recorded {
         let told = original_search(self);
-        let case = Recorded::new(Call::NewVector, told.err(), &[])
+        let tolerance = self.tolerance.unwrap_or(EPS);
+        let case = Recorded::new(Call::NewVector, told.err(), &[bits(tolerance)])
             .floats(&self.a)
             .floats(&self.b)
             .told(told.map(|_| [0, 0]));
         match told {
-            Ok(seam) => case.words(&seam_words(&seam)).reaching(kind(seam.mapping)),
+            Ok(seam) => {
+                let by_eps = searched(&self.a, &self.b, None).mapping;
+                case.words(&seam_words(&seam))
+                    .reaching(kind(seam.mapping))
+                    .reaching_if(seam.mapping != by_eps, "another seam than by EPS")
+            }
             Err(_) => case,
         }
     }

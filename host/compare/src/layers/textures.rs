@@ -162,7 +162,7 @@ type DrawnLines = Result<Vec<Vec<f64>>, Refusal>;
 /// What the original draws of what Rules 11 does not refuse; where it panics, 11 is due.
 fn original_lines(radii: &[f64], scene: &Scene) -> DrawnLines {
     let grid = &scene.grid;
-    if let Some(refusal) = grid.refusal() {
+    if let Some(refusal) = grid.refusal(None) {
         return Err(refusal);
     }
     original_plan(radii, &scene.input())?;

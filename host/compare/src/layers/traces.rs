@@ -13,9 +13,12 @@ use crate::layers::lines::{coordinates, firsts};
 use crate::random::Random;
 use crate::record::{Call, Record, Recorded};
 use crate::value::{Show, Value};
-use curves::{FAR, Input, Room, Scene, Scenes, bent, faulty, legs_between_edges, spare, traced};
-use merlontrispa::{Drawn, Refusal, TraceLists, trace_flat};
-use original::{Made, Paths, Side, Vector};
+use curves::{
+    FAR, Input, Room, Scene, Scenes, bent, faulty, faulty_at_tolerances, legs_between_edges, spare,
+    traced, traced_at,
+};
+use merlontrispa::{Drawn, Refusal, Tolerances, TraceLists, trace_flat};
+use original::{Made, Paths, Side};
 use std::rc::Rc;
 use walks::replay;
 
@@ -53,7 +56,34 @@ pub fn compare(driver: &mut Driver) -> Compared {
         library,
         original,
     )?;
-    driver.compare("trace_flat, refusals", 200_000, faulty, library, original)
+    driver.compare("trace_flat, refusals", 200_000, faulty, library, original)?;
+    compare_at_tolerances(driver)
+}
+
+fn compare_at_tolerances(driver: &mut Driver) -> Compared {
+    let mut few = Scenes::dense(200, |random| 1 + random.below(4) as usize);
+    driver.compare(
+        "trace_flat, at tolerances, few cells",
+        400_000,
+        |random| traced_at(random, &mut few),
+        library,
+        original,
+    )?;
+    let mut many = Scenes::dense(40, all_steps);
+    driver.compare(
+        "trace_flat, at tolerances, up to 255 by 255 cells",
+        10_000,
+        |random| traced_at(random, &mut many),
+        library,
+        original,
+    )?;
+    driver.compare(
+        "trace_flat, at tolerances, refusals",
+        100_000,
+        faulty_at_tolerances,
+        library,
+        original,
+    )
 }
 
 /// An answer, the five lists after the call, the points made again from p, q and t, and the law that
@@ -93,12 +123,13 @@ impl Output {
     }
 
     /// The lists after the original drew these paths, whose points were made so.
-    fn draw(&mut self, paths: &Paths<Vector>, kept: &[Made]) {
+    fn draw(&mut self, paths: &Paths<[f64; 3]>, kept: &[Made]) {
         self.told = Ok(Drawn {
             points: paths.total_len(),
             lines: paths.len(),
         });
-        self.remade = paths.iter_paths().flat_map(coordinates).collect();
+        let numbers = paths.iter_paths().flat_map(<[_]>::as_flattened);
+        self.remade = numbers.copied().collect();
         fill(&mut self.points, self.remade.iter().copied());
         fill(&mut self.starts, firsts(paths));
         let sides = kept.iter().map(|made| made.point.expect("it is drawn").1);
@@ -140,11 +171,12 @@ impl Value for Output {
 /// What the library's trace of flat samples leaves.
 pub fn library(input: &Input) -> Output {
     let (pairs, marks) = (&input.pairs, &input.marks);
-    called(input, |grid, lists| {
+    called(input, |grid, tolerances, lists| {
         trace_flat(
             &grid.numbers,
             grid.u_steps,
             grid.v_steps,
+            tolerances,
             pairs,
             marks,
             lists,
@@ -155,7 +187,7 @@ pub fn library(input: &Input) -> Output {
 /// What a call of the library leaves.
 pub fn called(
     input: &Input,
-    call: impl FnOnce(&Grid, TraceLists<'_>) -> Result<Drawn, Refusal>,
+    call: impl FnOnce(&Grid, Tolerances, TraceLists<'_>) -> Result<Drawn, Refusal>,
 ) -> Output {
     let Scene { grid, points, .. } = &*input.scene;
     let mut output = Output::before(input.room);
@@ -166,7 +198,7 @@ pub fn called(
         fractions: &mut output.fractions,
         samples: &mut output.samples,
     };
-    output.told = call(grid, lists);
+    output.told = call(grid, input.tolerances.unwrap_or_default(), lists);
     if let Ok(drawn) = output.told {
         let made = output.sides.as_chunks().0.iter().zip(&output.fractions);
         let made = made.take(drawn.points).map(|(&[p, q], &t)| {
@@ -205,7 +237,7 @@ pub fn original(input: &Input) -> Output {
             return output;
         }
     };
-    let paths = input.scene.surface().trace(&input.samples());
+    let paths = input.scene.trace(input.tolerances, &input.samples());
     let stops = walk.made.iter().any(|made| made.point.is_none());
     assert_eq!(
         paths.is_none(),
@@ -235,6 +267,11 @@ pub fn record(record: &mut Record) {
     for _ in 0..20_000 {
         record.offer(traced(&mut random, &mut few).recorded());
         record.offer(faulty(&mut random).recorded());
+    }
+    let mut dense = Scenes::dense(60, |random: &mut Random| 1 + random.below(4) as usize);
+    for _ in 0..10_000 {
+        record.offer(traced_at(&mut random, &mut dense).recorded());
+        record.offer(faulty_at_tolerances(&mut random).recorded());
     }
     let mut many = Scenes::new(2, |random: &mut Random| 8 + random.below(4) as usize);
     for _ in 0..3 {
@@ -266,22 +303,40 @@ fn record_known(record: &mut Record) {
         (vec![[0.0; 2]; 65_537], vec![0; 65_537]),
         (vec![[0.0; 2]; 65_538], vec![0; 65_538]),
     ] {
-        let input = Input::new(&cell, curve.concat(), marks, |need| spare(need, 1));
+        let input = Input::new(&cell, None, curve.concat(), marks, |need| spare(need, 1));
         record.keep(input.recorded());
     }
     let room = |need| Room {
         samples: 1,
         ..spare(need, 1)
     };
-    let full = Input::new(&cell, [from, to].concat(), vec![1, 1], room);
+    let full = Input::new(&cell, None, [from, to].concat(), vec![1, 1], room);
     record.keep(full.recorded());
+    let square = [0.0, 0.0, 0.0, 0.0, 1.0, 0.0, 1.0, 0.0, 0.0, 1.0, 1.0, 0.0];
+    let square = Rc::new(Scene::new(Grid {
+        u_steps: 1,
+        v_steps: 1,
+        numbers: square.to_vec(),
+    }));
+    for line in [0.25, 0.5] {
+        let tolerances = Tolerances {
+            line,
+            ..Tolerances::default()
+        };
+        let curve = [from, to, [1.0, 0.25]].concat();
+        let room = |need| spare(need, 1);
+        let input = Input::new(&square, Some(tolerances), curve, vec![1; 3], room);
+        record.keep(input.recorded());
+    }
 }
 
 impl Input {
     fn recorded(&self) -> Recorded {
         let output = original(self);
         let told = output.told;
-        let case = Recorded::on_grid(Call::TraceFlat, told.err(), &self.scene.grid)
+        let tolerances = self.tolerances.unwrap_or_default();
+        let grid = &self.scene.grid;
+        let case = Recorded::on_grid_at(Call::TraceFlat, told.err(), grid, tolerances)
             .floats(&self.pairs)
             .bytes(&self.marks)
             .told(told.map(|drawn| [drawn.points, drawn.lines]))
@@ -291,7 +346,10 @@ impl Input {
             .floats(&output.fractions)
             .numbers(&output.samples);
         match told {
-            Ok(drawn) => self.reached_by_samples(self.reached(case, drawn)),
+            Ok(drawn) => {
+                let case = self.reached_by_samples(self.reached(case, drawn));
+                self.reached_by_tolerances(case)
+            }
             Err(_) => case.reaching_if(self.full_of_samples(), "no room in the samples alone"),
         }
     }
@@ -344,6 +402,14 @@ impl Input {
                 last > 0 && walk.made.windows(2).any(left_out),
                 "a point close to the last one of another leg",
             )
+    }
+
+    /// What the tolerance of the line reaches in a trace that is drawn: fewer or more points than EPS.
+    fn reached_by_tolerances(&self, case: Recorded) -> Recorded {
+        let kept = |tolerances| self.scene.walk(tolerances, &self.samples()).kept.len();
+        let (here, by_eps) = (kept(self.tolerances), kept(None));
+        case.reaching_if(0 < here && here < by_eps, "fewer points than by EPS")
+            .reaching_if(here > by_eps, "more points than by EPS")
     }
 }
 
@@ -420,7 +486,7 @@ mod tests {
             let side = |made: &Made| made.point.map(|(_, side)| side);
             let mut count = 0;
             for (leg, number) in input.samples().windows(2).zip(1..) {
-                let alone = input.scene.surface().walk(leg).made;
+                let alone = input.scene.walk(None, leg).made;
                 let numbered = walk.made.iter().filter(|made| made.sample == number);
                 assert!(numbered.map(side).eq(alone.iter().map(side)), "{number}");
                 count += alone.len();

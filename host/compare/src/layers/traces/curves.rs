@@ -4,38 +4,80 @@ use super::walks::Need;
 use crate::case::{Case, Smaller, case, stretches, without};
 use crate::inputs::grids::{Grid, any_grid, spoil};
 use crate::inputs::lists::as_far;
+use crate::inputs::tolerances::{any_tolerance, distance, faulty_tolerances, tolerance_at};
 use crate::inputs::{EPS, near};
+use crate::mappings::to_edited;
 use crate::random::Random;
 use crate::text::{Text, Words};
-use merlontrispa::Refusal;
-use original::{Sample, Surface, Vector, Walk, vectors};
+use merlontrispa::{Refusal, Tolerances};
+use original::{Paths, Sample, Surface, Vector, Walk, edited, vectors};
+use std::cell::OnceCell;
 use std::rc::Rc;
 
 /// The largest magnitude of a sample's coordinate.
 pub const FAR: f64 = 1_048_576.0;
 
-/// A grid in the library's form and, where it is taken, in the original's.
+/// A grid in the library's form and, where it is taken, in those of both originals, each made when it
+/// is asked for.
 pub struct Scene {
     pub grid: Grid,
     pub points: Vec<Vector>,
-    surface: Option<Surface>,
+    unchanged: OnceCell<Surface>,
+    edited: OnceCell<edited::Surface>,
 }
 
 impl Scene {
     pub fn new(grid: Grid) -> Self {
-        let points = vectors(&grid.numbers);
-        let taken = grid.refusal().is_none();
-        let surface = taken.then(|| Surface::from_grid(points.clone(), grid.u_steps, grid.v_steps));
         Self {
+            points: vectors(&grid.numbers),
             grid,
-            points,
-            surface,
+            unchanged: OnceCell::new(),
+            edited: OnceCell::new(),
         }
     }
 
     /// The surface of a grid that is taken.
-    pub fn surface(&self) -> &Surface {
-        self.surface.as_ref().expect("the grid is taken")
+    fn unchanged(&self) -> &Surface {
+        let Grid {
+            u_steps, v_steps, ..
+        } = self.grid;
+        self.unchanged
+            .get_or_init(|| Surface::from_grid(self.points.clone(), u_steps, v_steps))
+    }
+
+    /// What a call on the edited original's surface of such a grid answers at tolerances.
+    fn edited<T>(&self, tolerances: Tolerances, call: impl FnOnce(&edited::Surface) -> T) -> T {
+        let Grid {
+            u_steps, v_steps, ..
+        } = self.grid;
+        let points = || edited::vectors(&self.grid.numbers);
+        let surface = || edited::Surface::from_grid(points(), u_steps, v_steps);
+        edited::at(to_edited(tolerances), || {
+            call(self.edited.get_or_init(surface))
+        })
+    }
+
+    /// The walk of samples on a grid that is taken: the edited original's where tolerances are given.
+    pub fn walk(&self, tolerances: Option<Tolerances>, samples: &[Sample]) -> Walk {
+        match tolerances {
+            None => self.unchanged().walk(samples),
+            Some(tolerances) => self.edited(tolerances, |surface| surface.walk(samples)),
+        }
+    }
+
+    /// The lines of the same samples, or nothing where the original panics.
+    pub fn trace(
+        &self,
+        tolerances: Option<Tolerances>,
+        samples: &[Sample],
+    ) -> Option<Paths<[f64; 3]>> {
+        match tolerances {
+            None => Some(self.unchanged().trace(samples)?.map(Into::into)),
+            Some(tolerances) => {
+                let paths = self.edited(tolerances, |surface| surface.trace(samples))?;
+                Some(paths.map(Into::into))
+            }
+        }
     }
 }
 
@@ -80,12 +122,13 @@ impl Room {
 #[derive(Clone)]
 struct Curve {
     grid: Grid,
+    tolerances: Option<Tolerances>,
     pairs: Vec<f64>,
     marks: Vec<u8>,
     room: Room,
 }
 
-case!(Curve { grid, pairs, marks, room }, first Curve::fewer_samples);
+case!(Curve { grid, tolerances, pairs, marks, room }, first Curve::fewer_samples);
 
 impl Curve {
     fn fewer_samples(&self) -> Smaller<Self> {
@@ -101,6 +144,7 @@ impl Curve {
     fn input(self, room: impl FnOnce(Need) -> Room) -> Input {
         Input::new(
             &Rc::new(Scene::new(self.grid)),
+            self.tolerances,
             self.pairs,
             self.marks,
             room,
@@ -112,6 +156,9 @@ impl Curve {
 #[derive(Clone)]
 pub struct Input {
     pub scene: Rc<Scene>,
+    /// Those of the library and of the edited original. Where none are given the library is given
+    /// EPS three times, and held to the unchanged original.
+    pub tolerances: Option<Tolerances>,
     pub pairs: Vec<f64>,
     pub marks: Vec<u8>,
     pub room: Room,
@@ -122,16 +169,18 @@ pub struct Input {
 impl Input {
     pub fn new(
         scene: &Rc<Scene>,
+        tolerances: Option<Tolerances>,
         pairs: Vec<f64>,
         marks: Vec<u8>,
         room: impl FnOnce(Need) -> Room,
     ) -> Self {
-        let walk = match refusal(scene, &pairs, &marks) {
+        let walk = match refusal(scene, tolerances, &pairs, &marks) {
             Some(refusal) => Err(refusal),
-            None => Ok(scene.surface().walk(&samples(&pairs, &marks))),
+            None => Ok(scene.walk(tolerances, &samples(&pairs, &marks))),
         };
         Self {
             scene: Rc::clone(scene),
+            tolerances,
             pairs,
             marks,
             room: room(need(&walk)),
@@ -152,6 +201,7 @@ impl Input {
     fn curve(&self) -> Curve {
         Curve {
             grid: self.scene.grid.clone(),
+            tolerances: self.tolerances,
             pairs: self.pairs.clone(),
             marks: self.marks.clone(),
             room: self.room,
@@ -193,10 +243,15 @@ fn samples(pairs: &[f64], marks: &[u8]) -> Vec<Sample> {
         .collect()
 }
 
-/// The first of 1, 2, 4, 9 and 10 that applies.
-fn refusal(scene: &Scene, pairs: &[f64], marks: &[u8]) -> Option<Refusal> {
+/// The first of 1, 2, 13, 4, 9 and 10 that applies.
+fn refusal(
+    scene: &Scene,
+    tolerances: Option<Tolerances>,
+    pairs: &[f64],
+    marks: &[u8],
+) -> Option<Refusal> {
     let lengths = pairs.len() != 2 * marks.len() || marks.len() > 65_537;
-    match scene.grid.refusal() {
+    match scene.grid.refusal(tolerances) {
         Some(Refusal::Steps) => return Some(Refusal::Steps),
         _ if lengths => return Some(Refusal::Length),
         Some(refusal) => return Some(refusal),
@@ -227,6 +282,7 @@ pub struct Scenes<S> {
     scenes: Vec<Rc<Scene>>,
     most: usize,
     steps: S,
+    scales: &'static [f64],
 }
 
 impl<S: Fn(&mut Random) -> usize> Scenes<S> {
@@ -235,6 +291,15 @@ impl<S: Fn(&mut Random) -> usize> Scenes<S> {
             scenes: Vec::new(),
             most,
             steps,
+            scales: &[1.0],
+        }
+    }
+
+    /// Those whose points are mostly so near to each other that a tolerance tells.
+    pub fn dense(most: usize, steps: S) -> Self {
+        Self {
+            scales: &[1.0, 1.0 / 16.0, 1.0 / 256.0, 1e-6],
+            ..Self::new(most, steps)
         }
     }
 
@@ -254,10 +319,11 @@ impl<S: Fn(&mut Random) -> usize> Scenes<S> {
     fn another(&self, random: &mut Random) -> Rc<Scene> {
         let (m, n) = ((self.steps)(random), (self.steps)(random));
         let mut grid = any_grid(random, m, n);
-        if random.below(8) == 0 {
-            let scale = random.of(&[EPS, 1e-12, 4_294_967_296.0, 1e-300]);
-            grid.numbers.iter_mut().for_each(|x| *x *= scale);
-        }
+        let scale = match random.below(8) {
+            0 => random.of(&[EPS, 1e-12, 4_294_967_296.0, 1e-300]),
+            turn => self.scales[turn as usize % self.scales.len()],
+        };
+        grid.numbers.iter_mut().for_each(|x| *x *= scale);
         Rc::new(Scene::new(grid))
     }
 }
@@ -295,7 +361,7 @@ pub fn legs_between_edges(scene: &Rc<Scene>) -> impl Iterator<Item = Input> {
     let count = ends.len();
     (0..count * count).map(move |i| {
         let pairs = [ends[i / count], ends[i % count]].concat();
-        Input::new(scene, pairs, vec![1, 1], |need| spare(need, i % 3))
+        Input::new(scene, None, pairs, vec![1, 1], |need| spare(need, i % 3))
     })
 }
 
@@ -315,7 +381,40 @@ pub fn spare(need: Need, more: usize) -> Room {
 pub fn traced(random: &mut Random, scenes: &mut Scenes<impl Fn(&mut Random) -> usize>) -> Input {
     let scene = scenes.any(random);
     let (pairs, marks) = any_samples(random, scene.grid.u_steps, scene.grid.v_steps);
-    Input::new(scene, pairs, marks, |need| any_room(random, need))
+    Input::new(scene, None, pairs, marks, |need| any_room(random, need))
+}
+
+/// The same at tolerances: that of the line is any, or at a distance of points that are made one after
+/// the other.
+pub fn traced_at(random: &mut Random, scenes: &mut Scenes<impl Fn(&mut Random) -> usize>) -> Input {
+    let scene = scenes.any(random);
+    let (pairs, marks) = any_samples(random, scene.grid.u_steps, scene.grid.v_steps);
+    let line = match random.below(4) {
+        0 => any_tolerance(random),
+        _ => {
+            let walk = scene.walk(None, &samples(&pairs, &marks));
+            tolerance_at(random, &distances(&walk))
+        }
+    };
+    let tolerances = Tolerances {
+        u: any_tolerance(random),
+        v: any_tolerance(random),
+        line,
+    };
+    Input::new(scene, Some(tolerances), pairs, marks, |need| {
+        any_room(random, need)
+    })
+}
+
+/// How far each point that a walk makes is from the next one, and from the one after that, which it is
+/// held to where that one is left out.
+fn distances(walk: &Walk) -> Vec<f64> {
+    let points = walk.made.iter().filter_map(|made| Some(made.point?.0));
+    let points: Vec<_> = points.collect();
+    let distance = |(&a, &b): (&[f64; 3], &[f64; 3])| distance(a, b);
+    let next = points.iter().zip(points.iter().skip(1));
+    let after = points.iter().zip(points.iter().skip(2));
+    next.chain(after).map(distance).collect()
 }
 
 /// Room that is mostly enough; where it is not, one list is the shortest.
@@ -421,6 +520,18 @@ fn any_coordinate(random: &mut Random, steps: usize, far: f64) -> f64 {
 
 /// Any set of the faults that are refused before the walk, or none.
 pub fn faulty(random: &mut Random) -> Input {
+    faulty_with(random, |_| None)
+}
+
+/// The same with tolerances of which each may be refused.
+pub fn faulty_at_tolerances(random: &mut Random) -> Input {
+    faulty_with(random, |random| Some(faulty_tolerances(random)))
+}
+
+fn faulty_with(
+    random: &mut Random,
+    tolerances: impl FnOnce(&mut Random) -> Option<Tolerances>,
+) -> Input {
     let (m, n) = (1 + random.below(3) as usize, 1 + random.below(3) as usize);
     let mut grid = any_grid(random, m, n);
     if random.below(2) == 0 {
@@ -451,7 +562,8 @@ pub fn faulty(random: &mut Random) -> Input {
         marks.resize(count, 0);
         pairs.resize(2 * count, 0.0);
     }
-    Input::new(&Rc::new(Scene::new(grid)), pairs, marks, |need| {
+    let (scene, tolerances) = (Rc::new(Scene::new(grid)), tolerances(random));
+    Input::new(&scene, tolerances, pairs, marks, |need| {
         any_room(random, need)
     })
 }
