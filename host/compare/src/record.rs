@@ -15,8 +15,9 @@ use crate::inputs::grids::Grid;
 use crate::inputs::tolerances::tolerance_fits;
 use crate::layers::{lines, meshes, seams, textures, traces, vectors};
 use crate::random::Random;
-use merlontrispa::{Refusal, Tolerances};
+use merlontrispa::Refusal;
 use std::collections::BTreeMap;
+use std::iter;
 
 /// How many cases reach a thing before one more that reaches nothing else is passed over.
 const ENOUGH: u32 = 5;
@@ -68,7 +69,10 @@ const SEAMS: [&str; 5] = [
 /// What else has to be reached.
 const REACHED: [(Call, &[&str]); 7] = [
     (NewVector, &SEAMS),
-    (NewVector, &["another seam than by EPS"]),
+    (
+        NewVector,
+        &["another seam than by EPS", "2 before 13", "13 before 4"],
+    ),
     (
         TriangulateGrid,
         &[
@@ -80,6 +84,10 @@ const REACHED: [(Call, &[&str]); 7] = [
             "u refused alone",
             "v refused alone",
             "line refused alone",
+            "1 before 13",
+            "2 before 13",
+            "13 before 3",
+            "13 before 4",
         ],
     ),
     (GridPaths, &["many cells"]),
@@ -106,6 +114,11 @@ const REACHED: [(Call, &[&str]); 7] = [
             "u refused alone",
             "v refused alone",
             "line refused alone",
+            "1 before 13",
+            "2 before 13",
+            "13 before 4",
+            "13 before 9",
+            "13 before 10",
         ],
     ),
     (
@@ -155,23 +168,29 @@ impl Recorded {
         Self::new(call, refused, &steps).floats(&grid.numbers)
     }
 
-    /// A call on a grid that takes tolerances: they stand after the steps.
-    pub fn on_grid_at(
-        call: Call,
+    /// The tolerances that it takes, after its other numbers, and what it reaches where one of them is
+    /// refused: `otherwise` is what the call is refused with at EPS.
+    pub fn at_tolerances(
+        mut self,
+        tolerances: &[f64],
         refused: Option<Refusal>,
-        grid: &Grid,
-        tolerances: Tolerances,
+        otherwise: Option<Refusal>,
     ) -> Self {
-        let Tolerances { u, v, line } = tolerances;
-        let mut case = Self::on_grid(call, refused, grid);
-        case.fields[0].extend([u, v, line].map(bits));
-        if refused != Some(Refusal::Tolerance) {
-            return case;
+        self.fields[0].extend(tolerances.iter().map(|&tolerance| bits(tolerance)));
+        let named = iter::zip(["u", "v", "line"], tolerances);
+        let mut faults = named.filter(|(_, tolerance)| !tolerance_fits(**tolerance));
+        let (Some((name, _)), Some(refused)) = (faults.next(), refused) else {
+            return self;
+        };
+        if refused != Refusal::Tolerance {
+            return self.reaching(&format!("{} before 13", refused.number()));
         }
-        let fit = [u, v, line].map(tolerance_fits);
-        case.reaching_if(fit == [false, true, true], "u refused alone")
-            .reaching_if(fit == [true, false, true], "v refused alone")
-            .reaching_if(fit == [true, true, false], "line refused alone")
+        let alone = faults.next().is_none() && tolerances.len() > 1;
+        let case = self.reaching_if(alone, &format!("{name} refused alone"));
+        match otherwise {
+            Some(after) => case.reaching(&format!("13 before {}", after.number())),
+            None => case,
+        }
     }
 
     /// Held to the rules: the original has no such call.

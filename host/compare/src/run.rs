@@ -174,7 +174,7 @@ mod tests {
         let Amount::Share { part, whole } = share(&request, &trace(), 20_000) else {
             panic!("a share");
         };
-        assert_eq!((part, whole), (3_600, 2_303_000));
+        assert_eq!((part, whole), (3_600, 2_813_000));
     }
 
     /// A written case finds its comparison by the name alone.

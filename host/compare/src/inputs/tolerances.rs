@@ -86,7 +86,7 @@ pub fn faulty_tolerances(random: &mut Random) -> Tolerances {
 
 /// A tolerance that may be refused.
 pub fn faulty_tolerance(random: &mut Random) -> f64 {
-    match random.below(8) {
+    match random.below(4) {
         0 => random.of(&TOLERANCE_FAULTS),
         1 => random.of(&TOLERANCE_EDGES),
         _ => any_tolerance(random),

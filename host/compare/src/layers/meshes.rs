@@ -132,10 +132,18 @@ fn library(input: &Input) -> Output {
 }
 
 fn original(input: &Input) -> Output {
-    let mut lists = [input.triangles, input.flipped].map(numbers);
-    if let Some(refusal) = refusal(input) {
-        return (Err(refusal), lists);
+    match refusal(input) {
+        None => answered(input),
+        Some(refusal) => {
+            let lists = [input.triangles, input.flipped].map(numbers);
+            (Err(refusal), lists)
+        }
     }
+}
+
+/// What the original answers of an input that is not refused.
+fn answered(input: &Input) -> Output {
+    let mut lists = [input.triangles, input.flipped].map(numbers);
     let (triangles, flipped) = triangulated(&input.grid, input.tolerances);
     let told = Triangulation {
         seams: seams(&input.grid, input.tolerances),
@@ -314,10 +322,7 @@ fn faulty(random: &mut Random) -> Input {
 fn faulty_at_tolerances(random: &mut Random) -> Input {
     let input = gaping(random);
     let input = spoiled(random, input);
-    match random.below(3) {
-        0 => input,
-        _ => input.at(faulty_tolerances(random)),
-    }
+    input.at(faulty_tolerances(random))
 }
 
 fn spoiled(random: &mut Random, mut input: Input) -> Input {
@@ -348,9 +353,16 @@ pub fn record(record: &mut Record) {
 impl Input {
     fn recorded(&self) -> Recorded {
         let (told, [triangles, flipped]) = original(self);
-        let tolerances = self.tolerances.unwrap_or_default();
-        let call = Call::TriangulateGrid;
-        let case = Recorded::on_grid_at(call, told.err(), &self.grid, tolerances);
+        let Tolerances { u, v, line } = self.tolerances.unwrap_or_default();
+        let by_eps = Self {
+            tolerances: None,
+            ..self.clone()
+        };
+        let case = Recorded::on_grid(Call::TriangulateGrid, told.err(), &self.grid).at_tolerances(
+            &[u, v, line],
+            told.err(),
+            refusal(&by_eps),
+        );
         let case = match told {
             Err(refusal) => case.told(Err(refusal)).words(&[]).words(&[]),
             Ok(told) => {
@@ -413,7 +425,7 @@ mod tests {
             counts[usize::from(number)] += 1;
         }
         let told = [0, 1, 2, 13, 3, 4].map(|number| counts[number]);
-        assert!(told.iter().all(|&count| count > 400), "{counts:?}");
+        assert!(told.iter().all(|&count| count > 200), "{counts:?}");
     }
 
     /// Tolerances find other seams than EPS, of u as of v, and do not find such as EPS does.
@@ -455,5 +467,93 @@ mod tests {
         );
         let grid = "u_steps 1 v_steps 3 numbers [ o o 0.0 0.0 1.0 o o 0.0 0.0 1.0 o o ]";
         assert_eq!(case, format!("grid {grid} triangles 18 flipped 8"));
+    }
+
+    /// The smallest input on which a wrong triangulation is found to differ.
+    fn found_input(input: fn(&mut Random) -> Input, wrong: impl Fn(&Input) -> Output) -> String {
+        found(
+            |driver| driver.compare("planted", 10_000, input, &wrong, original),
+            |driver| driver.compare("planted", 10_000, input, library, original),
+        )
+    }
+
+    /// The triangulation at other tolerances than those that are given.
+    fn triangulated_at(input: &Input, other: fn(Tolerances) -> Tolerances) -> Output {
+        match (refusal(input), input.tolerances) {
+            (None, Some(tolerances)) => answered(&input.clone().at(other(tolerances))),
+            _ => original(input),
+        }
+    }
+
+    /// The words of a case on one cell whose last point alone is not zero.
+    fn on_a_cell(last: &str, tolerances: [&str; 3], room: [usize; 2]) -> String {
+        let grid = format!("grid u_steps 1 v_steps 1 numbers [ o o o {last} ]");
+        let ([u, v, line], [triangles, flipped]) = (tolerances, room);
+        let tolerances = format!("tolerances u {u} v {v} line {line}");
+        format!("{grid} {tolerances} triangles {triangles} flipped {flipped}")
+    }
+
+    #[test]
+    fn seams_by_eps_are_found() {
+        let by_eps = |input: &Input| triangulated_at(input, |_| Tolerances::default());
+        let case = on_a_cell("0.0 0.0 0.5", ["1.0"; 3], [6, 4]);
+        assert_eq!(found_input(gaping, by_eps), case);
+    }
+
+    #[test]
+    fn a_v_seam_by_the_tolerance_of_u_is_found() {
+        let wrong = |input: &Input| {
+            triangulated_at(input, |tolerances| Tolerances {
+                v: tolerances.u,
+                ..tolerances
+            })
+        };
+        let case = on_a_cell("0.0 0.0 0.5", ["1.0", "0.5", "1.0"], [6, 4]);
+        assert_eq!(found_input(gaping, wrong), case);
+    }
+
+    /// Less or equal in the place of less.
+    #[test]
+    fn seams_that_take_the_tolerance_itself_are_found() {
+        let wrong = |input: &Input| {
+            triangulated_at(input, |Tolerances { u, v, line }| Tolerances {
+                u: u.next_up(),
+                v: v.next_up(),
+                line,
+            })
+        };
+        let case = on_a_cell("0.0 1.0 0.0", ["1.0"; 3], [6, 4]);
+        assert_eq!(found_input(gaping, wrong), case);
+    }
+
+    /// 13 after 3 in the place of 3 after 13.
+    #[test]
+    fn a_tolerance_that_is_refused_after_the_room_is_found() {
+        let wrong = |input: &Input| match refusal(input) {
+            Some(Refusal::Tolerance) => {
+                let other = input.clone().at(Tolerances::default());
+                match refusal(&other) {
+                    Some(Refusal::Room) => original(&other),
+                    _ => original(input),
+                }
+            }
+            _ => original(input),
+        };
+        let case = on_a_cell("o", ["0.0"; 3], [0, 0]);
+        assert_eq!(found_input(faulty_at_tolerances, wrong), case);
+    }
+
+    /// A triangulation that does not look at the tolerance of lines, which it has no use for.
+    #[test]
+    fn a_tolerance_without_use_that_is_not_refused_is_found() {
+        let wrong = |input: &Input| {
+            let mut other = input.clone();
+            if let Some(tolerances) = &mut other.tolerances {
+                tolerances.line = EPS;
+            }
+            original(&other)
+        };
+        let case = on_a_cell("o", ["1.0", "1.0", "0.0"], [0, 0]);
+        assert_eq!(found_input(faulty_at_tolerances, wrong), case);
     }
 }

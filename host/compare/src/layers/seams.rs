@@ -3,15 +3,15 @@
 use crate::case::{Smaller, case, plainer_everywhere, stretches, without};
 use crate::driver::{Compared, Driver};
 use crate::inputs::tolerances::{
-    Point, TOLERANCE_EDGES, TOLERANCE_FAULTS, any_tolerance, faulty_tolerance, row_distances,
-    tolerance_at, tolerance_fits,
+    Point, TOLERANCE_EDGES, TOLERANCE_FAULTS, any_tolerance, distance, faulty_tolerance,
+    row_distances, tolerance_at, tolerance_fits,
 };
 use crate::inputs::{
     COORDINATE_EDGES, COORDINATE_FAULTS, EPS, about, coordinates_fit, near, whole,
 };
 use crate::mappings::{mapping, searched, to_original};
 use crate::random::Random;
-use crate::record::{Call, Record, Recorded, bits};
+use crate::record::{Call, Record, Recorded};
 use merlontrispa::{Mapping, Refusal, Seam};
 use std::collections::HashSet;
 use std::iter;
@@ -80,15 +80,57 @@ impl Rows {
                 ..second
             }
         });
-        let length = self.a.len();
-        let both = length + self.b.len();
+        let fewer = fewer_places.chain(fewer_points);
+        Box::new(fewer.chain(self.nearer()).chain(self.plainer()))
+    }
+
+    /// Rows at a tolerance with the fractions of their numbers alone.
+    fn nearer(&self) -> Option<Self> {
+        let rows = [&self.a, &self.b];
+        let far = rows.into_iter().flatten().any(|x| x.abs() >= 1.0);
+        let [a, b] = rows.map(|row| row.iter().map(|x| x.fract()).collect());
+        let rows = Self::new(a, b).at(self.tolerance?);
+        far.then(|| match self.reached() {
+            Some(pair) => rows.reaching(pair),
+            None => rows,
+        })
+    }
+
+    /// Rows with a number plainer wherever it stands, the tolerance too. One that is the distance of
+    /// two points is so after, where that shows a difference.
+    fn plainer(&self) -> impl Iterator<Item = Self> + use<> {
+        let [length, both] = [self.a.len(), self.a.len() + self.b.len()];
         let numbers = [&self.a[..], &self.b, self.tolerance.as_slice()].concat();
-        let plainer = plainer_everywhere(&numbers).map(move |mut a| Self {
-            tolerance: a.split_off(both).pop(),
-            b: a.split_off(length),
-            a,
-        });
-        Box::new(fewer_places.chain(fewer_points).chain(plainer))
+        let (before, reached) = (self.tolerance, self.reached());
+        plainer_everywhere(&numbers).flat_map(move |mut a| {
+            let tolerance = a.split_off(both).pop();
+            let b = a.split_off(length);
+            let rows = Self { a, b, tolerance };
+            let as_far = reached.filter(|_| tolerance == before);
+            let as_far = as_far.map(|pair| rows.clone().reaching(pair));
+            as_far.into_iter().chain([rows])
+        })
+    }
+
+    /// Two of the first points whose distance is the tolerance.
+    fn reached(&self) -> Option<[usize; 2]> {
+        let tolerance = self.tolerance?;
+        let count = (self.a.len() / 3 + self.b.len() / 3).min(64);
+        let mut pairs = (0..count).flat_map(|i| (0..i).map(move |j| [i, j]));
+        pairs.find(|&pair| self.distance(pair) == tolerance)
+    }
+
+    /// The same rows at the distance of two points.
+    fn reaching(self, pair: [usize; 2]) -> Self {
+        let distance = self.distance(pair);
+        self.at(distance)
+    }
+
+    /// How far apart two points are, those of b counted after those of a.
+    fn distance(&self, pair: [usize; 2]) -> f64 {
+        let [a, b] = [&self.a, &self.b].map(|row| row.as_chunks::<3>().0);
+        let [p, q] = pair.map(|i| *a.get(i).unwrap_or_else(|| &b[i - a.len()]));
+        distance(p, q)
     }
 }
 
@@ -313,23 +355,21 @@ fn close_by_turns() -> impl Iterator<Item = Rows> {
     })
 }
 
-/// Rows of each length at tolerances that are allowed and that are not, some with a coordinate that
-/// is not.
+/// Rows of few points and of too many, at each tolerance that is refused and at those that are just
+/// not, with and without a coordinate that is refused.
 fn lengths_at_tolerances() -> impl Iterator<Item = Rows> {
-    let lengths = [0, 1, 3, 4, 6, 9, 196_608, 196_611];
-    let short = lengths.iter().flat_map(|&a| lengths.map(|b| (a, b)));
-    let short = short.filter(|(a, b)| a.min(b) < &10);
+    let lengths = [0, 1, 3, 4, 6, 9];
+    let short = lengths
+        .into_iter()
+        .flat_map(move |a| lengths.map(|b| (a, b)));
+    let long = [(196_608, 0), (196_611, 0)];
     let tolerances = TOLERANCE_EDGES.into_iter().chain(TOLERANCE_FAULTS);
-    let tolerances: Vec<_> = tolerances.collect();
-    let all: Vec<_> = short.collect();
-    all.into_iter().flat_map(move |(a, b)| {
-        let last = if a < 10 { [1.0, f64::NAN] } else { [1.0; 2] };
-        let tolerances = tolerances.clone();
-        tolerances.into_iter().flat_map(move |tolerance| {
-            last.map(|last| {
-                let mut rows = Rows::new(vec![1.0; a], vec![1.0; b]);
+    tolerances.flat_map(move |tolerance| {
+        short.clone().chain(long).flat_map(move |(a, b)| {
+            [1.0, f64::NAN].map(|last| {
+                let mut rows = Rows::new(vec![1.0; a], vec![1.0; b]).at(tolerance);
                 rows.a.last_mut().into_iter().for_each(|x| *x = last);
-                rows.at(tolerance)
+                rows
             })
         })
     })
@@ -496,12 +536,16 @@ fn faulty(random: &mut Random) -> Rows {
 
 /// The same at a tolerance that may be refused too.
 fn faulty_at_tolerances(random: &mut Random) -> Rows {
-    let rows = gaping(random);
-    let rows = spoiled(random, rows);
-    match random.below(3) {
-        0 => rows,
-        _ => rows.at(faulty_tolerance(random)),
+    let mut rows = gaping(random);
+    match random.below(8) {
+        0 => rows.b.truncate(3 * random.below(3) as usize),
+        1 => {
+            rows.a.truncate(3);
+            rows.b.truncate(3);
+        }
+        _ => rows = spoiled(random, rows),
     }
+    rows.at(faulty_tolerance(random))
 }
 
 fn spoiled(random: &mut Random, mut rows: Rows) -> Rows {
@@ -605,7 +649,9 @@ impl Rows {
     fn recorded(&self) -> Recorded {
         let told = original_search(self);
         let tolerance = self.tolerance.unwrap_or(EPS);
-        let case = Recorded::new(Call::NewVector, told.err(), &[bits(tolerance)])
+        let by_eps = Self::new(self.a.clone(), self.b.clone());
+        let case = Recorded::new(Call::NewVector, told.err(), &[])
+            .at_tolerances(&[tolerance], told.err(), by_eps.refusal())
             .floats(&self.a)
             .floats(&self.b)
             .told(told.map(|_| [0, 0]));
@@ -671,5 +717,122 @@ mod tests {
             case,
             "a [ o 0.0 0.0 1.0 o ] b [ 0.0 0.0 1.0 o 0.0 0.0 1.0 ]"
         );
+    }
+
+    /// What a tolerance decides: seams that EPS does not find, and the other way round; whether rows
+    /// are closed; and the next float finds another one.
+    #[test]
+    fn tolerances_decide_seams() {
+        let mut random = Random::new(1);
+        let (mut more, mut fewer, mut late, mut edges) = (0, 0, 0, 0);
+        for _ in 0..10_000 {
+            let rows = gaping(&mut random);
+            let by = |tolerance: f64| searched(&rows.a, &rows.b, Some(tolerance)).mapping;
+            let tolerance = rows.tolerance.expect("it has one");
+            let (here, by_eps) = (by(tolerance), by(EPS));
+            more += u32::from(here.is_some() && by_eps.is_none());
+            fewer += u32::from(here.is_none() && by_eps.is_some());
+            late += u32::from(kind(here).ends_with("an offset"));
+            edges += u32::from(here != by(tolerance.next_up()));
+        }
+        let all = [more, fewer, late, edges];
+        assert!(all.iter().all(|&count| count > 500), "{all:?}");
+    }
+
+    #[test]
+    fn each_refusal_comes_beside_the_others() {
+        let mut random = Random::new(1);
+        let mut counts = [0; 14];
+        for _ in 0..10_000 {
+            let rows = faulty_at_tolerances(&mut random);
+            counts[usize::from(rows.refusal().map_or(0, Refusal::number))] += 1;
+        }
+        let told = [0, 2, 13, 4].map(|number| counts[number]);
+        assert!(told.iter().all(|&count| count > 500), "{counts:?}");
+    }
+
+    /// The smallest rows on which a wrong search is found to differ.
+    fn found_rows(
+        input: fn(&mut Random) -> Rows,
+        wrong: impl Fn(&Rows) -> Result<Seam, Refusal>,
+    ) -> String {
+        found(
+            |driver| driver.compare("planted", 10_000, input, &wrong, original_search),
+            |driver| driver.compare("planted", 10_000, input, library_search, original_search),
+        )
+    }
+
+    /// The search at another tolerance than the one that is given.
+    fn searched_at(rows: &Rows, other: fn(f64) -> f64) -> Result<Seam, Refusal> {
+        original_search(rows)?;
+        let tolerance = rows.tolerance.map(other);
+        Ok(searched(&rows.a, &rows.b, tolerance))
+    }
+
+    #[test]
+    fn a_search_by_eps_is_found() {
+        let case = found_rows(gaping, |rows| searched_at(rows, |_| EPS));
+        assert_eq!(case, "a [ o o ] b [ o 0.5 0.0 0.0 ] tolerance 1.0");
+    }
+
+    /// Less or equal in the place of less.
+    #[test]
+    fn a_search_that_takes_the_tolerance_itself_is_found() {
+        let case = found_rows(gaping, |rows| searched_at(rows, f64::next_up));
+        assert_eq!(case, "a [ o o ] b [ 0.0 0.0 1.0 o ] tolerance 1.0");
+    }
+
+    /// Rows are closed by EPS, and the rest goes by the tolerance.
+    #[test]
+    fn rows_that_are_closed_by_eps_are_found() {
+        let wrong = |rows: &Rows| {
+            let seam = original_search(rows)?;
+            let ends = |row: &[f64]| {
+                let ends = [
+                    &row[..row.len().min(3)],
+                    &row[row.len().saturating_sub(3)..],
+                ];
+                let [first, last] = ends.map(|end| end.as_chunks().0.to_vec());
+                first.iter().zip(&last).all(|(&p, &q)| distance(p, q) < EPS)
+            };
+            match kind(seam.mapping).ends_with("an offset") && !(ends(&rows.a) && ends(&rows.b)) {
+                true => Ok(Seam {
+                    mapping: None,
+                    ..seam
+                }),
+                false => Ok(seam),
+            }
+        };
+        let b = "1.0 o 0.0 0.0 0.5 0.0 0.0";
+        assert_eq!(
+            found_rows(gaping, wrong),
+            format!("a [ o 1.0 o 0.0 0.0 ] b [ {b} ] tolerance 1.0")
+        );
+    }
+
+    /// A search that looks at its tolerance after the coordinates.
+    #[test]
+    fn a_tolerance_that_is_refused_too_late_is_found() {
+        let wrong = |rows: &Rows| match original_search(rows) {
+            Err(Refusal::Tolerance) => {
+                original_search(&rows.clone().at(EPS)).and(Err(Refusal::Tolerance))
+            }
+            told => told,
+        };
+        let case = found_rows(faulty_at_tolerances, wrong);
+        assert_eq!(case, "a [ 0.0 1099511627776.0002 0.0 ] b [ ] tolerance 0.0");
+    }
+
+    /// A search that looks at no tolerance where rows are too short to be searched.
+    #[test]
+    fn a_tolerance_that_is_refused_of_long_rows_alone_is_found() {
+        let wrong = |rows: &Rows| match original_search(rows) {
+            Err(Refusal::Tolerance) if rows.a.len() < 6 || rows.a.len() != rows.b.len() => {
+                original_search(&rows.clone().at(EPS))
+            }
+            told => told,
+        };
+        let case = found_rows(faulty_at_tolerances, wrong);
+        assert_eq!(case, "a [ ] b [ ] tolerance 0.0");
     }
 }

@@ -334,9 +334,9 @@ impl Input {
     fn recorded(&self) -> Recorded {
         let output = original(self);
         let told = output.told;
-        let tolerances = self.tolerances.unwrap_or_default();
-        let grid = &self.scene.grid;
-        let case = Recorded::on_grid_at(Call::TraceFlat, told.err(), grid, tolerances)
+        let Tolerances { u, v, line } = self.tolerances.unwrap_or_default();
+        let case = Recorded::on_grid(Call::TraceFlat, told.err(), &self.scene.grid)
+            .at_tolerances(&[u, v, line], told.err(), self.refusal_by_eps())
             .floats(&self.pairs)
             .bytes(&self.marks)
             .told(told.map(|drawn| [drawn.points, drawn.lines]))
@@ -734,5 +734,161 @@ mod tests {
         let curve = "pairs [ o 0.0 ] marks [ 1 1 ]";
         let room = "points 0 starts 0 sides 0 fractions 0 samples 1";
         assert_eq!(case, on_a_cell("o o o o", curve, room));
+    }
+
+    /// What the tolerance of the line decides: it leaves out some of the points that EPS keeps, or
+    /// keeps some that EPS leaves out, and the next float leaves out more.
+    #[test]
+    fn tolerances_decide_points() {
+        let mut random = Random::new(1);
+        let mut few = Scenes::dense(50, |random| 1 + random.below(4) as usize);
+        let (mut fewer, mut more, mut edges) = (0, 0, 0);
+        for _ in 0..10_000 {
+            let input = traced_at(&mut random, &mut few);
+            let tolerances = input.tolerances.expect("it has them");
+            let kept = |line: f64| {
+                let tolerances = Some(Tolerances { line, ..tolerances });
+                input.scene.walk(tolerances, &input.samples()).kept.len()
+            };
+            let (here, by_eps) = (kept(tolerances.line), kept(EPS));
+            fewer += u32::from(0 < here && here < by_eps);
+            more += u32::from(here > by_eps);
+            edges += u32::from(here != kept(tolerances.line.next_up()));
+        }
+        let all = [fewer, more, edges];
+        assert!(all.iter().all(|&count| count > 100), "{all:?}");
+    }
+
+    #[test]
+    fn each_refusal_comes_before_the_walk_at_tolerances() {
+        let mut random = Random::new(1);
+        let counts = refusals((0..20_000).map(|_| faulty_at_tolerances(&mut random)));
+        let least = [0, 1, 2, 13, 4, 9, 10].map(|number| (number, 200));
+        assert!(more(&counts, &least), "{counts:?}");
+    }
+
+    /// Holds a library to the original on curves at tolerances.
+    fn compare_at(driver: &mut Driver, library: impl Fn(&Input) -> Output) -> Compared {
+        let mut scenes = Scenes::dense(60, |random| 1 + random.below(4) as usize);
+        let input = |random: &mut Random| traced_at(random, &mut scenes);
+        driver.compare("planted", 10_000, input, library, original)
+    }
+
+    impl Input {
+        /// The same curve at other tolerances.
+        fn at(&self, tolerances: Tolerances) -> Self {
+            let Self {
+                scene,
+                pairs,
+                marks,
+                room,
+                ..
+            } = self.clone();
+            Self::new(&scene, Some(tolerances), pairs, marks, |_| room)
+        }
+    }
+
+    /// The trace at other tolerances than those that are given.
+    fn traced_by(input: &Input, other: fn(Tolerances) -> Tolerances) -> Output {
+        match (&input.walk, input.tolerances) {
+            (Ok(_), Some(tolerances)) => original(&input.at(other(tolerances))),
+            _ => original(input),
+        }
+    }
+
+    /// The smallest curve on which a trace at other tolerances is found to differ.
+    fn found_at(other: fn(Tolerances) -> Tolerances) -> String {
+        found(
+            |driver| compare_at(driver, |input| traced_by(input, other)),
+            |driver| compare_at(driver, library),
+        )
+    }
+
+    /// The words of a case at tolerances on one cell whose last point alone is not zero.
+    fn at_tolerances(last: &str, tolerances: [&str; 3], curve: &str, room: &str) -> String {
+        let [u, v, line] = tolerances;
+        let grid = format!("grid u_steps 1 v_steps 1 numbers [ o o o {last} ]");
+        let tolerances = format!("tolerances u {u} v {v} line {line}");
+        format!("{grid} {tolerances} {curve} room {room}")
+    }
+
+    /// Room for one point and no line.
+    const ONE_POINT: &str = "points 3 starts 0 sides 2 fractions 1 samples 1";
+
+    #[test]
+    fn a_line_by_eps_is_found() {
+        let curve = "pairs [ 0.0 0.0 1.0 0.5 ] marks [ 1 1 ]";
+        let case = at_tolerances("0.0 1.0 0.0", ["1.0"; 3], curve, ONE_POINT);
+        assert_eq!(found_at(|_| Tolerances::default()), case);
+    }
+
+    #[test]
+    fn a_line_by_the_tolerance_of_u_is_found() {
+        let case = found_at(|tolerances| Tolerances {
+            line: tolerances.u,
+            ..tolerances
+        });
+        let curve = "pairs [ 0.5 1.0 0.0 0.0 ] marks [ 1 1 ]";
+        let tolerances = ["0.5", "1.0", "1.0"];
+        let wanted = at_tolerances("1.0 0.0 0.0", tolerances, curve, ONE_POINT);
+        assert_eq!(case, wanted);
+    }
+
+    /// Less or equal in the place of less.
+    #[test]
+    fn a_line_that_takes_the_tolerance_itself_is_found() {
+        let case = found_at(|tolerances| Tolerances {
+            line: tolerances.line.next_up().min(1.0),
+            ..tolerances
+        });
+        let curve = "pairs [ 1.0 0.5 0.0 0.0 ] marks [ 1 1 ]";
+        let tolerances = ["1.0", "1.0", "0.5"];
+        let wanted = at_tolerances("0.0 0.0 1.0", tolerances, curve, ONE_POINT);
+        assert_eq!(case, wanted);
+    }
+
+    /// The smallest curve, one that is refused perhaps, on which a library is found to differ.
+    fn found_refused(wrong: impl Fn(&Input) -> Output) -> String {
+        let compare = |driver: &mut Driver, library: &dyn Fn(&Input) -> Output| {
+            driver.compare("planted", 10_000, faulty_at_tolerances, library, original)
+        };
+        found(
+            |driver| compare(driver, &wrong),
+            |driver| compare(driver, &library),
+        )
+    }
+
+    /// 13 for the tolerance of the line alone, which is the one that a trace has a use for.
+    #[test]
+    fn tolerances_without_use_that_are_not_refused_are_found() {
+        let case = found_refused(|input| match (&input.walk, input.tolerances) {
+            (Err(Refusal::Tolerance), Some(Tolerances { line, .. })) => {
+                original(&input.at(Tolerances {
+                    line,
+                    ..Tolerances::default()
+                }))
+            }
+            _ => original(input),
+        });
+        let room = "points 0 starts 0 sides 0 fractions 0 samples 0";
+        let curve = "pairs [ ] marks [ ]";
+        let wanted = at_tolerances("o", ["0.0", "0.0", "1.0"], curve, room);
+        assert_eq!(case, wanted);
+    }
+
+    /// 13 that leaves the lists zero, as 11 and 12 do.
+    #[test]
+    fn lists_that_are_cleared_for_a_tolerance_are_found() {
+        let case = found_refused(|input| {
+            let mut output = original(input);
+            if output.told == Err(Refusal::Tolerance) {
+                output.clear();
+            }
+            output
+        });
+        let room = "points 0 starts 0 sides 0 fractions 0 samples 1";
+        let curve = "pairs [ ] marks [ ]";
+        let wanted = at_tolerances("o", ["0.0"; 3], curve, room);
+        assert_eq!(case, wanted);
     }
 }

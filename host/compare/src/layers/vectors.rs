@@ -1,5 +1,6 @@
 //! The Vector operations against the original's.
 
+use crate::case::{Smaller, case, plainer_everywhere};
 use crate::driver::{Compared, Driver};
 use crate::inputs::tolerances::{any_tolerance, distance, tolerance_at};
 use crate::inputs::{EPS, about, any, near};
@@ -9,6 +10,47 @@ use merlontrispa::Vector;
 use original::edited;
 
 const COUNT: u64 = 10_000_000;
+
+/// Two vectors and the tolerance that they are close by, or not.
+#[derive(Clone)]
+struct Pair {
+    a: Vector,
+    b: Vector,
+    tolerance: f64,
+}
+
+case!(Pair { a, b, tolerance }, first Pair::plainer);
+
+impl Pair {
+    /// Pairs in which a number is plainer wherever it stands.
+    fn plainer(&self) -> Smaller<Self> {
+        let [a, b]: [[f64; 3]; 2] = [self.a, self.b].map(Into::into);
+        let numbers = [&a[..], &b, &[self.tolerance]].concat();
+        Box::new(plainer_everywhere(&numbers).map(|numbers| {
+            let vector = |at: usize| Vector::new(numbers[at], numbers[at + 1], numbers[at + 2]);
+            Self {
+                a: vector(0),
+                b: vector(3),
+                tolerance: numbers[6],
+            }
+        }))
+    }
+
+    fn library(&self) -> bool {
+        self.a.all_close(self.b, self.tolerance)
+    }
+
+    /// What the edited original says.
+    fn original(&self) -> bool {
+        self.by(self.tolerance)
+    }
+
+    /// What it says of another tolerance.
+    fn by(&self, tolerance: f64) -> bool {
+        let [a, b] = [self.a, self.b].map(|v| edited::Vector::new(v.x, v.y, v.z));
+        a.all_close(b, tolerance)
+    }
+}
 
 pub fn compare(driver: &mut Driver) -> Compared {
     driver.compare(
@@ -42,16 +84,10 @@ pub fn compare(driver: &mut Driver) -> Compared {
     driver.compare(
         "Vector::all_close at any tolerance",
         3_000_000,
-        close_by_a_tolerance,
-        |&([a, b], tolerance)| a.all_close(b, tolerance),
-        |&([a, b], tolerance)| all_close_at(a, b, tolerance),
+        at_a_tolerance,
+        Pair::library,
+        Pair::original,
     )
-}
-
-/// The edited original's closeness.
-fn all_close_at(a: Vector, b: Vector, tolerance: f64) -> bool {
-    let [a, b] = [a, b].map(|v| edited::Vector::new(v.x, v.y, v.z));
-    a.all_close(b, tolerance)
 }
 
 /// The same vector in the original's type.
@@ -81,9 +117,9 @@ fn close_or_not(random: &mut Random) -> [Vector; 2] {
     [a, b]
 }
 
-/// Two vectors and a tolerance: one that is allowed and that they are about as far apart as, one at
-/// their distance or next to it, or any float.
-fn close_by_a_tolerance(random: &mut Random) -> ([Vector; 2], f64) {
+/// Two vectors that are about as far apart as a tolerance, at this one, at their distance or next to
+/// it, or at any float.
+fn at_a_tolerance(random: &mut Random) -> Pair {
     let tolerance = any_tolerance(random);
     let scale = random.of(&[1.0, tolerance, 0.0]);
     let a = match random.below(8) {
@@ -100,7 +136,11 @@ fn close_by_a_tolerance(random: &mut Random) -> ([Vector; 2], f64) {
         1 => tolerance_at(random, &[distance(a, b)]),
         _ => tolerance,
     };
-    ([a, b].map(Vector::from), tolerance)
+    Pair {
+        a: a.into(),
+        b: b.into(),
+        tolerance,
+    }
 }
 
 /// Operations for the record.
@@ -121,29 +161,37 @@ pub fn record(record: &mut Record) {
             record.keep(case.words(&words(a)).words(&words(b)).words(&result));
         }
         let [a, b] = close_or_not(&mut random);
+        let tolerance = EPS;
         let close = original(a).all_close(original(b));
-        record.keep(recorded_close(a, b, EPS, close));
+        record.keep(Pair { a, b, tolerance }.recorded(close));
+    }
+    for tolerance in [f64::NAN, 0.0, -0.0, -1.0, f64::INFINITY, 5e-324, 1.0] {
+        let [a, b] = [Vector::new(0.5, 0.25, 0.0); 2];
+        let pair = Pair { a, b, tolerance };
+        record.keep(pair.recorded(pair.original()));
     }
     for _ in 0..200 {
-        let ([a, b], tolerance) = close_by_a_tolerance(&mut random);
-        let close = all_close_at(a, b, tolerance);
-        record.offer(recorded_close(a, b, tolerance, close));
+        let pair = at_a_tolerance(&mut random);
+        record.offer(pair.recorded(pair.original()));
     }
 }
 
-/// Whether two vectors are close: operation 3, with its tolerance beside it.
-fn recorded_close(a: Vector, b: Vector, tolerance: f64, close: bool) -> Recorded {
-    let by_eps = original(a).all_close(original(b));
-    Recorded::new(Call::Vector, None, &[3, bits(tolerance)])
-        .words(&[a.x, a.y, a.z].map(bits))
-        .words(&[b.x, b.y, b.z].map(bits))
-        .words(&[close.into()])
-        .reaching(if close { "all_close" } else { "not all_close" })
-        .reaching_if(close && !by_eps, "all_close by more than EPS")
-        .reaching_if(!close && by_eps, "not all_close by less than EPS")
-        .reaching_if(tolerance.is_nan(), "a tolerance that is a NaN")
-        .reaching_if(tolerance <= 0.0, "a tolerance that is not above zero")
-        .reaching_if(tolerance > 1.0, "a tolerance above 1")
+impl Pair {
+    /// Operation 3, with its tolerance beside it.
+    fn recorded(&self, close: bool) -> Recorded {
+        let words = |v: Vector| [v.x, v.y, v.z].map(bits);
+        let tolerance = self.tolerance;
+        Recorded::new(Call::Vector, None, &[3, bits(tolerance)])
+            .words(&words(self.a))
+            .words(&words(self.b))
+            .words(&[close.into()])
+            .reaching(if close { "all_close" } else { "not all_close" })
+            .reaching_if(close && !self.by(EPS), "all_close by more than EPS")
+            .reaching_if(!close && self.by(EPS), "not all_close by less than EPS")
+            .reaching_if(tolerance.is_nan(), "a tolerance that is a NaN")
+            .reaching_if(tolerance <= 0.0, "a tolerance that is not above zero")
+            .reaching_if(tolerance > 1.0, "a tolerance above 1")
+    }
 }
 
 #[cfg(test)]
@@ -167,32 +215,49 @@ mod tests {
         let mut random = Random::new(1);
         let (mut close, mut edges, mut refused) = (0, 0, 0);
         for _ in 0..10_000 {
-            let ([a, b], tolerance) = close_by_a_tolerance(&mut random);
-            close += u32::from(all_close_at(a, b, tolerance));
-            let at_edge = |other| all_close_at(a, b, tolerance) != all_close_at(a, b, other);
-            edges += u32::from(at_edge(tolerance.next_up()) || at_edge(tolerance.next_down()));
-            refused += u32::from(!tolerance_fits(tolerance));
+            let pair = at_a_tolerance(&mut random);
+            let around = [pair.tolerance.next_down(), pair.tolerance.next_up()];
+            close += u32::from(pair.original());
+            edges += u32::from(around.map(|t| pair.by(t)) != [pair.original(); 2]);
+            refused += u32::from(!tolerance_fits(pair.tolerance));
         }
         assert!((2_000..8_000).contains(&close), "{close}");
-        assert!(edges > 500 && refused > 500, "{edges} {refused}");
+        assert!(edges > 1_000 && refused > 1_000, "{edges} {refused}");
     }
 
-    /// Closeness that takes what is just as far apart as the tolerance.
-    #[test]
-    fn a_closeness_up_to_the_tolerance_is_found() {
-        let compare = |driver: &mut Driver, library: fn(Vector, Vector, f64) -> bool| {
-            driver.compare(
-                "planted",
-                10_000,
-                close_by_a_tolerance,
-                |&([a, b], tolerance)| library(a, b, tolerance),
-                |&([a, b], tolerance)| all_close_at(a, b, tolerance),
-            )
+    /// The smallest pair on which a wrong closeness is found to differ.
+    fn found_pair(wrong: impl Fn(&Pair) -> bool) -> String {
+        let compare = |driver: &mut Driver, library: &dyn Fn(&Pair) -> bool| {
+            driver.compare("planted", 10_000, at_a_tolerance, library, Pair::original)
         };
-        let case = found(
-            |driver| compare(driver, |a, b, t| all_close_at(a, b, t.next_up())),
-            |driver| compare(driver, Vector::all_close),
-        );
-        assert_eq!(case, "x 0.0 y 0.0 z 0.0 x 0.0 y 0.0 z 0.0 0.0");
+        found(
+            |driver| compare(driver, &wrong),
+            |driver| compare(driver, &Pair::library),
+        )
+    }
+
+    /// The words of two vectors that are zero.
+    fn at_zero(tolerance: &str) -> String {
+        let zero = "x 0.0 y 0.0 z 0.0";
+        format!("a {zero} b {zero} tolerance {tolerance}")
+    }
+
+    #[test]
+    fn a_closeness_by_eps_is_found() {
+        assert_eq!(found_pair(|pair| pair.by(EPS)), at_zero("0.0"));
+    }
+
+    /// Less or equal in the place of less.
+    #[test]
+    fn a_closeness_that_takes_the_tolerance_itself_is_found() {
+        let case = found_pair(|pair| pair.by(pair.tolerance.next_up()));
+        assert_eq!(case, at_zero("0.0"));
+    }
+
+    /// Closeness as: no difference reaches the tolerance. By a NaN all is close.
+    #[test]
+    fn a_closeness_by_a_nan_is_found() {
+        let case = found_pair(|pair| pair.original() || pair.tolerance.is_nan());
+        assert_eq!(case, at_zero("NaN"));
     }
 }

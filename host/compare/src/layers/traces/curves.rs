@@ -4,7 +4,9 @@ use super::walks::Need;
 use crate::case::{Case, Smaller, case, stretches, without};
 use crate::inputs::grids::{Grid, any_grid, spoil};
 use crate::inputs::lists::as_far;
-use crate::inputs::tolerances::{any_tolerance, distance, faulty_tolerances, tolerance_at};
+use crate::inputs::tolerances::{
+    any_tolerance, distance, faulty_tolerances, tolerance_at, tolerance_fits,
+};
 use crate::inputs::{EPS, near};
 use crate::mappings::to_edited;
 use crate::random::Random;
@@ -141,6 +143,19 @@ impl Curve {
         }))
     }
 
+    /// The same curve with one of these distances as the tolerance of its line.
+    fn reaching(&self, distances: &[f64]) -> impl Iterator<Item = Self> {
+        let given = self.tolerances.into_iter();
+        given.flat_map(move |given| {
+            let other = move |line: &f64| *line != given.line && tolerance_fits(*line);
+            let lines = distances.iter().copied().filter(other).take(8);
+            lines.map(move |line| Self {
+                tolerances: Some(Tolerances { line, ..given }),
+                ..self.clone()
+            })
+        })
+    }
+
     fn input(self, room: impl FnOnce(Need) -> Room) -> Input {
         Input::new(
             &Rc::new(Scene::new(self.grid)),
@@ -193,6 +208,19 @@ impl Input {
         samples(&self.pairs, &self.marks)
     }
 
+    /// What the call is refused with at EPS three times, before it walks.
+    pub fn refusal_by_eps(&self) -> Option<Refusal> {
+        refusal(&self.scene, None, &self.pairs, &self.marks)
+    }
+
+    /// How far apart the points are that a walk makes one after the other, where there is one.
+    fn distances(&self) -> Vec<f64> {
+        match self.walk {
+            Ok(_) => distances(&self.scene.walk(None, &self.samples())),
+            Err(_) => Vec::new(),
+        }
+    }
+
     /// The least room for what the original draws.
     pub fn need(&self) -> Need {
         need(&self.walk)
@@ -225,12 +253,23 @@ impl Case for Input {
         Ok(curve.input(|_| room))
     }
 
+    /// Smaller curves, with room that is as far from what they need, or the same. Where the tolerance
+    /// of the line is the distance of two points, those of the smaller curve are tried before.
     fn smaller(&self) -> Smaller<Self> {
-        let before = self.need();
+        let (before, tolerances) = (self.need(), self.tolerances);
+        let reached = tolerances.is_some_and(|at| self.distances().contains(&at.line));
         Box::new(self.curve().smaller().flat_map(move |curve| {
             let room = curve.room;
-            let moved = curve.clone().input(|after| room.as_far(before, after));
-            [moved, curve.input(|_| room)]
+            let moved = |curve: Curve| curve.input(|after| room.as_far(before, after));
+            let first = moved(curve.clone());
+            let reached = reached && curve.tolerances == tolerances;
+            let distances = if reached {
+                first.distances()
+            } else {
+                Vec::new()
+            };
+            let reaching: Vec<_> = curve.reaching(&distances).map(moved).collect();
+            reaching.into_iter().chain([first, curve.input(|_| room)])
         }))
     }
 }
