@@ -2,14 +2,14 @@
 -- but `larger` leaves a NaN out: so a NaN difference is passed over, and only three of them are never close.
 use mathlib.Core.Path.{_≡_, refl, sym, _∙_}
 use mathlib.Core.Bool.{Bool, true, false, not, _&&_, _||_, or-true, or-false, and-true, and-false, true≢false}
-use lib.Ieee.{Float, nan, inf, fin, binary64, lt, le, eq, neg, sub, ofBits, isNan}
+use lib.Ieee.{Float, nan, inf, fin, binary64, lt, le, eq, ne, neg, sub, ofBits, isNan}
 use borrow.Author.Tests.{not-true, not-false}
 use Rattle.float.specs.Consts.{eps, zero64, one64}
 use Rattle.float.specs.Sign.{absolute, isFinite}
 use Rattle.float.specs.Order.{larger}
 use Rattle.float.specs.Table.{computed}
 use Rattle.basics.proofs.Tests.{and-both, cannot}
-use Rattle.float.proofs.Less.{lt-le-trans, eq-self}
+use Rattle.float.proofs.Less.{le-is, le-not-nan, lt-le, lt-le-trans, eq-self, ne-self}
 use Rattle.float.proofs.Differences.{sub-swap, sub-not-nan, sub-self}
 use Rattle.float.proofs.Between.{abs-below}
 use Rattle.float.proofs.Larger.{abs-nan, larger-nan, larger-under, nan-not-below}
@@ -53,13 +53,48 @@ unfolding allClose
 close-by a b t = largest-below (minus a b) t
 
 -- ---- as `all_close` tests it
--- what does not pass is a number that is not between the tolerance and its negative
-pub apart-is : (d t : Float) → not (lt (neg t) d && lt d t) && eq d d ≡ not (passes d t)
-apart-is d t = rw (← abs-below d t, eq-self) (neither (lt (absolute d) t) (isNan d))
+-- no value is at most a NaN, nor a NaN at most a value, nor is a value less than one
+not-le-nan : (x y : Float) → isNan y ≡ true → (le x y ≡ false) × (le y x ≡ false)
+not-le-nan x y h = (
+  cannot (le x y) (λ e. true≢false (sym h ∙ le-not-nan x y e .1)),
+  cannot (le y x) (λ e. true≢false (sym h ∙ le-not-nan y x e .0)),
+)
+
+not-lt-nan : (x y : Float) → isNan y ≡ true → lt x y ≡ false
+not-lt-nan x y h = cannot (lt x y) (λ e. true≢false (sym (lt-le x y e) ∙ not-le-nan x y h .0))
+
+neg-nan : (x : Float) → isNan (neg x) ≡ isNan x
+unfolding neg isNan
+neg-nan nan = refl
+neg-nan (inf s) = refl
+neg-nan (fin s m e) = refl
+
+-- what does not pass is the tolerance or more in magnitude, or, where that is a NaN, any number
+pub apart-is : (d t : Float) → (le t d || le d (neg t)) || (ne t t && eq d d) ≡ not (passes d t)
+apart-is d t = go (isNan t) (isNan d) refl refl
   where
-    neither : (p q : Bool) → not p && not q ≡ not (p || q)
-    neither true q = refl
-    neither false q = refl
+    both : (p q : Bool) → (not p || not q) || false ≡ not (q && p || false)
+    both true true = refl
+    both true false = refl
+    both false true = refl
+    both false false = refl
+
+    go : (k n : Bool) → isNan t ≡ k → isNan d ≡ n →
+        (le t d || le d (neg t)) || (ne t t && eq d d) ≡ not (lt (absolute d) t || n)
+    go true n e h =
+        simp (
+          not-le-nan d t e .1,
+          not-le-nan d (neg t) (neg-nan t ∙ e) .0,
+          ne-self,
+          eq-self,
+          e,
+          h,
+          not-lt-nan (absolute d) t e,
+        )
+    go false true e h = simp (not-le-nan t d h .0, not-le-nan (neg t) d h .1, ne-self, e, or-true)
+    go false false e h =
+        simp (le-is t d e h, le-is d (neg t) h (neg-nan t ∙ e), abs-below d t, ne-self, e)
+        (both (lt d t) (lt (neg t) d))
 
 -- r is the answer of `apart` of one difference
 module _ {r : Bool} (d t : Float) (e : r ≡ not (passes d t)) where
@@ -146,13 +181,8 @@ nan-not-close a b t h k l = close-by a b t ∙ simp (h, k, l, and-false)
 
 -- at a NaN nothing is close
 pub nan-tolerance : (a b : Vector) → allClose a b nan ≡ false
-unfolding allClose lt
-nan-tolerance a b = none (largest (absolutes (minus a b)))
-  where
-    none : (x : Float) → lt x nan ≡ false
-    none nan = refl
-    none (inf s) = refl
-    none (fin s m e) = refl
+unfolding allClose isNan
+nan-tolerance a b = not-lt-nan (largest (absolutes (minus a b))) nan refl
 
 nan-passed-over : allClose (vector nan zero64 zero64) (vector zero64 zero64 zero64) eps ≡ true
 unfolding computed allClose

@@ -66,5 +66,5 @@ impl Vector {
 fn apart(d: f64, tolerance: f64) -> bool
     ensures { λ r. ⌜ r ≡ not (lt (absolute d) tolerance || isNan d) ⌝ }
 {
-    !((-tolerance < d) & (d < tolerance)) & (d == d)
+    (tolerance <= d) | (d <= -tolerance) | ((tolerance != tolerance) & (d == d))
 }
