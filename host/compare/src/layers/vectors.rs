@@ -82,7 +82,7 @@ pub fn compare(driver: &mut Driver) -> Compared {
         |&[a, b]| original(a).all_close(original(b)),
     )?;
     driver.compare(
-        "Vector::all_close at any tolerance",
+        "Vector::all_close, at any tolerance",
         3_000_000,
         at_a_tolerance,
         Pair::library,
