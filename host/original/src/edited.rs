@@ -64,6 +64,17 @@ pub fn new_vector(a: &[Vector], b: &[Vector], tolerance: f64) -> Option<crate::C
     parametric::CyclicMapping::new_vector(a, b, tolerance).map(Into::into)
 }
 
+impl From<crate::ParametricSurfaceTexture> for parametric::ParametricSurfaceTexture {
+    fn from(texture: crate::ParametricSurfaceTexture) -> Self {
+        use crate::ParametricSurfaceTexture::{Grid, Spiral, Swirl};
+        match texture {
+            Grid => Self::Grid,
+            Swirl { spacing, twist } => Self::Swirl { spacing, twist },
+            Spiral { spacing, arms } => Self::Spiral { spacing, arms },
+        }
+    }
+}
+
 impl From<parametric::CyclicMapping> for crate::CyclicMapping {
     fn from(mapping: parametric::CyclicMapping) -> Self {
         match mapping {

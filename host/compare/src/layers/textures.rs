@@ -7,15 +7,17 @@ mod rays;
 use crate::case::case;
 use crate::driver::{Compared, Driver};
 use crate::inputs::grids::{Grid, any_grid};
+use crate::inputs::tolerances::{any_tolerance, tolerances_fit};
 use crate::inputs::{EPS, any, whole};
 use crate::layers::lines::coordinates;
+use crate::mappings::to_edited;
 use crate::random::Random;
 use crate::record::{Call, Record, Recorded, bits};
 use crate::value::Value;
-use merlontrispa::{Plan, Refusal, Texture};
+use merlontrispa::{Plan, Refusal, Texture, Tolerances};
 use original::{
-    ParametricSurfaceTexture, RaySample, Surface, Vector, radial_sample_count, spiral_sample_count,
-    texture_spacing, vectors,
+    ParametricSurfaceTexture, Paths, RaySample, Surface, Vector, edited, radial_sample_count,
+    spiral_sample_count, texture_spacing, vectors,
 };
 use std::cell::LazyCell;
 use std::f64::consts::TAU;
@@ -78,11 +80,26 @@ case!(Input { texture, m, n });
 struct Scene {
     texture: Texture,
     grid: Grid,
+    /// Those of the library and of the edited original. Where none are given the library has EPS
+    /// three times, and is held to the unchanged original.
+    tolerances: Option<Tolerances>,
 }
 
-case!(Scene { texture, grid });
+case!(Scene {
+    texture,
+    grid,
+    tolerances
+});
 
 impl Scene {
+    fn new(texture: Texture, grid: Grid) -> Self {
+        Self {
+            texture,
+            grid,
+            tolerances: None,
+        }
+    }
+
     fn input(&self) -> Input {
         let (m, n) = (self.grid.u_steps, self.grid.v_steps);
         let texture = self.texture;
@@ -103,7 +120,9 @@ pub fn compare(driver: &mut Driver) -> Compared {
     let limits = "swirls and spirals, at the limits";
     driver.compare_each(limits, limits_drawn(), library_lines, original)?;
     let wide = "swirls and spirals, up to 255 by 255";
-    driver.compare(wide, 150, wide_scene, library_lines, original)
+    driver.compare(wide, 150, wide_scene, library_lines, original)?;
+    let drawn = "swirls and spirals, at tolerances";
+    driver.compare(drawn, 1_000, scene_at_tolerances, library_lines, original)
 }
 
 /// The texture in the original's type.
@@ -165,18 +184,44 @@ fn original_lines(radii: &[f64], scene: &Scene) -> DrawnLines {
     if let Some(refusal) = grid.refusal(None) {
         return Err(refusal);
     }
+    if !scene.tolerances.is_none_or(tolerances_fit) {
+        return Err(Refusal::Tolerance);
+    }
     original_plan(radii, &scene.input())?;
-    let mut surface = Surface::from_grid(vectors(&grid.numbers), grid.u_steps, grid.v_steps);
-    let paths = surface.paths(to_original(scene.texture));
-    let paths = paths.ok_or(Refusal::NoStep)?;
-    let lines = paths.iter_paths().map(|line| coordinates(line).collect());
+    let paths = original_paths(scene).ok_or(Refusal::NoStep)?;
+    let lines = paths.iter_paths().map(|line| line.as_flattened().to_vec());
     Ok(lines.collect())
+}
+
+/// The lines of the original, or nothing where it panics: the edited one's where tolerances are given.
+fn original_paths(scene: &Scene) -> Option<Paths<[f64; 3]>> {
+    let Grid {
+        u_steps,
+        v_steps,
+        ref numbers,
+    } = scene.grid;
+    let texture = to_original(scene.texture);
+    match scene.tolerances {
+        None => {
+            let mut surface = Surface::from_grid(vectors(numbers), u_steps, v_steps);
+            Some(surface.paths(texture)?.map(Into::into))
+        }
+        Some(tolerances) => edited::at(to_edited(tolerances), || {
+            let points = edited::vectors(numbers);
+            let mut surface = edited::Surface::from_grid(points, u_steps, v_steps);
+            Some(surface.paths(texture.into())?.map(Into::into))
+        }),
+    }
 }
 
 /// What the library draws: its plan, angles, points and traces, with the host's cosine and sine.
 fn library_lines(scene: &Scene) -> DrawnLines {
     let grid = &scene.grid;
     let surface = merlontrispa::Surface::new(&grid.numbers, grid.u_steps, grid.v_steps)?;
+    let surface = match scene.tolerances {
+        None => surface,
+        Some(tolerances) => surface.with_tolerances(tolerances)?,
+    };
     let lines = surface.texture_lines(scene.texture)?;
     let lines = lines.iter().map(|line| line.as_flattened().to_vec());
     Ok(lines.collect())
@@ -265,7 +310,17 @@ fn any_scene(random: &mut Random) -> Scene {
     };
     let [m, n] = [0; 2].map(|_| 1 + random.below(12) as usize);
     let grid = any_grid(random, m, n);
-    Scene { texture, grid }
+    Scene::new(texture, grid)
+}
+
+/// The same at tolerances, on a grid whose points are mostly so near to each other that they tell.
+fn scene_at_tolerances(random: &mut Random) -> Scene {
+    let mut scene = any_scene(random);
+    let scale = random.of(&[1.0, 1.0 / 16.0, 1.0 / 256.0]);
+    scene.grid.numbers.iter_mut().for_each(|x| *x *= scale);
+    let [u, v, line] = [(); 3].map(|()| any_tolerance(random));
+    scene.tolerances = Some(Tolerances { u, v, line });
+    scene
 }
 
 /// How many samples a drawing may have that is drawn in some milliseconds.
@@ -280,7 +335,7 @@ fn wide_scene(random: &mut Random) -> Scene {
     }
     let Input { texture, m, n } = input;
     let grid = any_grid(random, m, n);
-    Scene { texture, grid }
+    Scene::new(texture, grid)
 }
 
 fn soon_drawn(input: &Input) -> bool {
@@ -371,7 +426,7 @@ fn limits_drawn() -> impl Iterator<Item = Scene> {
     let mut random = Random::new(1);
     all.into_iter().map(move |(texture, m, n)| {
         let grid = any_grid(&mut random, m, n);
-        Scene { texture, grid }
+        Scene::new(texture, grid)
     })
 }
 
@@ -529,13 +584,13 @@ impl Input {
 /// Whether the closures' samples, with Rust's cosine and sine, draw what the original draws of the
 /// texture, bit by bit.
 fn drawn_alike(radii: &[f64], scene: &Scene) -> bool {
-    let Scene { texture, ref grid } = *scene;
+    let Scene { texture, grid, .. } = scene;
     let (m, n) = (grid.u_steps, grid.v_steps);
     let plan = original_plan(radii, &scene.input());
     let surface = Surface::from_grid(vectors(&grid.numbers), m, n);
     let ray_lines = |ray| {
         let lend = |_, angle: f64| Some([angle.cos(), angle.sin()]);
-        let samples = original::rays(to_original(texture), m, n, ray, lend).samples;
+        let samples = original::rays(to_original(*texture), m, n, ray, lend).samples;
         let samples = samples.iter().map(|sample| Some(sample.point.into()));
         let paths = surface.trace(&samples.collect::<Vec<_>>());
         let paths = paths.ok_or(Refusal::NoStep)?;
@@ -567,7 +622,7 @@ mod tests {
         let mut random = Random::new(1);
         let (mut cells, mut twists, mut arms) = (0, 0, 0);
         for _ in 0..150 {
-            let Scene { texture, grid } = wide_scene(&mut random);
+            let Scene { texture, grid, .. } = wide_scene(&mut random);
             assert!(texture.plan(grid.u_steps, grid.v_steps).is_ok());
             cells += u32::from(grid.u_steps.max(grid.v_steps) > 200);
             match texture {
@@ -580,5 +635,22 @@ mod tests {
             cells > 20 && twists > 8 && arms > 8,
             "{cells}, {twists}, {arms}"
         );
+    }
+
+    /// A swirl or a spiral has other lines at its tolerances than by EPS, and not none.
+    #[test]
+    fn tolerances_decide_lines() {
+        let mut random = Random::new(1);
+        let (mut other, radii) = (0, radii());
+        for _ in 0..200 {
+            let scene = scene_at_tolerances(&mut random);
+            let by_eps = Scene::new(scene.texture, scene.grid.clone());
+            let [here, by_eps] = [&scene, &by_eps].map(|scene| {
+                let lines = original_lines(&radii, scene).expect("it is drawn");
+                lines.iter().map(Vec::len).collect::<Vec<_>>()
+            });
+            other += u32::from(!here.is_empty() && here != by_eps);
+        }
+        assert!(other > 50, "{other}");
     }
 }
