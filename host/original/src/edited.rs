@@ -5,6 +5,7 @@
 //! Triangulation and traces take the tolerances of the call of [`at`] that they stand in.
 
 mod parametric;
+// The same stand-ins, over the edited Vector.
 #[path = "stand_ins.rs"]
 mod stand_ins;
 
