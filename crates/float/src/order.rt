@@ -1,4 +1,5 @@
 // Rules 12.2 and 12.3: the larger of two, a value between two ends, and the order of `total_cmp`.
+use crate::sign::is_negative;
 ghost use mathlib.Core.Path.{_≡_};
 ghost use Rattle.float.specs.Order.{larger, clamped, totalOrder};
 
@@ -27,23 +28,28 @@ pub fn clamp(x: f64, lo: f64, hi: f64) -> f64
     }
 }
 
-// IEEE 754's totalOrder on values that are no NaN: by value, and where neither is less by sign.
+// IEEE 754's totalOrder (5.10), clause by clause, as less, equal or greater in the place of true or
+// false. Clause d, NaNs by sign and payload, is not taken: the logic has one NaN. A NaN passes
+// neither a nor b and counts as positive in c, which is an answer but no order. No lambda is one:
+// `edges::scratch::insert_event` requires that of all that it puts in order.
 pub fn total_cmp(x: f64, y: f64) -> Ordering
     ensures { λ r. ⌜ r ≡ totalOrder x y ⌝ }
 {
-    if x < y {
+    if x < y { // a
         return Ordering::Less;
     }
-    if y < x {
+    if x > y { // b
         return Ordering::Greater;
     }
-    let minus_x = crate::sign::is_negative(x);
-    let minus_y = crate::sign::is_negative(y);
-    if minus_x & !minus_y {
+    // c: the values are equal, and only zeros can still differ, by their signs.
+    let minus_x = is_negative(x);
+    let minus_y = is_negative(y);
+    if minus_x & !minus_y { // c, 1: -0.0 and 0.0
         return Ordering::Less;
     }
-    if minus_y & !minus_x {
+    if !minus_x & minus_y { // c, 2: 0.0 and -0.0
         return Ordering::Greater;
     }
+    // c, 3: the same number, of which binary64 has one form.
     Ordering::Equal
 }
