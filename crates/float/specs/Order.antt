@@ -17,13 +17,14 @@ clamped x lo hi =
     let y = cond (lt x lo) lo x in
     cond (lt hi y) hi y
 
--- two values neither of which is less, by sign: -0 comes before +0
+-- clause c of totalOrder, two values neither of which is less, by their signs: -0 comes before +0
 abbrev pub signOrder : Bool → Bool → Ordering
 signOrder true true = Equal
 signOrder true false = Less
 signOrder false true = Greater
 signOrder false false = Equal
 
--- `total_cmp`, for values that are no `nan`: by value, and where neither is less by sign
+-- `total_cmp`, clause by clause: a, x is less; b, x is greater; c, neither is. Clause d, on NaNs, is not taken:
+-- lib.Ieee has one `nan`, without sign or payload, and what c says of it is no order
 unfoldable pub totalOrder : Float → Float → Ordering
 totalOrder x y = cond (lt x y) Less (cond (lt y x) Greater (signOrder (negative x) (negative y)))
