@@ -4,6 +4,7 @@
 
 #include "expect.h"
 
+#include <float.h>
 #include <math.h>
 #include <stddef.h>
 #include <string.h>
@@ -461,7 +462,12 @@ static void numbers(void) {
     EXPECT(same(mt_clamp(-2, 1, 0), 0) && same(mt_clamp(0.5, 1, 0), 0));
     EXPECT(same(mt_clamp(2, 1, 0), 0) && same(mt_clamp(2, NAN, 1), 1));
     EXPECT(same(mt_clamp(-2, 0, NAN), 0) && same(mt_clamp(2, 0, NAN), 2));
-    EXPECT(mt_total_cmp(-0.0, 0.0) == -1 && mt_total_cmp(2, 1) == 1 && mt_total_cmp(1, 1) == 0);
+    EXPECT(mt_total_cmp(1, 2) == -1 && mt_total_cmp(2, 1) == 1 && mt_total_cmp(1, 1) == 0);
+    EXPECT(mt_total_cmp(-0.0, 0.0) == -1 && mt_total_cmp(0.0, -0.0) == 1);
+    EXPECT(mt_total_cmp(0.0, 0.0) == 0 && mt_total_cmp(-0.0, -0.0) == 0);
+    EXPECT(mt_total_cmp(-0x1p-1074, -0.0) == -1 && mt_total_cmp(0x1p-1074, 0.0) == 1);
+    EXPECT(mt_total_cmp(-INFINITY, -DBL_MAX) == -1 && mt_total_cmp(INFINITY, DBL_MAX) == 1);
+    EXPECT(mt_total_cmp(NAN, 1) == 0 && mt_total_cmp(NAN, -1) == 1 && mt_total_cmp(-1, NAN) == -1);
     EXPECT(mt_floor_i64(-0.25) == -1 && mt_floor_i64(1e300) == INT64_MAX && mt_floor_i64(NAN) == 0);
     EXPECT(mt_ceil_i64(0.25) == 1 && mt_ceil_i64(-1e300) == INT64_MIN && mt_ceil_i64(NAN) == 0);
     EXPECT(same(mt_round(2.5), 3) && same(mt_round(-0.25), -0.0));

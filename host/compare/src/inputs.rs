@@ -105,6 +105,12 @@ pub fn number(random: &mut Random) -> f64 {
     }
 }
 
+/// Both signs of each value at which a helper changes its way.
+pub fn signed_edges() -> impl Iterator<Item = f64> + Clone {
+    let numbers = EDGES.into_iter().filter(|x| !x.is_nan());
+    numbers.flat_map(|x| [x, -x])
+}
+
 /// A whole number with any count of leading zeros, or next to a power of two.
 pub fn whole(random: &mut Random) -> usize {
     let shift = random.below(64);

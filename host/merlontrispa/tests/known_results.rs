@@ -1,11 +1,12 @@
 //! The known results of Rules 3, 4, 6 and 7, on the library: each that an open call can show.
 //! `host/original/tests/known_results.rs` has the same ones on the original. Those of Rules 2, on
-//! tolerances, are in `tolerances.rs`.
+//! tolerances, are in `tolerances.rs`; of Rules 12 the order of 12.2 is here.
 
 use merlontrispa::Mapping::{Forward, Reverse};
 use merlontrispa::{
-    Drawn, EPS, Mapping, Refusal, Seam, Surface, Tolerances, TraceLists, trace_flat,
+    Drawn, EPS, Mapping, Refusal, Seam, Surface, Tolerances, TraceLists, float, trace_flat,
 };
+use std::cmp::Ordering;
 
 /// One cell, flat, so that nothing joins.
 const CELL: [f64; 12] = [0.0, 0.0, 0.0, 0.0, 1.0, 0.0, 1.0, 0.0, 0.0, 1.0, 1.0, 0.0];
@@ -168,5 +169,30 @@ fn so_many_steps_and_no_more() {
     for [m, n] in [[256, 1], [1, 256], [256, 255]] {
         let refused = Surface::new(&flat(m, n), m, n).map(|_| ());
         assert_eq!(refused.map_err(Refusal::number), Err(1), "{m} by {n}");
+    }
+}
+
+#[test]
+fn numbers_in_the_total_order() {
+    let rising = [0.0, 5e-324, f64::MIN_POSITIVE, 1.0, f64::MAX, f64::INFINITY];
+    let falling = rising.map(|x| -x);
+    let ordered: Vec<f64> = falling.into_iter().rev().chain(rising).collect();
+    for (i, &x) in ordered.iter().enumerate() {
+        for (j, &y) in ordered.iter().enumerate() {
+            assert_eq!(float::total_cmp(x, y), i.cmp(&j), "{x} and {y}");
+        }
+    }
+}
+
+/// Of a NaN there is an answer, which makes no order.
+#[test]
+fn a_nan_counts_as_positive_in_the_total_order() {
+    for x in [0.0, 1.0, f64::INFINITY, f64::NAN] {
+        assert_eq!(float::total_cmp(f64::NAN, x), Ordering::Equal, "{x}");
+        assert_eq!(float::total_cmp(x, f64::NAN), Ordering::Equal, "{x}");
+    }
+    for x in [-0.0, -1.0, f64::NEG_INFINITY] {
+        assert_eq!(float::total_cmp(f64::NAN, x), Ordering::Greater, "{x}");
+        assert_eq!(float::total_cmp(x, f64::NAN), Ordering::Less, "{x}");
     }
 }

@@ -1,10 +1,11 @@
 //! The float helpers against Rust's methods on f64 and its casts.
 
 use crate::driver::{Compared, Driver};
-use crate::inputs::{any, number, whole};
+use crate::inputs::{any, number, signed_edges, whole};
 use crate::random::Random;
 use crate::value::Value;
 use merlontrispa::float;
+use std::cmp::Ordering;
 
 const COUNT: u64 = 10_000_000;
 
@@ -28,9 +29,9 @@ pub fn compare(driver: &mut Driver) -> Compared {
         |&[x, a, b]| clamped(x, a, b, float::clamp),
         |&[x, a, b]| clamped(x, a, b, f64::clamp),
     )?;
-    binary(driver, "total_cmp", number, float::total_cmp, |x, y| {
-        x.total_cmp(&y)
-    })?;
+    let edges = signed_edges().flat_map(|x| signed_edges().map(move |y| [x, y]));
+    driver.compare_each("total_cmp at the edges", edges, library_order, rust_order)?;
+    driver.compare("total_cmp", COUNT, to_order, library_order, rust_order)?;
     unary(driver, "floor_i64", float::floor_i64, |x| x.floor() as i64)?;
     unary(driver, "ceil_i64", float::ceil_i64, |x| x.ceil() as i64)?;
     unary(driver, "round", float::round, f64::round)?;
@@ -64,6 +65,27 @@ fn binary<O: Value>(
     )
 }
 
+/// Two numbers: any two, or one and itself, its opposite or a neighbour.
+fn to_order(random: &mut Random) -> [f64; 2] {
+    let x = number(random);
+    let y = match random.below(8) {
+        0 => x,
+        1 => -x,
+        2 => x.next_up(),
+        3 => x.next_down(),
+        _ => number(random),
+    };
+    [x, y]
+}
+
+fn library_order(&[x, y]: &[f64; 2]) -> Ordering {
+    float::total_cmp(x, y)
+}
+
+fn rust_order(&[x, y]: &[f64; 2]) -> Ordering {
+    x.total_cmp(&y)
+}
+
 /// The larger of two. Which of two zeros of different sign it is Rust leaves open.
 fn settled(x: f64, y: f64, max: impl Fn(f64, f64) -> f64) -> f64 {
     let larger = max(x, y);
@@ -80,5 +102,94 @@ fn clamped(x: f64, a: f64, b: f64, clamp: impl Fn(f64, f64, f64) -> f64) -> f64 
         clamp(x, a, b)
     } else {
         clamp(x, b, a)
+    }
+}
+
+#[cfg(test)]
+mod tests {
+    use super::*;
+    use crate::planted::found;
+
+    #[test]
+    fn pairs_stand_in_every_order() {
+        let mut random = Random::new(1);
+        let (mut less, mut equal, mut greater, mut zeros) = (0, 0, 0, 0);
+        for _ in 0..10_000 {
+            let [x, y] = to_order(&mut random);
+            match rust_order(&[x, y]) {
+                Ordering::Less => less += 1,
+                Ordering::Equal => equal += 1,
+                Ordering::Greater => greater += 1,
+            }
+            zeros += u32::from(x == 0.0 && y == 0.0 && x.to_bits() != y.to_bits());
+        }
+        assert!(less > 3_000 && equal > 1_000 && greater > 3_000 && zeros > 10);
+    }
+
+    /// The smallest pair on which a wrong order is found to differ.
+    fn found_pair(wrong: impl Fn(f64, f64) -> Ordering) -> String {
+        let compare = |driver: &mut Driver, library: &dyn Fn(&[f64; 2]) -> Ordering| {
+            driver.compare("planted", 10_000, to_order, library, rust_order)
+        };
+        found(
+            |driver| compare(driver, &|&[x, y]| wrong(x, y)),
+            |driver| compare(driver, &library_order),
+        )
+    }
+
+    /// By value, and where neither is less by what is said of the signs.
+    fn ordered(x: f64, y: f64, by_sign: impl Fn(bool, bool) -> Ordering) -> Ordering {
+        match x.partial_cmp(&y) {
+            Some(Ordering::Equal) | None => by_sign(x.is_sign_negative(), y.is_sign_negative()),
+            Some(by_value) => by_value,
+        }
+    }
+
+    fn minus_first(minus_x: bool, minus_y: bool) -> Ordering {
+        minus_y.cmp(&minus_x)
+    }
+
+    #[test]
+    fn clause_by_clause_is_the_order_of_rust() {
+        for x in signed_edges() {
+            for y in signed_edges() {
+                assert_eq!(ordered(x, y, minus_first), rust_order(&[x, y]), "{x} {y}");
+            }
+        }
+    }
+
+    #[test]
+    fn equal_zeros_are_found() {
+        let case = found_pair(|x, y| ordered(x, y, |_, _| Ordering::Equal));
+        assert_eq!(case, "0.0 -0.0");
+    }
+
+    #[test]
+    fn plus_zero_before_minus_zero_is_found() {
+        let case = found_pair(|x, y| ordered(x, y, |x, y| minus_first(y, x)));
+        assert_eq!(case, "0.0 -0.0");
+    }
+
+    /// A zero is told by its sign before it is compared.
+    #[test]
+    fn zeros_first_is_found() {
+        let by_sign = |x: f64, y: f64| minus_first(x.is_sign_negative(), y.is_sign_negative());
+        let case = found_pair(|x, y| match x {
+            0.0 => by_sign(x, y),
+            _ => ordered(x, y, minus_first),
+        });
+        assert_eq!(case, "0.0 1.0");
+    }
+
+    #[test]
+    fn exchanged_answers_are_found() {
+        let case = found_pair(|x, y| ordered(y, x, |y, x| minus_first(x, y)));
+        assert_eq!(case, "0.0 1.0");
+    }
+
+    #[test]
+    fn the_sign_of_one_operand_is_found() {
+        let case = found_pair(|x, y| ordered(x, y, |x, _| minus_first(x, false)));
+        assert_eq!(case, "-0.0 -0.0");
     }
 }
