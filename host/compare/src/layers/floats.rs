@@ -127,7 +127,7 @@ mod tests {
     }
 
     /// The smallest pair on which a wrong order is found to differ.
-    fn found_pair(wrong: impl Fn(f64, f64) -> Ordering) -> String {
+    fn found_pair(wrong: fn(f64, f64) -> Ordering) -> String {
         let compare = |driver: &mut Driver, library: &dyn Fn(&[f64; 2]) -> Ordering| {
             driver.compare("planted", 10_000, to_order, library, rust_order)
         };
@@ -139,9 +139,12 @@ mod tests {
 
     /// By value, and where neither is less by what is said of the signs.
     fn ordered(x: f64, y: f64, by_sign: impl Fn(bool, bool) -> Ordering) -> Ordering {
-        match x.partial_cmp(&y) {
-            Some(Ordering::Equal) | None => by_sign(x.is_sign_negative(), y.is_sign_negative()),
-            Some(by_value) => by_value,
+        if x < y {
+            Ordering::Less
+        } else if x > y {
+            Ordering::Greater
+        } else {
+            by_sign(x.is_sign_negative(), y.is_sign_negative())
         }
     }
 
@@ -158,38 +161,44 @@ mod tests {
         }
     }
 
+    /// Each wrong order beside the smallest pair on which it is found to differ.
     #[test]
-    fn equal_zeros_are_found() {
-        let case = found_pair(|x, y| ordered(x, y, |_, _| Ordering::Equal));
-        assert_eq!(case, "0.0 -0.0");
-    }
-
-    #[test]
-    fn plus_zero_before_minus_zero_is_found() {
-        let case = found_pair(|x, y| ordered(x, y, |x, y| minus_first(y, x)));
-        assert_eq!(case, "0.0 -0.0");
+    fn wrong_orders_are_found() {
+        type Order = fn(f64, f64) -> Ordering;
+        let wrong: [(&str, Order, &str); 5] = [
+            (
+                "equal zeros",
+                |x, y| ordered(x, y, |_, _| Ordering::Equal),
+                "0.0 -0.0",
+            ),
+            (
+                "plus zero first",
+                |x, y| ordered(x, y, |s, t| minus_first(t, s)),
+                "0.0 -0.0",
+            ),
+            (
+                "one sign",
+                |x, y| ordered(x, y, |s, _| minus_first(s, false)),
+                "0.0 -0.0",
+            ),
+            (
+                "greater first",
+                |x, y| ordered(y, x, |t, s| minus_first(s, t)),
+                "0.0 1.0",
+            ),
+            ("zeros first", zeros_first, "-0.0 -1.0"),
+        ];
+        for (name, order, case) in wrong {
+            assert_eq!(found_pair(order), case, "{name}");
+        }
     }
 
     /// A zero is told by its sign before it is compared.
-    #[test]
-    fn zeros_first_is_found() {
-        let by_sign = |x: f64, y: f64| minus_first(x.is_sign_negative(), y.is_sign_negative());
-        let case = found_pair(|x, y| match x {
-            0.0 => by_sign(x, y),
-            _ => ordered(x, y, minus_first),
-        });
-        assert_eq!(case, "0.0 1.0");
-    }
-
-    #[test]
-    fn exchanged_answers_are_found() {
-        let case = found_pair(|x, y| ordered(y, x, |y, x| minus_first(x, y)));
-        assert_eq!(case, "0.0 1.0");
-    }
-
-    #[test]
-    fn the_sign_of_one_operand_is_found() {
-        let case = found_pair(|x, y| ordered(x, y, |x, _| minus_first(x, false)));
-        assert_eq!(case, "-0.0 -0.0");
+    fn zeros_first(x: f64, y: f64) -> Ordering {
+        if x == 0.0 {
+            minus_first(x.is_sign_negative(), y.is_sign_negative())
+        } else {
+            ordered(x, y, minus_first)
+        }
     }
 }
