@@ -105,8 +105,8 @@ pub fn number(random: &mut Random) -> f64 {
     }
 }
 
-/// Both signs of each value at which a helper changes its way.
-pub fn signed_edges() -> impl Iterator<Item = f64> + Clone {
+/// Both signs of each number at which a helper changes its way.
+pub fn signed_edges() -> impl Iterator<Item = f64> {
     let numbers = EDGES.into_iter().filter(|x| !x.is_nan());
     numbers.flat_map(|x| [x, -x])
 }

@@ -12,13 +12,10 @@ const COUNT: u64 = 10_000_000;
 pub fn compare(driver: &mut Driver) -> Compared {
     unary(driver, "abs", float::abs, f64::abs)?;
     unary(driver, "is_finite", float::is_finite, f64::is_finite)?;
-    binary(driver, "at_most", any, float::at_most, |x, top| {
-        x.abs() <= top
-    })?;
+    binary(driver, "at_most", float::at_most, |x, top| x.abs() <= top)?;
     binary(
         driver,
         "max",
-        any,
         |x, y| settled(x, y, float::max),
         |x, y| settled(x, y, f64::max),
     )?;
@@ -52,14 +49,13 @@ fn unary<O: Value>(
 fn binary<O: Value>(
     driver: &mut Driver,
     name: &str,
-    operand: impl Fn(&mut Random) -> f64,
     library: impl Fn(f64, f64) -> O,
     original: impl Fn(f64, f64) -> O,
 ) -> Compared {
     driver.compare(
         name,
         COUNT,
-        |random| [operand(random), operand(random)],
+        |random| [any(random), any(random)],
         |&[x, y]| library(x, y),
         |&[x, y]| original(x, y),
     )
