@@ -1,4 +1,6 @@
 // The point of an event (Rules 7.2): the two grid points that it is made from, the fraction between them, and itself.
+#![tactic(auto)]
+
 ghost use Rattle.std.specs.Prelude.{◌+◌, ◌*◌, ◌≤◌, ◌≡◌, length};
 ghost use Rattle.grid.specs.Grid.{point_number};
 ghost use Rattle.edges.specs.Events.{Inside};
@@ -14,14 +16,14 @@ use param::{Cells, ParamPoint};
 use vector::Vector;
 
 // The cell that a value falls into on an axis of steps, and how far into it.
-#[derive(Drop)]
+#[derive(Clone, Copy)]
 pub enum StepIndex {
     At(usize, f64),
     Nothing,
 }
 
 // A point made from grid points p and q by the fraction t.
-#[derive(Drop)]
+#[derive(Clone, Copy)]
 pub struct Crossing {
     pub p: usize,
     pub q: usize,
@@ -30,7 +32,7 @@ pub struct Crossing {
 }
 
 // The point of an event, or none where `step_index` has no answer.
-#[derive(Drop)]
+#[derive(Clone, Copy)]
 pub enum EdgePoint {
     On(Crossing),
     NoStep,

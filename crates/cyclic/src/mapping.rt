@@ -10,13 +10,13 @@ use refusal::Refusal;
 pub const MAX_STEPS: usize = 65535;
 
 // The offset, and the number of steps of a row.
-#[derive(Drop)]
+#[derive(Clone, Copy)]
 pub enum CyclicMapping {
     Forward(usize, usize),
     Reverse(usize, usize),
 }
 
-#[derive(Drop)]
+#[derive(Clone, Copy)]
 pub enum MappedIndex {
     Index(usize),
     Refused(Refusal),

@@ -15,27 +15,27 @@ use refusal::{Check, Refusal};
 const MAX_ROW: usize = 196608;
 
 // None, or a mapping.
-#[derive(Drop)]
+#[derive(Clone, Copy)]
 pub enum Seam {
     Joined(CyclicMapping),
     Unjoined,
 }
 
 // What a search found, and the comparisons it made.
-#[derive(Drop)]
+#[derive(Clone, Copy)]
 pub struct SeamSearch {
     pub seam: Seam,
     pub comparisons: u64,
 }
 
 // Whether all comparisons held, and how many were made.
-#[derive(Drop)]
+#[derive(Clone, Copy)]
 pub struct Tried {
     pub fits: bool,
     pub made: u64,
 }
 
-#[derive(Drop)]
+#[derive(Clone, Copy)]
 pub enum SeamAnswer {
     Found(CyclicMapping, u64),
     NotFound(u64),

@@ -9,14 +9,14 @@ use float::whole::floor_i64;
 use param::{Cells, ParamPoint, within};
 
 // A whole number as an index below a count.
-#[derive(Drop)]
+#[derive(Clone, Copy)]
 pub enum CellIndex {
     Index(usize),
     Outside,
 }
 
 // The cell (u, v) on whose diagonal a point is, if there is one.
-#[derive(Drop)]
+#[derive(Clone, Copy)]
 pub enum DiagonalCell {
     Cell(usize, usize),
     NoCell,

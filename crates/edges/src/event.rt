@@ -11,7 +11,7 @@ use float::order::clamp;
 use param::{Axis, Cells, Leg, ParamPoint, param_in_bounds, within};
 
 // A side: the line U(u) or V(v), or the diagonal of the cell (u, v).
-#[derive(Drop)]
+#[derive(Clone, Copy)]
 pub enum ParamEdge {
     U(usize),
     V(usize),
@@ -19,28 +19,28 @@ pub enum ParamEdge {
 }
 
 // An event.
-#[derive(Drop)]
+#[derive(Clone, Copy)]
 pub struct EdgeEvent {
     pub lambda: f64,
     pub edge: ParamEdge,
 }
 
 // The side that a point is on, if it is on one.
-#[derive(Drop)]
+#[derive(Clone, Copy)]
 pub enum EdgeAtPoint {
     Edge(ParamEdge),
     NoEdge,
 }
 
 // A lambda that counts, or none.
-#[derive(Drop)]
+#[derive(Clone, Copy)]
 pub enum NormalizedLambda {
     Lambda(f64),
     Outside,
 }
 
 // A candidate that is an event, or is none.
-#[derive(Drop)]
+#[derive(Clone, Copy)]
 pub enum Candidate {
     Event(EdgeEvent),
     NoEvent,

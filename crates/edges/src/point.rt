@@ -8,7 +8,7 @@ use float::sign::abs;
 use float::whole::round;
 
 // The whole step that a value is close to.
-#[derive(Drop)]
+#[derive(Clone, Copy)]
 pub enum WholeStep {
     Step(usize),
     Between,

@@ -1,6 +1,7 @@
 -- Rules 12 on single values, by computation.
 use Rattle.std.specs.Prelude.{◌≡◌, Bool, true, false, pos, negsuc, from_bits, refl}
 use Rattle.std.specs.Float.{nan, inf, binary64}
+use lib.Ieee.{of_bits}
 use Rattle.std.specs.Float.Ieee.{of_int, neg, lt, le, eq, add, sub, round, to_unsigned}
 use Rattle.float.specs.Consts.{eps, tau, sqrt2, zero64, one64}
 use Rattle.float.specs.Sign.{negative, absolute}
@@ -12,7 +13,7 @@ use Rattle.float.specs.declared.order.Ordering.TheVariants.{Less, Equal, Greater
 -- `unfolding computed` opens every definition of this crate and of lib.Ieee that a closed result needs
 unfoldable pub computed : Bool
 unfolding rounded ceiled floor_z ceil_z clamped absolute total_order negative larger eps tau sqrt2 nat_float
-    from_bits of_int to_unsigned neg lt le eq add sub round
+    of_bits of_int to_unsigned neg lt le eq add sub round
 computed = true
 
 -- the floor of −0.25 is −1 (Rules 6.3), and its ceiling is 0

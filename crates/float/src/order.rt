@@ -5,7 +5,7 @@ ghost use Rattle.float.specs.Order.{larger, clamped, total_order};
 use crate::sign::is_negative;
 
 // How one value stands to another.
-#[derive(Drop)]
+#[derive(Clone, Copy)]
 pub enum Ordering {
     Less,
     Equal,

@@ -1,5 +1,7 @@
 // Rules 1.1 and 1.2: a grid's points by number, read from its list, and refusals 1, 2 and 4 of a grid, once for every
 // call that takes one.
+#![tactic(auto)]
+
 ghost use Rattle.std.specs.Prelude.{◌≡◌, length, ◌+◌, ◌*◌, ◌≤◌};
 ghost use Rattle.grid.specs.Grid.{point_number, point_at, steps_fit, coordinates_fit, grid_check};
 

@@ -1,4 +1,6 @@
 // Rules 4.1 and 4.5: the two seams of a grid, found or given.
+#![tactic(auto)]
+
 ghost use Rattle.std.specs.Prelude.{◌≡◌};
 ghost use Rattle.grid.specs.Grid.{Accepted};
 ghost use Rattle.grid_seams.specs.Seams.{seams_of, find_seams, stated_seams};
@@ -10,14 +12,14 @@ use tolerance::Tolerances;
 pub mod given;
 
 // What a search finds for the u seam and for the v seam.
-#[derive(Drop)]
+#[derive(Clone, Copy)]
 pub struct Seams {
     pub u: SeamSearch,
     pub v: SeamSearch,
 }
 
 // Both seams with their comparisons, or a refusal.
-#[derive(Drop)]
+#[derive(Clone, Copy)]
 pub enum GridSeams {
     Found(SeamSearch, SeamSearch),
     Refused(Refusal),

@@ -1,5 +1,7 @@
 // Rules 8: lists that a caller lends for output. Whether they have room, and zero in every
 // place past what a call writes.
+#![tactic(auto)]
+
 ghost use Rattle.std.specs.Prelude.{◌≡◌};
 ghost use Rattle.float.specs.Consts.{zero64};
 ghost use Rattle.lent.specs.Lent.{zeroed_from, room_check};

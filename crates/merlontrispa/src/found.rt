@@ -11,7 +11,7 @@ use grid_seams::GridSeams;
 
 // Both seams, or the number of a refusal.
 #[repr(C)]
-#[derive(Drop)]
+#[derive(Clone, Copy)]
 pub struct SeamsAnswer {
     pub refusal: u8,
     pub u: FoundSeam,

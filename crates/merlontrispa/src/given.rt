@@ -15,7 +15,7 @@ use triangulation::GivenTriangulation;
 
 // The counts of triangles and flipped pairs, or the number of a refusal.
 #[repr(C)]
-#[derive(Drop)]
+#[derive(Clone, Copy)]
 pub struct CountsAnswer {
     pub refusal: u8,
     pub triangles: usize,

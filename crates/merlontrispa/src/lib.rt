@@ -1,5 +1,7 @@
 // The C boundary: one function for each open call, numbers and slices in, a number or a `#[repr(C)]`
 // struct out. A slice is passed as two words, its pointer and its length.
+#![tactic(auto)]
+
 pub mod floats;
 pub mod found;
 pub mod given;

@@ -9,7 +9,7 @@ use path::{GridPathsAnswer, LineAnswer};
 
 // The counts of points and lines, or the number of a refusal.
 #[repr(C)]
-#[derive(Drop)]
+#[derive(Clone, Copy)]
 pub struct PathsAnswer {
     pub refusal: u8,
     pub points: usize,
@@ -18,7 +18,7 @@ pub struct PathsAnswer {
 
 // The point numbers at which a line starts and ends, or the number of a refusal.
 #[repr(C)]
-#[derive(Drop)]
+#[derive(Clone, Copy)]
 pub struct SpanAnswer {
     pub refusal: u8,
     pub start: usize,
@@ -27,7 +27,7 @@ pub struct SpanAnswer {
 
 // A part of a list: where it begins and how long it is, in numbers.
 #[repr(C)]
-#[derive(Drop)]
+#[derive(Clone, Copy)]
 pub struct Part {
     pub offset: usize,
     pub length: usize,

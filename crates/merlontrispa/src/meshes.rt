@@ -14,7 +14,7 @@ use mesh::Triangulation;
 
 // Both seams and the counts of triangles and flipped pairs, or the number of a refusal.
 #[repr(C)]
-#[derive(Drop)]
+#[derive(Clone, Copy)]
 pub struct MeshAnswer {
     pub refusal: u8,
     pub u: FoundSeam,

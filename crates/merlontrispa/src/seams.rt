@@ -9,7 +9,7 @@ use cyclic::seam::{Seam, SeamAnswer};
 
 // An index, or the number of a refusal.
 #[repr(C)]
-#[derive(Drop)]
+#[derive(Clone, Copy)]
 pub struct IndexAnswer {
     pub refusal: u8,
     pub index: usize,
@@ -17,7 +17,7 @@ pub struct IndexAnswer {
 
 // A seam's mapping, all zero where none was found, and the comparisons made.
 #[repr(C)]
-#[derive(Drop)]
+#[derive(Clone, Copy)]
 pub struct FoundSeam {
     pub found: bool,
     pub reverse: bool,
@@ -28,7 +28,7 @@ pub struct FoundSeam {
 
 // A seam, or the number of a refusal.
 #[repr(C)]
-#[derive(Drop)]
+#[derive(Clone, Copy)]
 pub struct RowsAnswer {
     pub refusal: u8,
     pub seam: FoundSeam,

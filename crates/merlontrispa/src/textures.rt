@@ -10,7 +10,7 @@ use texture::sample::{AngleAnswer, SampleAnswer, angle, sample_point};
 
 // Rays and samples per ray, or the number of a refusal.
 #[repr(C)]
-#[derive(Drop)]
+#[derive(Clone, Copy)]
 pub struct RayCounts {
     pub refusal: u8,
     pub rays: usize,
@@ -19,7 +19,7 @@ pub struct RayCounts {
 
 // The angle of a sample, or the number of a refusal.
 #[repr(C)]
-#[derive(Drop)]
+#[derive(Clone, Copy)]
 pub struct RayAngle {
     pub refusal: u8,
     pub angle: f64,
@@ -27,7 +27,7 @@ pub struct RayAngle {
 
 // The point of a sample, or the number of a refusal.
 #[repr(C)]
-#[derive(Drop)]
+#[derive(Clone, Copy)]
 pub struct RayPoint {
     pub refusal: u8,
     pub u: f64,

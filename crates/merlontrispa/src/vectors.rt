@@ -7,7 +7,7 @@ use vector::Vector;
 
 // A Vector as C sees it.
 #[repr(C)]
-#[derive(Drop)]
+#[derive(Clone, Copy)]
 pub struct Components {
     pub x: f64,
     pub y: f64,

@@ -6,7 +6,7 @@ ghost use Rattle.mesh.specs.Corners.{shape_of, Bounded, Joins, join_of, cell_cor
 use cyclic::seam::Seam;
 
 // A grid's steps and its two seams.
-#[derive(Drop)]
+#[derive(Clone, Copy)]
 pub struct Surface {
     pub m: usize,
     pub n: usize,
@@ -15,14 +15,14 @@ pub struct Surface {
 }
 
 // A point by the lines that a seam joins: how many steps its line is from the first one, and the step along it.
-#[derive(Drop)]
+#[derive(Clone, Copy)]
 pub struct Place {
     pub line: usize,
     pub step: usize,
 }
 
 // The numbers of what a cell's four corners stand for, each named by its steps from the cell's first, in u and in v.
-#[derive(Drop)]
+#[derive(Clone, Copy)]
 pub struct Cell {
     pub i00: usize,
     pub i10: usize,

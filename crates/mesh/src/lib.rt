@@ -1,4 +1,6 @@
 // Triangles and flipped pairs of a grid, from the seams that are found in it (Rules 4).
+#![tactic(auto)]
+
 ghost use Rattle.std.specs.Prelude.{◌+◌, ◌*◌, ◌≤◌, ◌≡◌, length};
 ghost use Rattle.lent.specs.Lent.{afterwards};
 ghost use Rattle.surface.specs.Found.{u_search, v_search, SurfaceMeets};
@@ -17,21 +19,21 @@ pub mod pairs;
 pub mod triangles;
 
 // Both seams with their comparisons, the count of triangles and the count of flipped pairs.
-#[derive(Drop)]
+#[derive(Clone, Copy)]
 pub enum Triangulation {
     Triangulated(SeamSearch, SeamSearch, usize, usize),
     Refused(Refusal),
 }
 
 // What a search finds for the u seam and for the v seam.
-#[derive(Drop)]
+#[derive(Clone, Copy)]
 pub struct Seams {
     pub u: SeamSearch,
     pub v: SeamSearch,
 }
 
 // The count of triangles and the count of flipped pairs.
-#[derive(Drop)]
+#[derive(Clone, Copy)]
 pub struct MeshCounts {
     pub triangles: usize,
     pub pairs: usize,

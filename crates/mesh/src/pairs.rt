@@ -5,7 +5,7 @@ ghost use Rattle.surface.specs.Surface.{insert, pair};
 ghost use Rattle.mesh.specs.Held.{pairs_in, Spotted};
 
 // Where a pair belongs: before the pair at an index, or it is there already.
-#[derive(Drop)]
+#[derive(Clone, Copy)]
 pub enum Spot {
     Before(usize),
     There,

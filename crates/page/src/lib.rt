@@ -1,4 +1,6 @@
 // The lent lists as the walk fills them (Rules 7.3 to 7.5): points in place, pending ones after the kept ones.
+#![tactic(auto)]
+
 ghost use Rattle.std.specs.Prelude.{◌≡◌, List, ℕ, ◌+◌, ◌*◌, ◌≤◌, length};
 ghost use Rattle.lent.specs.Lent.{afterwards};
 ghost use Rattle.page.specs.Page.{Lists, lists, write_at, with_starts, page, push_page, flush_page, flush_unless};
@@ -8,14 +10,14 @@ use crossing::Crossing;
 use refusal::Refusal;
 
 // A point of a trace: where a leg crosses a side of a triangle, and the number of the sample that the leg leads to.
-#[derive(Drop)]
+#[derive(Clone, Copy)]
 pub struct TracedPoint {
     pub crossing: Crossing,
     pub sample: usize,
 }
 
 // The points written so far, where the pending line starts among them, and the lines kept.
-#[derive(Drop)]
+#[derive(Clone, Copy)]
 pub struct Pen {
     pub count: usize,
     pub start: usize,
@@ -23,7 +25,7 @@ pub struct Pen {
 }
 
 // The walk goes on, or a refusal ends it.
-#[derive(Drop)]
+#[derive(Clone, Copy)]
 pub enum Penned {
     Down(Pen),
     Stop(Refusal),

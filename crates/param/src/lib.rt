@@ -1,4 +1,6 @@
 // The parameter plane: its points, the legs between them, its two axes, and the cells of a grid.
+#![tactic(auto)]
+
 ghost use Rattle.std.specs.Prelude.{◌≡◌};
 ghost use Rattle.param.specs.Param.{lerp, along, across, leg_at, steps_on, steps_off, within, param_in_bounds};
 
@@ -7,28 +9,28 @@ use float::consts::EPS;
 
 // A point of the plane (Rules 6.1).
 #[repr(C)]
-#[derive(Drop)]
+#[derive(Clone, Copy)]
 pub struct ParamPoint {
     pub u: f64,
     pub v: f64,
 }
 
 // What lies between two points that follow each other in the samples, straight from a to b (Rules 6.1).
-#[derive(Drop)]
+#[derive(Clone, Copy)]
 pub struct Leg {
     pub a: ParamPoint,
     pub b: ParamPoint,
 }
 
 // The cells that a leg runs across: m steps in u, n in v.
-#[derive(Drop)]
+#[derive(Clone, Copy)]
 pub struct Cells {
     pub m: usize,
     pub n: usize,
 }
 
 // An axis of the parameter plane.
-#[derive(Drop)]
+#[derive(Clone, Copy)]
 pub enum Axis {
     AxisU,
     AxisV,

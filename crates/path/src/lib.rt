@@ -1,5 +1,7 @@
 // Rules 9: the lines of a grid, drawn into lists that the caller lends, and one line of such
 // lists as a part of the points.
+#![tactic(auto)]
+
 mod draw;
 
 ghost use Rattle.std.specs.Prelude.{◌≡◌, length, ◌≤◌, ◌<◌};
@@ -9,14 +11,14 @@ ghost use Rattle.path.specs.Line.{line_end, line_span, line_at, stated_line};
 
 use refusal::{Check, Refusal};
 
-#[derive(Drop)]
+#[derive(Clone, Copy)]
 pub enum GridPathsAnswer {
     // The count of points and the count of lines.
     Drawn(usize, usize),
     Refused(Refusal),
 }
 
-#[derive(Drop)]
+#[derive(Clone, Copy)]
 pub enum LineAnswer {
     // The point number at which a line starts, and the one at which it ends.
     Span(usize, usize),

@@ -1,5 +1,7 @@
 // The second entry of a trace (Rules 6.1): its samples are records, which are flattened into pairs and marks for the
 // flat trace.
+#![tactic(auto)]
+
 ghost use Rattle.std.specs.Prelude.{◌≡◌, List, length};
 ghost use Rattle.trace.specs.Demand.{Demand3};
 ghost use Rattle.trace.specs.Numbers.{NumbersMet};
@@ -21,7 +23,7 @@ const MAX_NUMBERS: usize = 131074;
 
 // A record: the mark 1 and a point, or the mark 0 of a break, whose point is not looked at.
 #[repr(C)]
-#[derive(Drop)]
+#[derive(Clone, Copy)]
 pub struct Sample {
     pub mark: u8,
     pub point: ParamPoint,

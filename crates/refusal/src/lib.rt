@@ -1,8 +1,10 @@
 // Rules 11: the refusals and their numbers, once for every call.
+#![tactic(auto)]
+
 ghost use Rattle.std.specs.Prelude.{◌≡◌};
 ghost use Rattle.refusal.specs.Refusals.{number_of, and_then};
 
-#[derive(Drop)]
+#[derive(Clone, Copy)]
 pub enum Refusal {
     Steps,
     Length,
@@ -44,7 +46,7 @@ impl Refusal {
 }
 
 // What a test of the input says: it passes, or a refusal applies.
-#[derive(Drop)]
+#[derive(Clone, Copy)]
 pub enum Check {
     Passed,
     Failed(Refusal),

@@ -1,6 +1,8 @@
 // Replays recorded calls: each case of the record on standard input is one call with its inputs, the answer that the
 // original gave or the table of refusals (Rules 11.1) fixes, and every lent list afterwards. It writes the number of
 // each case in which the library differs, and how many cases there were.
+#![tactic(auto)]
+
 ghost use Rattle.std.specs.Prelude.{◌≤◌};
 
 use cases::words;

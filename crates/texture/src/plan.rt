@@ -21,7 +21,7 @@ const MAX_ARMS: usize = 64;
 const MAX_COUNT: f64 = 65536.0;
 
 // A texture of pen lines on a surface.
-#[derive(Drop)]
+#[derive(Clone, Copy)]
 pub enum ParametricSurfaceTexture {
     Grid,
     Swirl { spacing: f64, twist: f64 },
@@ -29,7 +29,7 @@ pub enum ParametricSurfaceTexture {
 }
 
 // The counts of rays and of samples per ray, or a refusal.
-#[derive(Drop)]
+#[derive(Clone, Copy)]
 pub enum PlanAnswer {
     Plan(usize, usize),
     Refused(Refusal),

@@ -14,14 +14,14 @@ use param::ParamPoint;
 use refusal::Refusal;
 
 // The angle of a sample, or a refusal.
-#[derive(Drop)]
+#[derive(Clone, Copy)]
 pub enum AngleAnswer {
     Angle(f64),
     Refused(Refusal),
 }
 
 // The point of a sample, or a refusal.
-#[derive(Drop)]
+#[derive(Clone, Copy)]
 pub enum SampleAnswer {
     Point(ParamPoint),
     Refused(Refusal),

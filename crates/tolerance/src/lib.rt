@@ -1,11 +1,13 @@
 // Rules 2.3: the tolerances of closeness, and refusal 13 of them.
+#![tactic(auto)]
+
 ghost use Rattle.std.specs.Prelude.{◌≡◌};
 ghost use Rattle.tolerance.specs.Tolerance.{tolerance_fits, tolerances_check};
 
 use refusal::{Check, Refusal};
 
 // What close means for the u seam, for the v seam, and for neighbouring points of a line.
-#[derive(Drop)]
+#[derive(Clone, Copy)]
 pub struct Tolerances {
     pub u: f64,
     pub v: f64,

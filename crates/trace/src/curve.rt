@@ -14,14 +14,14 @@ use walk::append_edge_crossings;
 const MAX_EVENTS: usize = 1023;
 
 // What stands before a sample: a point, or nothing after a break and at the start.
-#[derive(Drop)]
+#[derive(Clone, Copy)]
 pub enum Previous {
     At(ParamPoint),
     Nowhere,
 }
 
 // What a sample is to the walk: a break, the end of a leg, or a point with nothing before it.
-#[derive(Drop)]
+#[derive(Clone, Copy)]
 pub enum Visit {
     Break,
     Along(Leg),

@@ -16,7 +16,7 @@ use refusal::{Check, Refusal};
 use tolerance::Tolerances;
 
 // The counts of points and lines, or a refusal.
-#[derive(Drop)]
+#[derive(Clone, Copy)]
 pub enum Trace {
     Drawn(usize, usize),
     Refused(Refusal),

@@ -1,4 +1,6 @@
 // Triangles and flipped pairs of a grid over two seams that are given (Rules 4).
+#![tactic(auto)]
+
 ghost use Rattle.std.specs.Prelude.{◌≡◌};
 ghost use Rattle.lent.specs.Lent.{afterwards};
 ghost use Rattle.surface.specs.Given.{GivenMeets};
@@ -11,7 +13,7 @@ use refusal::{Check, Refusal};
 use tolerance::Tolerances;
 
 // The count of triangles and the count of flipped pairs, over seams that are given.
-#[derive(Drop)]
+#[derive(Clone, Copy)]
 pub enum GivenTriangulation {
     Triangulated(usize, usize),
     Refused(Refusal),

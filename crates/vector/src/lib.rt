@@ -1,10 +1,12 @@
 // Rules 2: a point or direction of three f64, with operations that are called as in the original and give a new one.
+#![tactic(auto)]
+
 ghost use Rattle.std.specs.Prelude.{◌≡◌, not, ◌||◌};
 ghost use Rattle.std.specs.Float.Ieee.{lt, is_nan};
 ghost use Rattle.float.specs.Sign.{absolute};
 ghost use Rattle.vector.specs.Vectors.{plus, minus, scaled, all_close};
 
-#[derive(Drop)]
+#[derive(Clone, Copy)]
 pub struct Vector {
     pub x: f64,
     pub y: f64,

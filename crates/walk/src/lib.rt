@@ -1,4 +1,6 @@
 // The walk along a leg (Rules 7.1): what each event pushes, and when the line is flushed.
+#![tactic(auto)]
+
 ghost use Rattle.std.specs.Prelude.{◌≤◌, ◌≡◌, length};
 ghost use Rattle.lent.specs.Lent.{afterwards};
 ghost use Rattle.edges.specs.Events.{Inside};
@@ -16,7 +18,7 @@ use param::{Cells, Leg, param_in_bounds};
 use refusal::Refusal;
 
 // What becomes of an event's point: it is pushed, there is none to push, or refusal 11 ends the walk.
-#[derive(Drop)]
+#[derive(Clone, Copy)]
 pub enum EventPoint {
     Push(Crossing),
     Pass,
@@ -25,7 +27,7 @@ pub enum EventPoint {
 
 // What an event does to the lines: its point, and whether the leg is inside the grid after it; where it is not, the
 // pending line is flushed.
-#[derive(Drop)]
+#[derive(Clone, Copy)]
 pub struct Decision {
     pub point: EventPoint,
     pub inside: bool,

@@ -1,11 +1,7 @@
 -- `float::sign::at_most` meets its contract: a magnitude is at most top exactly if the value lies between
 -- -top and top (proofs/Between.antt).
 use Rattle.float.proofs.Between.{between_is}
-use Rattle.float.proofs.sign.at_most.Statement.{statement}
-use Rattle.float.proofs.sign.at_most.Tie as tie
+use Rattle.float.proofs.sign.at_most.Goals as goal
 
-returns : tie.Need-returns
+pub returns : goal.returns
 returns c = between_is c.args.x c.args.top
-
-pub at-most-spec : {M : Type 1} → statement M
-at-most-spec = tie.close (tie.spec returns)
