@@ -2,12 +2,8 @@
 use mathlib.Core.Path.{refl}
 use Rattle.float.specs.Consts.{eps}
 use Rattle.param.specs.Param.{within}
-use Rattle.param.proofs.within.Statement.{statement}
-use Rattle.param.proofs.within.Tie as tie
+use Rattle.param.proofs.within.Goals as goal
 
-returns : tie.Need-returns
+pub returns : goal.returns
 unfolding within eps
 returns c = refl
-
-pub within-spec : {M : Type 1} → statement M
-within-spec = tie.close (tie.spec returns)
