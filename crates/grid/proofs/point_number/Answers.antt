@@ -3,17 +3,13 @@ use Prim.Native.Nat.{ℕ, ◌+◌, ◌*◌, ◌≤◌}
 use native.Mathlib.Nat.{mul-le-mul}
 use native.Mathlib.Omega.{arith}
 use borrow.Author.Rules.{rules}
-use Rattle.grid.proofs.point_number.Statement.{statement}
-use Rattle.grid.proofs.point_number.Tie as tie
+use Rattle.grid.proofs.point_number.Goals as goal
 
 product : {n u : ℕ} → n ≤ 255 → u ≤ 256 → u * (n + 1) ≤ 65536
 product hn hu = mul-le-mul {n₂ = 256} {m₂ = 256} hu (omega arith)
 
-pub point-number-spec : {M : Type 1} → statement M
-point-number-spec =
-    tie.close
-    (tie.spec
-    (λ c. search rules)
-    (λ c. omega (arith, product c.requires.0 c.requires.1))
-    (λ c. omega (arith, product c.requires.0 c.requires.1))
-    (λ c. search rules))
+pub overflow_mul-result : goal.overflow_mul-result
+overflow_mul-result c = omega (arith, product c.requires.0 c.requires.1)
+
+pub overflow_add-result-2 : goal.overflow_add-result-2
+overflow_add-result-2 c = omega (arith, product c.requires.0 c.requires.1)
