@@ -204,9 +204,9 @@ module _ (g : List Float) (apart stride width : ℕ) where
 
   pub lanes_done : (left k : ℕ) (l : List Float) (at number : ℕ) → left ≤ 0 → lanes left k l at number ≡ l
   unfolding lanes run coordinates
-  lanes_done left zero l at number h = refl
-  lanes_done left (suc k) l at number h =
-      let e : left ≡ 0 = omega arith in rw e (lanes_done 0 k l (at + width) (number + apart) (omega arith))
+  lanes_done zero zero l at number h = refl
+  lanes_done zero (suc k) l at number h = lanes_done zero k l (at + width) (number + apart) h
+  lanes_done (suc left) k l at number h = absurd (omega arith)
 
   -- where the width is that of the runs, they follow each other
   pub lanes_runs : (count k : ℕ) (l : List Float) (at number : ℕ) → 3 * count ≡ width →

@@ -1,0 +1,34 @@
+-- `cyclic::mapping::CyclicMapping::image` meets its contract: the cases are those of `image`, at the
+-- variant that the match found.
+use native.Mathlib.Omega.{arith}
+use mathlib.Core.Path.{sym}
+use borrow.Author.Rules.{rules}
+use Rattle.cyclic.specs.declared.mapping.CyclicMapping.TheVariants.{Forward}
+use Rattle.cyclic.specs.Mapping.{HasIndex}
+use Rattle.cyclic.proofs.Mappings.{forward_zero, forward_other, has_index_as}
+use Rattle.cyclic.proofs.mapping.CyclicMapping.image.Goals as goal
+use Rattle.cyclic.proofs.mapping.CyclicMapping.image.Goals.{Else-offset-eq0}
+
+-- forward, at an offset other than 0
+there : (c : Else-offset-eq0) →
+    HasIndex (Forward c.in-Forward.offset c.in-Forward.steps) c.args.a_idx
+there c = has_index_as _ c.in-Forward.is c.requires
+
+pub returns-then-offset-eq0 : goal.returns-then-offset-eq0
+returns-then-offset-eq0 c = rw c.in-Forward.is (sym (forward_zero _ _ _ c.if-offset-eq0.true))
+
+pub overflow_add-result : goal.overflow_add-result
+overflow_add-result c = omega (arith, there c)
+
+pub nonzero_rem-result : goal.nonzero_rem-result
+nonzero_rem-result c = omega (arith, there c)
+
+pub reversed-requires : goal.reversed-requires
+reversed-requires c =
+    has_index_as c.args.a_idx c.in-Reverse.is c.requires
+
+pub returns-else-offset-eq0 : goal.returns-else-offset-eq0
+returns-else-offset-eq0 c = rw c.in-Forward.is (sym (forward_other _ _ _ c.if-offset-eq0.false))
+
+pub returns-in-Reverse : goal.returns-in-Reverse
+returns-in-Reverse c = rw c.in-Reverse.is c.reversed.ensures

@@ -1,0 +1,6 @@
+-- `cyclic::seam::points_close` meets its contract: it is `all_close` of the two points that it reads.
+use borrow.Author.Rules.{rules}
+use Rattle.cyclic.proofs.seam.points_close.Goals as goal
+
+pub returns : goal.returns
+returns c = rw (c.all_close.ensures, c.point_at.ensures, c.point_at-2.ensures)
