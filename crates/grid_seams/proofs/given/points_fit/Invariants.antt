@@ -1,0 +1,15 @@
+use Prim.Native.Nat.{◌+◌, ◌-◌, ◌*◌, ◌≤◌}
+use mathlib.Core.Path.{◌≡◌, refl, sym, ap, ◌∙◌}
+use native.Mathlib.Omega.{arith}
+use Rattle.cyclic.specs.declared.seam.Tried.{Tried}
+use Rattle.cyclic.specs.Mapping.{image, steps_of}
+use Rattle.cyclic.specs.Search.{row_of, close_at}
+use Rattle.cyclic.proofs.Rows.{Stand, inside}
+use Rattle.cyclic.proofs.Remains.{Trying, known_points, next_point, last_point, far_point}
+use Rattle.grid_seams.proofs.given.points_fit.Given as goal
+
+abbrev pub invariant-loop-mapping : goal.invariant-loop-mapping
+invariant-loop-mapping l = Trying (close_at l.tolerance) (row_of l.grid 0 l.stride) (row_of l.grid l.far l.stride) l.mapping 0 l.j (image l.mapping l.j)
+
+abbrev pub decreases-loop-mapping : goal.decreases-loop-mapping
+decreases-loop-mapping l = steps_of l.mapping - l.j

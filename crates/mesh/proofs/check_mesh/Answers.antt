@@ -1,0 +1,39 @@
+-- `mesh::check_mesh` meets its contract: 1 is refused at once, and past it M and N are at most 255, so that the room
+-- is a number that fits; 13 stands before it.
+use mathlib.Core.Path.{ap₂, ◌∙◌}
+use native.Mathlib.Omega.{arith}
+use borrow.Author.Rules.{rules}
+use Rattle.refusal.specs.Refusals.{and_then}
+use Rattle.grid.proofs.Laws.{Stepped, steps_answered, steps_refused, grid_tested}
+use Rattle.mesh.specs.Mesh.{mesh_check}
+use Rattle.mesh.proofs.check_mesh.Goals as goal
+use Rattle.mesh.proofs.check_mesh.Goals.{Else-not-steps_fit}
+
+-- 1 does not apply
+stepped : (e : Else-not-steps_fit) → let a = e.args in Stepped a.m a.n
+stepped e = steps_answered _ _ e.steps_fit.ensures e.if-not-steps_fit.false-raw
+
+pub returns-then-not-steps_fit : goal.returns-then-not-steps_fit
+unfolding mesh_check
+returns-then-not-steps_fit c = steps_refused _ _ _ _ c.steps_fit.ensures c.if-not-steps_fit.true-raw
+
+pub overflow_mul-m : goal.overflow_mul-m
+unfolding mesh_check
+overflow_mul-m c = omega (arith, stepped c)
+
+pub overflow_mul-m-2 : goal.overflow_mul-m-2
+unfolding mesh_check
+overflow_mul-m-2 c = omega (arith, stepped c)
+
+pub overflow_add-m : goal.overflow_add-m
+unfolding mesh_check
+overflow_add-m c = omega (arith, stepped c)
+
+pub overflow_mul-m-3 : goal.overflow_mul-m-3
+unfolding mesh_check
+overflow_mul-m-3 c = omega (arith, stepped c)
+
+pub returns : goal.returns
+unfolding mesh_check
+returns c = grid_tested _ _ _ c.check_grid.ensures
+    (c.and_then.ensures ∙ ap₂ and_then c.check.ensures c.check_room-room.ensures)
