@@ -14,7 +14,7 @@ use Rattle.walk.specs.Walk.{moves_of, leg_moves}
 use Rattle.walk.proofs.Walked.{left, leg_starts, leg_ends, turn_goes, turn_stops}
 use borrow.Author.Rules.{rules}
 use Rattle.walk.proofs.append_edge_crossings.Goals as goal
-use Rattle.walk.proofs.append_edge_crossings.Goals.{After-loop-i, After-slice_known-8-1, At-loop-i, Start}
+use Rattle.walk.proofs.append_edge_crossings.Goals.{At-loop-i, Start}
 
 -- the lists and the pen as they were lent, and as they stand at the loop
 abbrev lent : Start → Page
@@ -27,15 +27,15 @@ held l = let o = l.loop-i in page (lists o.points o.starts o.sides o.fractions o
 
 -- the events stand in the two scratch lists
 below : (l : At-loop-i) → let o = l.sorted_edge_events-count in o.result ≤ length o.new.lambdas
-below l = omega (arith, l.sorted_edge_events-count.ensures.0, l.lambdas-1.given, l.requires.lambdas_len.0)
+below l = omega (arith, l.sorted_edge_events-count.ensures.0, l.sorted_edge_events-count.auto.lambdas, l.requires.lambdas_len.0)
 
 alike : (l : At-loop-i) → let o = l.sorted_edge_events-count in
     length o.new.lambdas ≡ length o.new.codes
 alike l =
     omega (
       arith,
-      l.lambdas-1.given,
-      l.codes-1.given,
+      l.sorted_edge_events-count.auto.lambdas,
+      l.sorted_edge_events-count.auto.codes,
       l.requires.lambdas_len.0,
       l.requires.lambdas_len.1,
     )
@@ -59,16 +59,16 @@ decide-decision-requires c =
     let o = c.sorted_edge_events-count in
     record {
       grid_fits = c.requires.grid_fits;
-      inside = event_inside o.new.lambdas o.new.codes o.result c.loop-i.i (alike (goal.at.decide-decision-requires c).After-slice_known-8-1) (below (goal.at.decide-decision-requires c).After-slice_known-8-1) c.args.cells
+      inside = event_inside o.new.lambdas o.new.codes o.result c.loop-i.i (alike (goal.at.decide-decision-requires c).At-loop-i) (below (goal.at.decide-decision-requires c).At-loop-i) c.args.cells
           (leg_inside c.args.cells c.args.leg c.requires.grid_fits.0 c.requires.grid_fits.1 o.ensures.1)
           c.loop-i-test.true c.event_at-event.ensures;
     }
 
 pub shape_of-lambdas-in-Stop : goal.shape_of-lambdas-in-Stop
-shape_of-lambdas-in-Stop c = c.lambdas-1.given
+shape_of-lambdas-in-Stop c = c.sorted_edge_events-count.auto.lambdas
 
 pub shape_of-codes-in-Stop : goal.shape_of-codes-in-Stop
-shape_of-codes-in-Stop c = c.codes-1.given
+shape_of-codes-in-Stop c = c.sorted_edge_events-count.auto.codes
 
 pub shape_of-points-in-Stop : goal.shape_of-points-in-Stop
 shape_of-points-in-Stop c = search (rules, c.loop-i.invariant.1)
@@ -126,8 +126,8 @@ returns c =
     let a = c.args in
     let o = c.sorted_edge_events-count in
     rw (
-      whole (goal.at.returns c).After-loop-i ∙ c.loop-i.invariant.3 ∙ leg_ends a.tolerance a.sample a.grid.now a.cells a.leg o.new.lambdas
-          o.new.codes o.result c.loop-i.i (below (goal.at.returns c).After-loop-i) (alike (goal.at.returns c).After-loop-i) _ _ c.loop-i-test.false,
+      whole (goal.at.returns c).At-loop-i ∙ c.loop-i.invariant.3 ∙ leg_ends a.tolerance a.sample a.grid.now a.cells a.leg o.new.lambdas
+          o.new.codes o.result c.loop-i.i (below (goal.at.returns c).At-loop-i) (alike (goal.at.returns c).At-loop-i) _ _ c.loop-i-test.false,
       ← c.param_in_bounds.ensures,
     )
-    (c.flush_unless.ensures (held (goal.at.returns c).After-loop-i).lists)
+    (c.flush_unless.ensures (held (goal.at.returns c).At-loop-i).lists)

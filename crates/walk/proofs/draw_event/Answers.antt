@@ -18,7 +18,7 @@ lent s =
 abbrev lent-on : After-push_segment_point → Lists
 lent-on p =
     let o = p.push_segment_point.new in
-    lists o.0 p.args.starts.now o.1.0 o.1.1.0 o.1.1.1.0
+    lists o.points p.args.starts.now o.sides o.fractions o.samples
 
 pub flush_unless-requires : goal.flush_unless-requires
 flush_unless-requires c =
