@@ -1,8 +1,0 @@
--- `cases::rooms::of_bytes` meets its contract: a length that fits is that of a front, and so is 0.
-use borrow.Author.Rules.{rules}
-use Rattle.cases.proofs.Fronts.{front_length}
-use Rattle.cases.proofs.rooms.of_bytes.Statement.{statement}
-use Rattle.cases.proofs.rooms.of_bytes.Tie as tie
-
-pub of-bytes-spec : {M : Type 1} → statement M
-of-bytes-spec = tie.close (tie.spec (λ c. front_length _ _ (search rules)) (λ c. search rules))
