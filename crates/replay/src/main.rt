@@ -1,14 +1,20 @@
 // Replays recorded calls: each case of the record on standard input is one call with its inputs, the answer that the
 // original gave or the table of refusals (Rules 11.1) fixes, and every lent list afterwards. It writes the number of
-// each case in which the library differs, and how many cases there were.
+// each case in which the library differs, and how many cases there were. A read or a write that fails ends it.
 #![tactic(auto)]
 
-ghost use Rattle.std.specs.Prelude.{◌≤◌};
+ghost use Rattle.std.specs.Prelude.{◌≤◌, IfOk};
 
 use cases::words;
-use libc::{STDIN_FILENO, STDOUT_FILENO};
 use replay_curve::{textures, traces};
 use replay_surface::{lines, meshes, seams, vectors};
+use std::io::{self, Read};
+
+// How many bytes of the record are read: what follows them is left out.
+const TEXT_ROOM: u64 = 524288;
+
+// How many words they may be.
+const WORD_ROOM: usize = 65536;
 
 // Whether the library does what is recorded of a case. A case of a kind that is not there differs.
 fn agrees(case: &[u64]) -> bool {
@@ -31,51 +37,35 @@ fn agrees(case: &[u64]) -> bool {
 }
 
 // 1 where a case differs, after its number is written, and 0 where it does not.
-fn difference(words: &[u64], index: usize) -> usize
-    ensures { result ≤ 1 }
+fn difference(rt: &impl Print, words: &[u64], index: usize) -> io::Result<usize>
+    ensures { IfOk result (λ count. count ≤ 1) }
 {
     if agrees(words::field(words, index)) {
-        return 0;
+        return Ok(0);
     }
-    io::write_all(STDOUT_FILENO, b"replay: differs in case ");
-    io::print_decimal(STDOUT_FILENO, index as u64);
-    io::write_all(STDOUT_FILENO, b"\n");
-    1
+    println!(rt; "replay: differs in case {index}")?;
+    Ok(1)
 }
 
 // Field 0 says how many cases there are; they follow it.
-fn replay(words: &[u64]) {
+fn replay(rt: &impl Print, words: &[u64]) -> io::Result<()> {
     let cases = words::number(words::field(words, 0), 0);
     if cases > words.len() {
-        io::write_all(
-            STDOUT_FILENO,
-            b"replay: the record is shorter than it says\n",
-        );
-        return;
+        return println!(rt; "replay: the record is shorter than it says");
     }
-    let mut differ = 0usize;
-    let mut index = 0usize;
-    while index < cases {
-        index += 1;
-        differ += difference(words, index);
+    let mut differ = 0;
+    for index in 1..=cases {
+        differ += difference(rt, words, index)?;
     }
-    io::write_all(STDOUT_FILENO, b"replay: ");
-    io::print_decimal(STDOUT_FILENO, cases as u64);
-    io::write_all(STDOUT_FILENO, b" cases, ");
-    io::print_decimal(STDOUT_FILENO, differ as u64);
-    io::write_all(STDOUT_FILENO, b" differ\n");
+    println!(rt; "replay: {cases} cases, {differ} differ")
 }
 
-fn main() {
-    let mut text = [0u8; 524288];
-    let mut list = [0u64; 65536];
-    let length = io::read_full(STDIN_FILENO, &mut text);
-    if !words::read_words(&text[..length], &mut list) {
-        io::write_all(
-            STDOUT_FILENO,
-            b"replay: the record is no list of numbers, or too long\n",
-        );
-        return;
+fn main(rt: HostRuntime) -> io::Result<()> {
+    let mut text = Vec::new(rt.alloc());
+    rt.reader().take(TEXT_ROOM).read_to_end(&mut text)?;
+    let mut list = vec![in rt.alloc(); 0u64; WORD_ROOM]?;
+    if !words::read_words(&text, &mut list) {
+        return println!(rt; "replay: the record is no list of numbers, or too long");
     }
-    replay(&list);
+    replay(&rt, &list)
 }
