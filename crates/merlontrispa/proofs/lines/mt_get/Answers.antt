@@ -1,0 +1,21 @@
+-- The part begins where `line_span` says and is as long as what `get` hands back (proofs/Parts.antt).
+use native.Mathlib.Omega.{arith}
+use Rattle.path.proofs.There.{span_bounds}
+use Rattle.merlontrispa.proofs.Parts.{there, not_there}
+use borrow.Author.Rules.{rules}
+use Rattle.merlontrispa.proofs.lines.mt_get.Goals as goal
+
+pub overflow_mul-result : goal.overflow_mul-result
+overflow_mul-result c = omega (
+  arith,
+  span_bounds _ _ _ _ _ c.in-Span.is
+      c.line_span.ensures,
+)
+
+pub returns-in-Span : goal.returns-in-Span
+returns-in-Span c =
+    there _ _ _ _ _ c.in-Span.is c.line_span.ensures c.get-length.ensures
+
+pub returns-in-Refused : goal.returns-in-Refused
+returns-in-Refused c =
+    not_there _ _ _ _ _ c.in-Refused.is c.line_span.ensures c.get-length.ensures

@@ -1,0 +1,12 @@
+-- `to_c` is given what `add` answers of the two Vectors that `from_c` makes.
+use borrow.Author.Rules.{rules}
+use Rattle.merlontrispa.proofs.vectors.mt_vector_add.Goals as goal
+
+pub returns : goal.returns
+returns c =
+    rw (
+      c.to_c.ensures,
+      c.add.ensures,
+      c.from_c-2.ensures,
+      c.from_c.ensures,
+    )
