@@ -1,10 +1,9 @@
 -- At EPS refusal 13 never applies, and a test that passes may stand between others or be left out: so the tests are
 -- those of before, and all else takes EPS where it stood.
-use mathlib.Core.Path.{◌≡◌, refl}
-use mathlib.Core.Bool.{true}
+use mathlib.Core.Path.{◌≡◌}
 use Rattle.refusal.specs.declared.Check.TheVariants.{Passed}
 use Rattle.refusal.proofs.Laws.{then_nothing}
-use Rattle.tolerance.specs.Tolerance.{every_eps, tolerances_fit, tolerances_check}
+use Rattle.tolerance.specs.Tolerance.{every_eps, tolerances_check}
 use Rattle.tolerance.specs.Table.{eps_fits}
 use Rattle.cyclic.specs.Search.{rows_check, new_vector}
 use Rattle.surface.specs.Found.{u_search, v_search}

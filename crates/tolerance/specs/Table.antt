@@ -1,5 +1,5 @@
 -- The known results of Rules 2.3, by computation: the tolerances at which 13 begins and ends.
-use Rattle.std.specs.Prelude.{◌≡◌, refl, Bool, true, false, Float}
+use Rattle.std.specs.Prelude.{◌≡◌, refl, Bool, true, false}
 use Rattle.std.specs.Float.{nan, inf, binary64}
 use Rattle.std.specs.Float.Ieee.{of_bits, lt, le, neg}
 use Rattle.float.specs.Consts.{eps, zero64, one64}

@@ -23,7 +23,6 @@ use Rattle.cyclic.specs.declared.seam.Seam.{Seam}
 use Rattle.surface.specs.Found.{u_search, v_search, surface_with, surface_of}
 use Rattle.surface.specs.Given.{seams_fit}
 use Rattle.surface.proofs.Joinings.{given_map, found_fits}
-use Rattle.grid_seams.specs.declared.Seams.{Seams}
 use Rattle.grid_seams.specs.Seams.{seams_of, find_seams}
 use Rattle.mesh.specs.declared.MeshCounts.{MeshCounts}
 use Rattle.mesh.specs.Mesh.{MeshLists, mesh_lists, written, mesh_check, meshed, triangulate_grid}

@@ -1,5 +1,4 @@
 -- `crossing::between` meets its contract, by what its calls say.
-use borrow.Author.Rules.{rules}
 use Rattle.crossing.proofs.between.Goals as goal
 
 pub returns : goal.returns

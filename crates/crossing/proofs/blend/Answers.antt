@@ -1,5 +1,4 @@
 -- `crossing::blend` meets its contract, by what its calls say.
-use borrow.Author.Rules.{rules}
 use Rattle.crossing.specs.Crossing.{blend}
 use Rattle.crossing.proofs.blend.Goals as goal
 

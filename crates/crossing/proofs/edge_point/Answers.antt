@@ -5,7 +5,6 @@ use native.Mathlib.Omega.{arith}
 use Rattle.edges.proofs.Codes.{inside_u, inside_v, inside_diagonal}
 use Rattle.crossing.specs.Crossing.{edge_point}
 use Rattle.crossing.proofs.Edges.{sides_stand, cell_inside}
-use borrow.Author.Rules.{rules}
 use Rattle.crossing.proofs.edge_point.Goals as goal
 use Rattle.crossing.proofs.edge_point.Goals.{In-At, In-At-step_index, In-Diagonal, In-U, In-V}
 

@@ -1,7 +1,6 @@
 -- `crossing::step_index` meets its contract: proofs/Steps.antt has `step_index` by these tests.
 use Rattle.float.specs.Consts.{eps}
 use Rattle.crossing.proofs.Steps.{step_none_zero, step_none, index_close, index_far, floor_casts, floor_cast_is}
-use borrow.Author.Rules.{rules}
 use Rattle.crossing.proofs.step_index.Goals as goal
 
 pub returns-then-steps-eq0 : goal.returns-then-steps-eq0

@@ -1,10 +1,9 @@
 -- `grid::coordinates_fit` meets its contract: what was found so far, and what is left to test from i on,
 -- answer for the whole list.
-use Prim.Native.Nat.{◌≤◌, ◌-◌}
-use mathlib.Core.Path.{◌≡◌, sym}
-use mathlib.Core.Bool.{◌&&◌, and_assoc, and-true}
+use mathlib.Core.Path.{sym}
+use mathlib.Core.Bool.{and_assoc, and-true}
 use lib.Ieee.{nan}
-use lib.ListN.{length, drop, drop_of_length-le}
+use lib.ListN.{drop_of_length-le}
 use borrow.Author.Rules.{rules}
 use Rattle.grid.specs.Grid.{coordinates_fit}
 use Rattle.grid.proofs.Laws.{coordinates_step}

@@ -1,10 +1,8 @@
 use Prim.Native.Nat.{◌≤◌, ◌-◌}
-use mathlib.Core.Path.{◌≡◌, sym}
-use mathlib.Core.Bool.{◌&&◌, and_assoc, and-true}
-use lib.Ieee.{nan}
-use lib.ListN.{length, drop, drop_of_length-le}
+use mathlib.Core.Path.{◌≡◌}
+use mathlib.Core.Bool.{◌&&◌}
+use lib.ListN.{length, drop}
 use Rattle.grid.specs.Grid.{coordinates_fit}
-use Rattle.grid.proofs.Laws.{coordinates_step}
 use Rattle.grid.proofs.coordinates_fit.Given as goal
 
 abbrev pub invariant-loop-i : goal.invariant-loop-i

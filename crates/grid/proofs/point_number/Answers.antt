@@ -2,7 +2,6 @@
 use Prim.Native.Nat.{ℕ, ◌+◌, ◌*◌, ◌≤◌}
 use native.Mathlib.Nat.{mul-le-mul}
 use native.Mathlib.Omega.{arith}
-use borrow.Author.Rules.{rules}
 use Rattle.grid.proofs.point_number.Goals as goal
 
 product : {n u : ℕ} → n ≤ 255 → u ≤ 256 → u * (n + 1) ≤ 65536

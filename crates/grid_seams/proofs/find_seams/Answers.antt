@@ -1,6 +1,5 @@
 -- `grid_seams::find_seams` meets its contract: the refusals in order, then both searches.
 use mathlib.Core.Path.{◌≡◌, sym, ◌∙◌}
-use borrow.Author.Rules.{rules}
 use Rattle.refusal.specs.declared.Check.TheVariants.{Passed}
 use Rattle.grid.proofs.Laws.{grid_tested, grid_accepted}
 use Rattle.grid_seams.specs.Seams.{find_seams, seams_check}

@@ -1,10 +1,8 @@
 -- `lent::zero_floats` meets its contract: what is left to zero, from i on, gives what is asked.
-use Prim.Native.Nat.{◌-◌}
 use native.Mathlib.Omega.{arith}
-use lib.ListN.{length, length-set}
-use borrow.Author.Rules.{rules}
+use lib.ListN.{length-set}
 use Rattle.float.specs.Consts.{zero64}
-use Rattle.lent.proofs.Laws.{Zeroing, zeroing_again, zeroing_done}
+use Rattle.lent.proofs.Laws.{zeroing_again, zeroing_done}
 use Rattle.lent.proofs.zero_floats.Goals as goal
 
 pub loop-i-smaller : goal.loop-i-smaller

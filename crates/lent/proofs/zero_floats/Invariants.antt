@@ -1,8 +1,7 @@
 use Prim.Native.Nat.{◌-◌}
-use native.Mathlib.Omega.{arith}
-use lib.ListN.{length, length-set}
+use lib.ListN.{length}
 use Rattle.float.specs.Consts.{zero64}
-use Rattle.lent.proofs.Laws.{Zeroing, zeroing_again, zeroing_done}
+use Rattle.lent.proofs.Laws.{Zeroing}
 use Rattle.lent.proofs.zero_floats.Given as goal
 
 abbrev pub invariant-loop-i : goal.invariant-loop-i

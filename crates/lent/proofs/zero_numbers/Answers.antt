@@ -1,9 +1,7 @@
 -- `lent::zero_numbers` meets its contract: what is left to zero, from i on, gives what is asked.
-use Prim.Native.Nat.{◌-◌}
 use native.Mathlib.Omega.{arith}
-use lib.ListN.{length, length-set}
-use borrow.Author.Rules.{rules}
-use Rattle.lent.proofs.Laws.{Zeroing, zeroing_again, zeroing_done}
+use lib.ListN.{length-set}
+use Rattle.lent.proofs.Laws.{zeroing_again, zeroing_done}
 use Rattle.lent.proofs.zero_numbers.Goals as goal
 
 pub loop-i-smaller : goal.loop-i-smaller

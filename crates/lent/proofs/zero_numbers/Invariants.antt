@@ -1,7 +1,6 @@
 use Prim.Native.Nat.{◌-◌}
-use native.Mathlib.Omega.{arith}
-use lib.ListN.{length, length-set}
-use Rattle.lent.proofs.Laws.{Zeroing, zeroing_again, zeroing_done}
+use lib.ListN.{length}
+use Rattle.lent.proofs.Laws.{Zeroing}
 use Rattle.lent.proofs.zero_numbers.Given as goal
 
 abbrev pub invariant-loop-i : goal.invariant-loop-i

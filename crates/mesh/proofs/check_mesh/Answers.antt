@@ -2,7 +2,6 @@
 -- is a number that fits; 13 stands before it.
 use mathlib.Core.Path.{ap₂, ◌∙◌}
 use native.Mathlib.Omega.{arith}
-use borrow.Author.Rules.{rules}
 use Rattle.refusal.specs.Refusals.{and_then}
 use Rattle.grid.proofs.Laws.{Stepped, steps_answered, steps_refused, grid_tested}
 use Rattle.mesh.specs.Mesh.{mesh_check}

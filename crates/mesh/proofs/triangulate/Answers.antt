@@ -3,7 +3,6 @@
 use Prim.Native.Nat.{◌+◌, ◌*◌, ◌≤◌}
 use mathlib.Core.Path.{◌≡◌, ◌∙◌}
 use native.Mathlib.Omega.{arith}
-use borrow.Author.Rules.{rules}
 use Rattle.surface.specs.Surface.{triangles}
 use Rattle.mesh.specs.Corners.{shape_of}
 use Rattle.mesh.specs.Held.{triangles_in}

@@ -1,7 +1,6 @@
 -- `mesh::triangulate_grid` meets its contract: the refusals in order, then the seams, then the lists; and demand 3 of
 -- the grid's lists.
 use mathlib.Core.Path.{sym, ◌∙◌}
-use borrow.Author.Rules.{rules}
 use Rattle.surface.proofs.Joinings.{surface_meets}
 use Rattle.mesh.proofs.Answers.{Admitted, admitted, found_bounded, refused_hands, passed_hands}
 use Rattle.mesh.proofs.triangulate_grid.Goals as goal

@@ -1,7 +1,6 @@
 -- `page::flush_segment` meets its contract: proofs/Pages.antt has `flush_page` by these tests.
 use Rattle.page.specs.Page.{with_starts}
 use Rattle.page.proofs.Pages.{flush_drops, flush_full, flush_keeps}
-use borrow.Author.Rules.{rules}
 use Rattle.page.proofs.flush_segment.Goals as goal
 
 pub returns-then-count-start-lt2 : goal.returns-then-count-start-lt2

@@ -1,5 +1,4 @@
 -- `page::flush_unless` meets its contract: its test picks what is done.
-use borrow.Author.Rules.{rules}
 use Rattle.page.proofs.flush_unless.Goals as goal
 
 pub returns-then-inside : goal.returns-then-inside

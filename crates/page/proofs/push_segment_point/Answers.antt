@@ -6,7 +6,6 @@ use mathlib.Core.List.{List}
 use native.Mathlib.Omega.{arith}
 use Rattle.page.specs.Page.{lists, page, close_to_pending}
 use Rattle.page.proofs.Pages.{push_close, not_close, none_pending, push_full, push_writes}
-use borrow.Author.Rules.{rules}
 use Rattle.page.proofs.push_segment_point.Goals as goal
 use Rattle.page.proofs.push_segment_point.Goals.{Joined-pen-count, then-pen-count+else-all_close, else-pen-count}
 

@@ -1,7 +1,6 @@
 -- `page::write_at` meets its contract: seven stores, each in its list.
 use native.Mathlib.Omega.{arith}
 use lib.ListN.{length-set}
-use borrow.Author.Rules.{rules}
 use Rattle.page.proofs.write_at.Goals as goal
 
 pub bounds-points-i-2 : goal.bounds-points-i-2

@@ -1,7 +1,6 @@
 -- `path::check_paths` meets its contract: 1 is refused at once, and past it M and N are at most 255, so that the room
 -- is a number that fits.
 use native.Mathlib.Omega.{arith}
-use borrow.Author.Rules.{rules}
 use Rattle.grid.proofs.Laws.{Stepped, steps_answered, steps_refused, grid_tested}
 use Rattle.path.specs.GridPaths.{paths_check}
 use Rattle.path.proofs.check_paths.Goals as goal

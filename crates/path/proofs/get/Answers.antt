@@ -3,7 +3,6 @@
 use Prim.Native.Nat.{◌*◌, ◌≤◌}
 use native.Mathlib.Omega.{arith}
 use lib.ListN.{length}
-use borrow.Author.Rules.{rules}
 use Rattle.path.proofs.There.{span_bounds, part_is}
 use Rattle.path.proofs.get.Goals as goal
 use Rattle.path.proofs.get.Goals.{In-Span}

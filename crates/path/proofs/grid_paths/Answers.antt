@@ -1,7 +1,6 @@
 -- `path::grid_paths` meets its contract: the tests are those of `paths_check`, and past them the two lists are drawn.
 use mathlib.Core.Path.{◌≡◌, sym, ◌∙◌}
 use native.Mathlib.Omega.{arith}
-use borrow.Author.Rules.{rules}
 use Rattle.refusal.specs.declared.Check.TheVariants.{Passed}
 use Rattle.grid.proofs.Laws.{Shaped}
 use Rattle.path.specs.GridPaths.{paths_check}

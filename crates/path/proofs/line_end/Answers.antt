@@ -1,7 +1,6 @@
 -- `path::line_end` meets its contract: its test is that of `line_end`.
 use borrow.Author.Tests.{lt-ltb, le-ltb}
 use Rattle.path.specs.Line.{line_end}
-use borrow.Author.Rules.{rules}
 use Rattle.path.proofs.line_end.Goals as goal
 
 pub returns-then-next-line_count : goal.returns-then-next-line_count

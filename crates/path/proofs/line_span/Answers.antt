@@ -3,7 +3,6 @@
 use mathlib.Core.Path.{sym}
 use native.Mathlib.Omega.{arith}
 use Rattle.path.proofs.There.{span_there, span_not}
-use borrow.Author.Rules.{rules}
 use Rattle.path.proofs.line_span.Goals as goal
 
 pub returns-then-line_count-index : goal.returns-then-line_count-index

@@ -1,7 +1,6 @@
 -- `records::put_sample` meets its contract, by its one test.
 use native.Mathlib.Omega.{arith}
 use borrow.Author.Tests.{lt-ltb, le-ltb}
-use borrow.Author.Rules.{rules}
 use Rattle.records.proofs.put_sample.Goals as goal
 
 pub returns-then-i-lt-MAX_MARKS : goal.returns-then-i-lt-MAX_MARKS

@@ -5,7 +5,6 @@ use native.Mathlib.Omega.{arith}
 use lib.Seq.{length-take-le}
 use Rattle.records.proofs.Flattening.{marks_count}
 use Rattle.records.proofs.Refused.{steps_refused, length_refused}
-use borrow.Author.Rules.{rules}
 use Rattle.records.proofs.trace_flattened.Goals as goal
 
 pub returns-then-steps_fit : goal.returns-then-steps_fit

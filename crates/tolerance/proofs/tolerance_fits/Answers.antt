@@ -1,5 +1,4 @@
 -- `tolerance::tolerance_fits` meets its contract: its three tests are those of `tolerance_fits`.
-use borrow.Author.Rules.{rules}
 use Rattle.tolerance.proofs.tolerance_fits.Goals as goal
 
 pub returns : goal.returns

@@ -1,7 +1,6 @@
 -- `triangulation::check_given` meets its contract: the tests of a mesh, and where they pass that of the seams, for
 -- which the grid is then accepted.
 use mathlib.Core.Path.{◌≡◌, sym, ◌∙◌}
-use borrow.Author.Rules.{rules}
 use Rattle.refusal.specs.declared.Check.TheVariants.{Passed}
 use Rattle.basics.proofs.Tests.{held, failed}
 use Rattle.mesh.specs.Mesh.{mesh_check}

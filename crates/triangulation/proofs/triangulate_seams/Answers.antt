@@ -2,7 +2,6 @@
 -- lists that seams of the grid make.
 use mathlib.Core.Path.{◌≡◌, sym, ◌∙◌}
 use mathlib.Core.Bool.{true}
-use borrow.Author.Rules.{rules}
 use Rattle.surface.specs.Given.{seams_fit}
 use Rattle.surface.proofs.Joinings.{given_meets}
 use Rattle.triangulation.proofs.Answers.{Admitted, given_admitted, fitting_bounded}

@@ -1,7 +1,6 @@
 -- `walk::after_inside` meets its contract, by its test and what its calls say.
 use Rattle.float.specs.Consts.{eps}
 use Rattle.walk.proofs.Decided.{after_far, after_near}
-use borrow.Author.Rules.{rules}
 use Rattle.walk.proofs.after_inside.Goals as goal
 
 pub returns-then-lambda-next : goal.returns-then-lambda-next

@@ -1,15 +1,15 @@
 -- `walk::append_edge_crossings` meets its contract. The invariant says what is left of the leg: the events from i on,
 -- and its end, from the page so far.
-use Prim.Native.Nat.{◌≤◌, ◌-◌}
+use Prim.Native.Nat.{◌≤◌}
 use mathlib.Core.Path.{◌≡◌, ◌∙◌}
 use native.Mathlib.Omega.{arith}
-use lib.ListN.{length, drop}
+use lib.ListN.{length}
 use Rattle.float.specs.Consts.{zero64}
 use Rattle.edges.specs.Scratch.{events_in}
 use Rattle.edges.proofs.Laws.{leg_inside, event_inside}
-use Rattle.page.specs.Page.{lists, moves_by, Page, page, on_page, PenFits}
+use Rattle.page.specs.Page.{lists, moves_by, Page, page, on_page}
 use Rattle.page.proofs.Follow.{down_holds}
-use Rattle.page.proofs.Fits.{Fitting, moves_fit, Sized, SizedPage, moves_sized}
+use Rattle.page.proofs.Fits.{Fitting, moves_fit, SizedPage, moves_sized}
 use Rattle.walk.specs.Walk.{moves_of, leg_moves}
 use Rattle.walk.proofs.Walked.{left, leg_starts, leg_ends, turn_goes, turn_stops}
 use borrow.Author.Rules.{rules}

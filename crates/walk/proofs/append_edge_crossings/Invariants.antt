@@ -1,15 +1,11 @@
 use Prim.Native.Nat.{◌≤◌, ◌-◌}
-use mathlib.Core.Path.{◌≡◌, ◌∙◌}
-use native.Mathlib.Omega.{arith}
-use lib.ListN.{length, drop}
+use mathlib.Core.Path.{◌≡◌}
+use lib.ListN.{drop}
 use Rattle.float.specs.Consts.{zero64}
 use Rattle.edges.specs.Scratch.{events_in}
-use Rattle.edges.proofs.Laws.{leg_inside, event_inside}
-use Rattle.page.specs.Page.{lists, moves_by, Page, page, on_page, PenFits}
-use Rattle.page.proofs.Follow.{down_holds}
-use Rattle.page.proofs.Fits.{Fitting, moves_fit, Sized, SizedPage, moves_sized}
-use Rattle.walk.specs.Walk.{moves_of, leg_moves}
-use Rattle.walk.proofs.Walked.{left, leg_starts, leg_ends, turn_goes, turn_stops}
+use Rattle.page.specs.Page.{lists, page, PenFits}
+use Rattle.page.proofs.Fits.{Sized}
+use Rattle.walk.proofs.Walked.{left}
 use Rattle.walk.proofs.append_edge_crossings.Given as goal
 
 abbrev pub invariant-loop-i : goal.invariant-loop-i

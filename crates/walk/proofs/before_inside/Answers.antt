@@ -1,7 +1,6 @@
 -- `walk::before_inside` meets its contract, by its test and what its calls say.
 use Rattle.float.specs.Consts.{eps}
 use Rattle.walk.proofs.Decided.{before_far, before_near}
-use borrow.Author.Rules.{rules}
 use Rattle.walk.proofs.before_inside.Goals as goal
 
 pub returns-then-previous-lambda : goal.returns-then-previous-lambda

@@ -1,5 +1,4 @@
 -- `walk::decide` meets its contract: proofs/Decided.antt has `decide` by these tests.
-use borrow.Author.Rules.{rules}
 use borrow.Author.Tests.{not-true, not-false}
 use Rattle.walk.proofs.Decided.{passes, pushes, no_step}
 use Rattle.walk.proofs.decide.Goals as goal

@@ -4,7 +4,6 @@ use Rattle.page.specs.Page.{Lists, lists, Page, page, push_page}
 use Rattle.page.proofs.Follow.{down_holds}
 use Rattle.page.proofs.Fits.{Fitting, push_fits}
 use Rattle.walk.proofs.Drawn.{draws_end, draws_stop, draws_point, draws_full}
-use borrow.Author.Rules.{rules}
 use Rattle.walk.proofs.draw_event.Goals as goal
 use Rattle.walk.proofs.draw_event.Goals.{After-push_segment_point, Start}
 

@@ -1,6 +1,5 @@
 -- `walk::lambda_or_one` meets its contract, by its test.
 use borrow.Author.Tests.{lt-ltb, le-ltb}
-use borrow.Author.Rules.{rules}
 use Rattle.walk.proofs.lambda_or_one.Goals as goal
 
 pub returns-then-i-count : goal.returns-then-i-count

@@ -1,7 +1,6 @@
 -- `cyclic::mapping::reversed` meets its contract: both cases are those of `image`, and j % steps is below steps.
 use native.Mathlib.Nat.{mod-lt}
 use native.Mathlib.Omega.{arith}
-use borrow.Author.Rules.{rules}
 use borrow.Author.Tests.{eq-eqb, ne_eqb}
 use Rattle.cyclic.specs.Mapping.{image}
 use Rattle.cyclic.proofs.mapping.reversed.Goals as goal

@@ -1,6 +1,5 @@
 -- `cyclic::seam::ahead` meets its contract: the image of the next index is one more, and 0 past the last below steps.
 use native.Mathlib.Omega.{arith}
-use borrow.Author.Rules.{rules}
 use borrow.Author.Tests.{eqb-true, eqb-false}
 use Rattle.cyclic.proofs.Mappings.{three, forward_next}
 use Rattle.cyclic.proofs.seam.ahead.Goals as goal

@@ -1,6 +1,5 @@
 -- `cyclic::seam::back` meets its contract: the image of the next index is one less, and after 0 the last below steps.
 use native.Mathlib.Omega.{arith}
-use borrow.Author.Rules.{rules}
 use Rattle.cyclic.proofs.Mappings.{three, reverse_next}
 use Rattle.cyclic.proofs.seam.back.Goals as goal
 

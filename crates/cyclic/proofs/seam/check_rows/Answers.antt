@@ -2,7 +2,6 @@
 -- coordinate.
 use mathlib.Core.Path.{◌≡◌, sym, ap₂}
 use mathlib.Core.Bool.{true, ◌&&◌}
-use borrow.Author.Rules.{rules}
 use Rattle.basics.proofs.Tests.{held, failed}
 use Rattle.tolerance.specs.Tolerance.{tolerance_fits}
 use Rattle.cyclic.specs.Search.{row_fits}

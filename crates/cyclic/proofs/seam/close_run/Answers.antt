@@ -1,10 +1,9 @@
 -- `cyclic::seam::close_run` meets its contract: each turn of the loop adds two points that are close by EPS, and EPS is
 -- not above the tolerance.
-use Prim.Native.Nat.{◌+◌, ◌-◌, ◌≤◌}
+use Prim.Native.Nat.{◌+◌}
 use native.Mathlib.Omega.{arith}
 use mathlib.Core.Path.{◌≡◌, refl}
 use mathlib.Core.Bool.{true}
-use borrow.Author.Rules.{rules}
 use borrow.Author.Tests.{not-false}
 use Rattle.float.specs.Consts.{eps}
 use Rattle.vector.specs.declared.Vector.{Vector}
@@ -12,7 +11,7 @@ use Rattle.vector.specs.Vectors.{all_close}
 use Rattle.vector.proofs.Close.{close_coarser}
 use Rattle.cyclic.specs.Search.{row_of, close_at}
 use Rattle.basics.proofs.Tests.{and_both}
-use Rattle.cyclic.proofs.Remains.{Run, two_longer}
+use Rattle.cyclic.proofs.Remains.{two_longer}
 use Rattle.cyclic.proofs.Rows.{Stand, inside_next, close_next}
 use Rattle.cyclic.proofs.seam.close_run.Goals as goal
 use Rattle.cyclic.proofs.seam.close_run.Goals.{After-opposite-next, At-loop-run}

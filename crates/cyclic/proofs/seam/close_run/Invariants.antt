@@ -1,16 +1,6 @@
-use Prim.Native.Nat.{◌+◌, ◌-◌, ◌≤◌}
-use native.Mathlib.Omega.{arith}
-use mathlib.Core.Path.{◌≡◌, refl}
-use mathlib.Core.Bool.{true}
-use borrow.Author.Tests.{not-false}
-use Rattle.float.specs.Consts.{eps}
-use Rattle.vector.specs.declared.Vector.{Vector}
-use Rattle.vector.specs.Vectors.{all_close}
-use Rattle.vector.proofs.Close.{close_coarser}
+use Prim.Native.Nat.{◌-◌, ◌≤◌}
 use Rattle.cyclic.specs.Search.{row_of, close_at}
-use Rattle.basics.proofs.Tests.{and_both}
-use Rattle.cyclic.proofs.Remains.{Run, two_longer}
-use Rattle.cyclic.proofs.Rows.{Stand, inside_next, close_next}
+use Rattle.cyclic.proofs.Remains.{Run}
 use Rattle.cyclic.proofs.seam.close_run.Given as goal
 
 abbrev pub invariant-loop-run : goal.invariant-loop-run

@@ -1,5 +1,4 @@
 -- `cyclic::seam::opposite` meets its contract: its branches are those of `cond`, and j ≤ steps lets it subtract.
-use borrow.Author.Rules.{rules}
 use Rattle.cyclic.proofs.seam.opposite.Goals as goal
 
 pub returns-then-reverse : goal.returns-then-reverse

@@ -1,5 +1,4 @@
 -- `cyclic::seam::points_close` meets its contract: it is `all_close` of the two points that it reads.
-use borrow.Author.Rules.{rules}
 use Rattle.cyclic.proofs.seam.points_close.Goals as goal
 
 pub returns : goal.returns

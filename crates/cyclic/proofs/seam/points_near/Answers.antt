@@ -1,5 +1,4 @@
 -- `cyclic::seam::points_near` meets its contract: differences below EPS make two points close.
-use borrow.Author.Rules.{rules}
 use mathlib.Core.Path.{ap₂, ◌∙◌}
 use lib.Ieee.{of_bits}
 use Rattle.float.specs.Consts.{eps}

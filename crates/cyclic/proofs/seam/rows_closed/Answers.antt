@@ -1,5 +1,4 @@
 -- `cyclic::seam::rows_closed` meets its contract: the second comparison is made only where the first holds.
-use borrow.Author.Rules.{rules}
 use Rattle.cyclic.specs.Search.{closed}
 use Rattle.cyclic.proofs.Rows.{row_start}
 use Rattle.cyclic.proofs.seam.rows_closed.Goals as goal

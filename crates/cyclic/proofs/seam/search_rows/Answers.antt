@@ -2,15 +2,13 @@
 -- offsets that are left, after the comparisons so far. The inner loops': all points tried at an offset are the points
 -- that are left, after one comparison for each before, and k is the image of j. At most 131,072 comparisons are made at
 -- an offset, so that their sum fits.
-use Prim.Native.Nat.{ℕ, ◌+◌, ◌-◌, ◌*◌, ◌≤◌}
+use Prim.Native.Nat.{ℕ, ◌+◌, ◌*◌, ◌≤◌}
 use native.Mathlib.Omega.{arith}
 use mathlib.Core.Path.{sym, ◌∙◌}
-use borrow.Author.Rules.{rules}
-use Rattle.cyclic.specs.declared.mapping.CyclicMapping.TheVariants.{Forward, Reverse}
+use Rattle.cyclic.specs.declared.mapping.CyclicMapping.TheVariants.{Forward}
 use Rattle.cyclic.specs.Mapping.{HasIndex}
-use Rattle.cyclic.specs.Search.{row_of, close_at}
-use Rattle.cyclic.proofs.Remains.{Trying, point_after_run, first_point, next_point, last_point, far_point}
-use Rattle.cyclic.proofs.Remains.{Searching, first_offset, forward_fits, reverse_fits, next_offset, no_offset}
+use Rattle.cyclic.proofs.Remains.{point_after_run, first_point, next_point, last_point, far_point}
+use Rattle.cyclic.proofs.Remains.{first_offset, forward_fits, reverse_fits, next_offset, no_offset}
 use Rattle.cyclic.proofs.Rows.{Stand, inside}
 use Rattle.cyclic.proofs.seam.search_rows.Goals as goal
 use Rattle.cyclic.proofs.seam.search_rows.Goals.{At-loop-made, At-loop-made-2, Else-offset-end, then-ends, else-ends}

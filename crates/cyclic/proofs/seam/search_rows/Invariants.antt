@@ -1,13 +1,8 @@
-use Prim.Native.Nat.{ℕ, ◌+◌, ◌-◌, ◌*◌, ◌≤◌}
-use native.Mathlib.Omega.{arith}
-use mathlib.Core.Path.{sym, ◌∙◌}
-use mathlib.Core.Logic.{⊎_elim}
+use Prim.Native.Nat.{◌-◌}
 use Rattle.cyclic.specs.declared.mapping.CyclicMapping.TheVariants.{Forward, Reverse}
-use Rattle.cyclic.specs.Mapping.{HasIndex}
 use Rattle.cyclic.specs.Search.{row_of, close_at}
-use Rattle.cyclic.proofs.Remains.{Trying, point_after_run, first_point, next_point, last_point, far_point}
-use Rattle.cyclic.proofs.Remains.{Searching, first_offset, forward_fits, reverse_fits, next_offset, no_offset}
-use Rattle.cyclic.proofs.Rows.{Stand, inside}
+use Rattle.cyclic.proofs.Remains.{Trying}
+use Rattle.cyclic.proofs.Remains.{Searching}
 use Rattle.cyclic.proofs.seam.search_rows.Given as goal
 
 abbrev pub invariant-loop-made : goal.invariant-loop-made

@@ -7,7 +7,6 @@ use Rattle.edges.specs.declared.cell.DiagonalCell.TheVariants.{NoCell}
 use Rattle.edges.specs.Cell.{try_cell, diagonal_cell_at}
 use Rattle.edges.proofs.Index.{FirstOf, not_in_u, not_in_v, four_cells, first_fits, second_fits, third_fits}
 use Rattle.edges.proofs.Index.{fourth_left}
-use borrow.Author.Rules.{rules}
 use Rattle.edges.proofs.cell.diagonal_cell_at.Goals as goal
 use Rattle.edges.proofs.cell.diagonal_cell_at.Goals.{After-index_of-v1, Joined-in_cell}
 use Rattle.edges.proofs.cell.diagonal_cell_at.Goals.{then-in_cell+in_default+in_default-try_cell, else-in_cell}
@@ -38,7 +37,7 @@ before-none c =
     let p = c.args.point in
     let u0 = c.index_before-u0.result in
     elim c.if-in_cell.branch [
-      then-in_cell+in_default+in_default-try_cell w ↦ (
+      | then-in_cell+in_default+in_default-try_cell w ↦ (
         sym w.try_cell.ensures ∙ w.in_default.is,
         sym w.try_cell-then-in_cell.ensures ∙ w.in_default-try_cell.is,
       )
@@ -67,7 +66,7 @@ returns c =
     let v0 = c.index_before-v0.result in
     let out : try_cell c.args.point u1 v0 ≡ NoCell =
     elim c.if-in_cell-2.branch [
-      then-in_cell-2+in_default-try_cell-2 w ↦ sym w.try_cell-then-in_cell-2.ensures ∙ w.in_default-try_cell-2.is
+      | then-in_cell-2+in_default-try_cell-2 w ↦ sym w.try_cell-then-in_cell-2.ensures ∙ w.in_default-try_cell-2.is
       | else-in_cell-2 w ↦ not_in_v c.args.point u1 v0 (sym c.in_cell-2.ensures ∙ w.if-in_cell-2.false)
     ] in
     fourth_left (cells (goal.at.returns c).After-index_of-v1) (before-none (goal.at.returns c).Joined-in_cell) out

@@ -1,6 +1,5 @@
 -- `edges::cell::in_cell_lem` meets its contract, by cases on the index.
 use Rattle.edges.proofs.Index.{in_cell_lem, in_none}
-use borrow.Author.Rules.{rules}
 use Rattle.edges.proofs.cell.in_cell.Goals as goal
 
 pub returns-in-Index : goal.returns-in-Index

@@ -5,7 +5,6 @@ use lib.IntN.{pos, ◌-ℤ◌}
 use mir.Syntax.{w64}
 use mir.Val.{to_z, of_z}
 use mir.ValLaws.{to_z-of_z}
-use borrow.Author.Rules.{rules}
 use Rattle.edges.proofs.Index.{before_out, before_fits}
 use Rattle.edges.proofs.cell.index_before.Goals as goal
 use Rattle.edges.proofs.cell.index_before.Goals.{Start, Then-z-gtminus9223372036854775808}

@@ -2,7 +2,6 @@
 use mathlib.Core.Path.{sym, ◌∙◌}
 use Rattle.edges.specs.Cell.{try_cell}
 use Rattle.edges.proofs.Index.{try_decides}
-use borrow.Author.Rules.{rules}
 use Rattle.edges.proofs.cell.try_cell.Goals as goal
 
 pub returns-then-on_diagonal : goal.returns-then-on_diagonal

@@ -6,7 +6,6 @@ use Rattle.basics.proofs.Tests.{held, failed}
 use Rattle.edges.specs.Cell.{diagonal_cell_at}
 use Rattle.edges.specs.Events.{lambda_at, diagonal_event, sum_of, change_of_sum, diagonal_candidate}
 use Rattle.edges.proofs.Candidates.{crossing_off, crossing_out, crossing_in}
-use borrow.Author.Rules.{rules}
 use Rattle.edges.proofs.event.diagonal_candidate.Goals as goal
 use Rattle.edges.proofs.event.diagonal_candidate.Goals.{After-lambda_at, Else-not-param_in_bounds}
 

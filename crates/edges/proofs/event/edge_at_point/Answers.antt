@@ -8,7 +8,6 @@ use Rattle.edges.specs.Near.{integer_step}
 use Rattle.edges.specs.Cell.{diagonal_cell_at}
 use Rattle.edges.specs.Events.{diagonal_at, edge_at_point}
 use Rattle.edges.proofs.Candidates.{edge_out, edge_u, edge_v, edge_diagonal}
-use borrow.Author.Rules.{rules}
 use Rattle.edges.proofs.event.edge_at_point.Goals as goal
 use Rattle.edges.proofs.event.edge_at_point.Goals.{Else-not-param_in_bounds, In_default, In_default-integer_step}
 

@@ -1,7 +1,6 @@
 -- `edges::event::end_candidate` meets its contract, by cases on the side.
 use mathlib.Core.Path.{sym, ap}
 use Rattle.edges.specs.Events.{end_candidate}
-use borrow.Author.Rules.{rules}
 use Rattle.edges.proofs.event.end_candidate.Goals as goal
 
 pub returns-in-Edge : goal.returns-in-Edge

@@ -1,5 +1,4 @@
 -- `edges::event::line_at` meets its contract, by cases on the axis.
-use borrow.Author.Rules.{rules}
 use Rattle.edges.proofs.event.line_at.Goals as goal
 
 pub returns-in-AxisU : goal.returns-in-AxisU

@@ -4,7 +4,6 @@ use Rattle.float.specs.Cast.{nat_float}
 use Rattle.param.specs.Param.{along}
 use Rattle.edges.specs.Events.{lambda_at, change}
 use Rattle.edges.proofs.Candidates.{line_off, line_on}
-use borrow.Author.Rules.{rules}
 use Rattle.edges.proofs.event.line_candidate.Goals as goal
 use Rattle.edges.proofs.event.line_candidate.Goals.{After-lambda_at}
 

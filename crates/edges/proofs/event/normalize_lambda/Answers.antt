@@ -2,7 +2,6 @@
 use mathlib.Core.Path.{sym, ap, ◌∙◌}
 use Rattle.edges.specs.Near.{normalize_lambda}
 use Rattle.edges.specs.declared.event.NormalizedLambda.TheVariants.{Lambda}
-use borrow.Author.Rules.{rules}
 use Rattle.edges.proofs.event.normalize_lambda.Goals as goal
 
 pub returns-then-within : goal.returns-then-within

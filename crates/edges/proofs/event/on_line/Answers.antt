@@ -2,7 +2,6 @@
 use mathlib.Core.Path.{◌≡◌, ◌∙◌}
 use Rattle.float.specs.Cast.{nat_float}
 use Rattle.param.specs.Param.{within}
-use borrow.Author.Rules.{rules}
 use Rattle.edges.proofs.event.on_line.Goals as goal
 use Rattle.edges.proofs.event.on_line.Goals.{After-within}
 

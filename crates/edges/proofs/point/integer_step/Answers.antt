@@ -8,7 +8,6 @@ use Rattle.float.specs.Whole.{rounded}
 use Rattle.float.specs.Cast.{nat_float}
 use Rattle.edges.specs.Near.{integer_step}
 use Rattle.edges.specs.declared.point.WholeStep.TheVariants.{Step}
-use borrow.Author.Rules.{rules}
 use Rattle.edges.proofs.point.integer_step.Goals as goal
 use Rattle.edges.proofs.point.integer_step.Goals.{After-to_f64}
 

@@ -3,7 +3,6 @@ use mathlib.Core.Path.{ap, sym}
 use Prim.Native.Nat.{◌≤◌, ◌<◌}
 use native.Mathlib.Omega.{arith}
 use Rattle.edges.specs.Scratch.{code_of}
-use borrow.Author.Rules.{rules}
 use Rattle.edges.proofs.scratch.code_of.Goals as goal
 use Rattle.edges.proofs.scratch.code_of.Goals.{In-Diagonal, In-U, In-V}
 

@@ -1,7 +1,6 @@
 -- `edges::scratch::edge_of` meets its contract: its tests are those of the definition.
 use borrow.Author.Tests.{lt-ltb, le-ltb}
 use Rattle.edges.specs.Scratch.{edge_of}
-use borrow.Author.Rules.{rules}
 use Rattle.edges.proofs.scratch.edge_of.Goals as goal
 
 pub returns-then-code-lt256 : goal.returns-then-code-lt256

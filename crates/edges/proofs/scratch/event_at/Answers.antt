@@ -3,7 +3,6 @@ use mathlib.Core.Path.{ap}
 use lib.ListN.{get_or}
 use lib.Ieee.{nan}
 use Rattle.edges.specs.Events.{event}
-use borrow.Author.Rules.{rules}
 use Rattle.edges.proofs.scratch.event_at.Goals as goal
 
 pub returns : goal.returns

@@ -1,7 +1,6 @@
 -- `edges::scratch::insert_code` meets its contract: from the back what stands after the place is moved up, one at a
 -- turn.
-use Rattle.edges.proofs.Places.{Moving, moving_starts, moving_turn, moving_ends}
-use borrow.Author.Rules.{rules}
+use Rattle.edges.proofs.Places.{moving_starts, moving_turn, moving_ends}
 use Rattle.edges.proofs.scratch.insert_code.Goals as goal
 
 pub loop-i-init : goal.loop-i-init

@@ -1,4 +1,4 @@
-use Rattle.edges.proofs.Places.{Moving, moving_starts, moving_turn, moving_ends}
+use Rattle.edges.proofs.Places.{Moving}
 use Rattle.edges.proofs.scratch.insert_code.Given as goal
 
 abbrev pub invariant-loop-i : goal.invariant-loop-i

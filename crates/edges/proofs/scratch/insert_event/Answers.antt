@@ -7,7 +7,6 @@ use Rattle.edges.specs.Scratch.{events_in}
 use Rattle.edges.proofs.Codes.{event_back}
 use Rattle.edges.proofs.Places.{events_put}
 use Rattle.edges.proofs.Order.{sorted_insert, placed}
-use borrow.Author.Rules.{rules}
 use Rattle.edges.proofs.scratch.insert_event.Goals as goal
 
 pub returns : goal.returns

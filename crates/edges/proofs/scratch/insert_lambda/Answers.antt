@@ -1,8 +1,7 @@
 -- `edges::scratch::insert_lambda` meets its contract: from the back what stands after the place is moved up, one at a
 -- turn.
 use lib.Ieee.{nan}
-use Rattle.edges.proofs.Places.{Moving, moving_starts, moving_turn, moving_ends}
-use borrow.Author.Rules.{rules}
+use Rattle.edges.proofs.Places.{moving_starts, moving_turn, moving_ends}
 use Rattle.edges.proofs.scratch.insert_lambda.Goals as goal
 
 pub loop-i-init : goal.loop-i-init

@@ -1,5 +1,4 @@
-use lib.Ieee.{nan}
-use Rattle.edges.proofs.Places.{Moving, moving_starts, moving_turn, moving_ends}
+use Rattle.edges.proofs.Places.{Moving}
 use Rattle.edges.proofs.scratch.insert_lambda.Given as goal
 
 abbrev pub invariant-loop-i : goal.invariant-loop-i

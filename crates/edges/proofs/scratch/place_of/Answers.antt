@@ -1,15 +1,10 @@
 -- `edges::scratch::place_of` meets its contract: the place is after what `low` has passed, and not after `high`, which
 -- the lambda precedes.
 use mathlib.Core.Path.{◌≡◌, refl, sym, ◌∙◌}
-use mathlib.Core.Bool.{true}
-use Prim.Native.Nat.{◌≤◌, ◌<◌, ◌-◌}
+use Prim.Native.Nat.{◌-◌}
 use native.Mathlib.Omega.{arith}
-use lib.ListN.{get_or}
-use lib.Ieee.{nan}
 use Rattle.basics.proofs.Tests.{held, failed}
-use Rattle.float.specs.Order.{total_order}
-use Rattle.edges.specs.Events.{precedes}
-use Rattle.edges.proofs.Order.{After, after_none, after_this}
+use Rattle.edges.proofs.Order.{after_none, after_this}
 use borrow.Author.Rules.{rules}
 use Rattle.edges.proofs.scratch.place_of.Goals as goal
 

@@ -1,13 +1,11 @@
-use mathlib.Core.Path.{◌≡◌, refl, sym, ◌∙◌}
+use mathlib.Core.Path.{◌≡◌}
 use mathlib.Core.Bool.{true}
 use Prim.Native.Nat.{◌≤◌, ◌<◌, ◌-◌}
-use native.Mathlib.Omega.{arith}
 use lib.ListN.{get_or}
 use lib.Ieee.{nan}
-use Rattle.basics.proofs.Tests.{held, failed}
 use Rattle.float.specs.Order.{total_order}
 use Rattle.edges.specs.Events.{precedes}
-use Rattle.edges.proofs.Order.{After, after_none, after_this}
+use Rattle.edges.proofs.Order.{After}
 use Rattle.edges.proofs.scratch.place_of.Given as goal
 
 abbrev pub invariant-loop-low : goal.invariant-loop-low

@@ -1,7 +1,6 @@
 -- `edges::scratch::precedes` meets its contract, by cases on the answer of `total_cmp`.
 use mathlib.Core.Path.{sym, ap, ◌∙◌}
 use Rattle.edges.specs.Events.{precedes}
-use borrow.Author.Rules.{rules}
 use Rattle.edges.proofs.scratch.precedes.Goals as goal
 
 pub returns-in-Less : goal.returns-in-Less

@@ -1,8 +1,7 @@
 -- `edges::scratch::unique` meets its contract: at each turn what is kept, with what is left from i on, makes the
 -- answer.
-use Prim.Native.Nat.{◌-◌}
 use Rattle.float.specs.Consts.{eps}
-use Rattle.edges.proofs.Kept.{Keeping, keeping_starts, keeping_none, keeping_dropped, keeping_kept, keeping_ends}
+use Rattle.edges.proofs.Kept.{keeping_starts, keeping_none, keeping_dropped, keeping_kept, keeping_ends}
 use borrow.Author.Rules.{rules}
 use Rattle.edges.proofs.scratch.unique.Goals as goal
 

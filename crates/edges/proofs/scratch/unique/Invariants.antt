@@ -1,6 +1,5 @@
 use Prim.Native.Nat.{◌-◌}
-use Rattle.float.specs.Consts.{eps}
-use Rattle.edges.proofs.Kept.{Keeping, keeping_starts, keeping_none, keeping_dropped, keeping_kept, keeping_ends}
+use Rattle.edges.proofs.Kept.{Keeping}
 use Rattle.edges.proofs.scratch.unique.Given as goal
 
 abbrev pub invariant-loop-i : goal.invariant-loop-i

@@ -6,7 +6,6 @@ use mir.ValLaws.{to_z-of_z}
 use Rattle.float.specs.Whole.{ceil_z}
 use Rattle.float.specs.Cast.{count}
 use Rattle.edges.specs.Events.{low_sum}
-use borrow.Author.Rules.{rules}
 use Rattle.edges.proofs.sorted.first_sum.Goals as goal
 use Rattle.edges.proofs.sorted.first_sum.Goals.{After-count_of-first}
 

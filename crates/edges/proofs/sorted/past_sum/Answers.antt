@@ -6,7 +6,6 @@ use mir.ValLaws.{to_z-of_z}
 use Rattle.float.specs.Whole.{floor_z}
 use Rattle.float.specs.Cast.{count}
 use Rattle.edges.specs.Events.{high_sum}
-use borrow.Author.Rules.{rules}
 use Rattle.edges.proofs.sorted.past_sum.Goals as goal
 use Rattle.edges.proofs.sorted.past_sum.Goals.{After-count_of-past}
 

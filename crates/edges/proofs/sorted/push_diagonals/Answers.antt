@@ -1,15 +1,13 @@
 -- `edges::sorted::push_diagonals` meets its contract: the diagonals from sum on, sorted into the events so far, give
 -- what is asked.
 use mathlib.Core.Path.{ap}
-use Prim.Native.Nat.{◌≤◌, ◌+◌, ◌-◌}
 use native.Mathlib.Omega.{arith}
 use lib.Ieee.{lt}
 use Rattle.float.specs.Consts.{eps}
 use Rattle.basics.proofs.Tests.{held, failed}
-use Rattle.edges.specs.Events.{diagonal_candidate, diagonals, sort_into}
 use Rattle.edges.specs.Scratch.{events_in}
 use Rattle.edges.proofs.Storable.{diagonal_storable}
-use Rattle.edges.proofs.Gather.{Gathering, gather_turn, gather_ends, diagonals_none, diagonals_start}
+use Rattle.edges.proofs.Gather.{gather_turn, gather_ends, diagonals_none, diagonals_start}
 use borrow.Author.Rules.{rules}
 use Rattle.edges.proofs.sorted.push_diagonals.Goals as goal
 

@@ -1,13 +1,7 @@
-use mathlib.Core.Path.{ap}
 use Prim.Native.Nat.{◌≤◌, ◌+◌, ◌-◌}
-use native.Mathlib.Omega.{arith}
-use lib.Ieee.{lt}
-use Rattle.float.specs.Consts.{eps}
-use Rattle.basics.proofs.Tests.{held, failed}
 use Rattle.edges.specs.Events.{diagonal_candidate, diagonals, sort_into}
 use Rattle.edges.specs.Scratch.{events_in}
-use Rattle.edges.proofs.Storable.{diagonal_storable}
-use Rattle.edges.proofs.Gather.{Gathering, gather_turn, gather_ends, diagonals_none, diagonals_start}
+use Rattle.edges.proofs.Gather.{Gathering}
 use Rattle.edges.proofs.sorted.push_diagonals.Given as goal
 
 abbrev pub invariant-loop-sum : goal.invariant-loop-sum

@@ -1,14 +1,13 @@
 -- `edges::sorted::push_lines` meets its contract: the lines from `step` on, sorted into the events so far, give what
 -- is asked.
 use mathlib.Core.Path.{◌≡◌}
-use Prim.Native.Nat.{◌-◌}
 use lib.Ieee.{lt}
 use Rattle.float.specs.Consts.{eps}
 use Rattle.basics.proofs.Tests.{held, failed}
-use Rattle.edges.specs.Events.{change, line_candidate, changes, lines, sort_into}
+use Rattle.edges.specs.Events.{change, changes}
 use Rattle.edges.specs.Scratch.{events_in, Storable}
 use Rattle.edges.proofs.Storable.{line_storable}
-use Rattle.edges.proofs.Gather.{if_event, push_yes, push_no, Gathering, gather_turn, gather_ends, lines_none}
+use Rattle.edges.proofs.Gather.{if_event, push_yes, push_no, gather_turn, gather_ends, lines_none}
 use Rattle.edges.proofs.Gather.{lines_start}
 use borrow.Author.Rules.{rules}
 use Rattle.edges.proofs.sorted.push_lines.Goals as goal

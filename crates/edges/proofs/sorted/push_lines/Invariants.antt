@@ -1,13 +1,7 @@
-use mathlib.Core.Path.{◌≡◌}
 use Prim.Native.Nat.{◌-◌}
-use lib.Ieee.{lt}
-use Rattle.float.specs.Consts.{eps}
-use Rattle.basics.proofs.Tests.{held, failed}
-use Rattle.edges.specs.Events.{change, line_candidate, changes, lines, sort_into}
-use Rattle.edges.specs.Scratch.{events_in, Storable}
-use Rattle.edges.proofs.Storable.{line_storable}
-use Rattle.edges.proofs.Gather.{if_event, push_yes, push_no, Gathering, gather_turn, gather_ends, lines_none}
-use Rattle.edges.proofs.Gather.{lines_start}
+use Rattle.edges.specs.Events.{line_candidate, lines, sort_into}
+use Rattle.edges.specs.Scratch.{events_in}
+use Rattle.edges.proofs.Gather.{Gathering}
 use Rattle.edges.proofs.sorted.push_lines.Given as goal
 
 abbrev pub invariant-loop-step : goal.invariant-loop-step

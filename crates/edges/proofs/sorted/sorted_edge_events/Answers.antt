@@ -1,7 +1,6 @@
 -- `edges::sorted::sorted_edge_events` meets its contract: the sorted candidates without close ones.
 use mathlib.Core.Path.{ap, ◌∙◌}
 use native.Mathlib.Omega.{arith}
-use borrow.Author.Rules.{rules}
 use Rattle.edges.specs.Events.{unique, sorted_edge_events}
 use Rattle.edges.proofs.sorted.sorted_edge_events.Goals as goal
 

@@ -1,6 +1,6 @@
 -- `float::order::total_cmp` meets its contract: each clause of the standard is a law of `total_order`
 -- (proofs/Orders.antt), and what the code has tested is what that law asks for.
-use Rattle.std.proofs.Common.{sym, rules}
+use Rattle.std.proofs.Common.{sym}
 use Rattle.float.proofs.Orders.{order_less, order_greater, order_zeros, order_zeros_back, order_same}
 use Rattle.float.proofs.order.total_cmp.Goals as goal
 

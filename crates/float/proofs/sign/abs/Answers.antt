@@ -1,5 +1,5 @@
 -- `float::sign::abs` meets its contract: by the sign it is the value or its negation (proofs/Signs.antt).
-use Rattle.std.proofs.Common.{sym, ◌∙◌, rules}
+use Rattle.std.proofs.Common.{sym, ◌∙◌}
 use Rattle.float.proofs.Signs.{abs_neg, abs_same}
 use Rattle.float.proofs.sign.abs.Goals as goal
 

@@ -1,6 +1,5 @@
 -- `float::sign::is_finite` meets its contract: a magnitude is below the infinity where the value is
 -- finite (proofs/Signs.antt).
-use Rattle.std.proofs.Common.{rules}
 use Rattle.float.proofs.Signs.{finite_is}
 use Rattle.float.proofs.sign.is_finite.Goals as goal
 

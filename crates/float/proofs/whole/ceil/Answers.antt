@@ -1,6 +1,6 @@
 -- `float::whole::ceil` meets its contract: below 2^52 it is the whole part, one more where a positive value is above
 -- it; from 2^52 on the value is whole (proofs/Round.antt).
-use Rattle.std.proofs.Common.{◌≡◌, false, sym, ◌∙◌, arith, rules}
+use Rattle.std.proofs.Common.{◌≡◌, false, sym, ◌∙◌, arith}
 use Rattle.float.specs.Sign.{negative}
 use Rattle.float.proofs.Round.{Cuts, ceil_small, ceil_large}
 use Rattle.float.proofs.whole.ceil.Goals as goal

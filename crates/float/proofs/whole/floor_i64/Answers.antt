@@ -1,7 +1,6 @@
 -- `float::whole::floor_i64` meets its contract: in the range it is the cut toward zero or one below it, and out of it
 -- the end of the range (proofs/Cut.antt).
 use lib.Ieee.{of_bits, neg}
-use Rattle.std.proofs.Common.{rules}
 use Rattle.float.proofs.Cut.{Cut, kept, kept_is, cut_of, high_end, low_end, nan_end}
 use Rattle.float.proofs.whole.floor_i64.Goals as goal
 use Rattle.float.proofs.whole.floor_i64.Goals.{After-nearest_i64_to_f64-back}

@@ -1,6 +1,6 @@
 -- `float::whole::round` meets its contract: below 2^52 twice the magnitude is exact, and half of its whole part plus
 -- one is the nearest whole number, a tie up; from 2^52 on the value is whole (proofs/Round.antt).
-use Rattle.std.proofs.Common.{sym, ◌∙◌, arith, rules}
+use Rattle.std.proofs.Common.{sym, ◌∙◌, arith}
 use Rattle.float.proofs.Round.{Halved, round_small, round_large}
 use Rattle.float.proofs.whole.round.Goals as goal
 use Rattle.float.proofs.whole.round.Goals.{Then-a}

@@ -1,5 +1,4 @@
 -- `grid_seams::given::of_rows` meets its contract: both tests are the definition's.
-use borrow.Author.Rules.{rules}
 use Rattle.grid_seams.proofs.given.of_rows.Goals as goal
 
 pub returns : goal.returns

@@ -1,5 +1,4 @@
 -- `grid_seams::given::offset_tried` meets its contract: at an offset other than 0 it is the test of closed rows.
-use borrow.Author.Rules.{rules}
 use borrow.Author.Tests.{eq-eqb, ne_eqb}
 use Rattle.grid_seams.proofs.given.offset_tried.Goals as goal
 

@@ -1,14 +1,13 @@
 -- `grid_seams::given::points_fit` meets its contract: the loop tries the points as the search does, with the image of
 -- each computed anew.
-use Prim.Native.Nat.{◌+◌, ◌-◌, ◌*◌, ◌≤◌}
+use Prim.Native.Nat.{◌+◌, ◌*◌, ◌≤◌}
 use mathlib.Core.Path.{◌≡◌, refl, sym, ap, ◌∙◌}
 use native.Mathlib.Omega.{arith}
-use borrow.Author.Rules.{rules}
 use Rattle.cyclic.specs.declared.seam.Tried.{Tried}
 use Rattle.cyclic.specs.Mapping.{image, steps_of}
 use Rattle.cyclic.specs.Search.{row_of, close_at}
 use Rattle.cyclic.proofs.Rows.{Stand, inside}
-use Rattle.cyclic.proofs.Remains.{Trying, known_points, next_point, last_point, far_point}
+use Rattle.cyclic.proofs.Remains.{known_points, next_point, last_point, far_point}
 use Rattle.grid_seams.proofs.given.points_fit.Goals as goal
 use Rattle.grid_seams.proofs.given.points_fit.Goals.{After-image-k, After-points_close}
 

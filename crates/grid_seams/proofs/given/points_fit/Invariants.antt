@@ -1,11 +1,7 @@
-use Prim.Native.Nat.{◌+◌, ◌-◌, ◌*◌, ◌≤◌}
-use mathlib.Core.Path.{◌≡◌, refl, sym, ap, ◌∙◌}
-use native.Mathlib.Omega.{arith}
-use Rattle.cyclic.specs.declared.seam.Tried.{Tried}
+use Prim.Native.Nat.{◌-◌}
 use Rattle.cyclic.specs.Mapping.{image, steps_of}
 use Rattle.cyclic.specs.Search.{row_of, close_at}
-use Rattle.cyclic.proofs.Rows.{Stand, inside}
-use Rattle.cyclic.proofs.Remains.{Trying, known_points, next_point, last_point, far_point}
+use Rattle.cyclic.proofs.Remains.{Trying}
 use Rattle.grid_seams.proofs.given.points_fit.Given as goal
 
 abbrev pub invariant-loop-mapping : goal.invariant-loop-mapping

@@ -1,5 +1,4 @@
 -- In each arm the match says which of the three `total_cmp` answered.
-use borrow.Author.Rules.{rules}
 use Rattle.merlontrispa.proofs.floats.mt_total_cmp.Goals as goal
 
 pub returns-in-Less : goal.returns-in-Less

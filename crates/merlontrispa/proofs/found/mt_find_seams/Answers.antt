@@ -1,5 +1,4 @@
 -- `seams_to_c` is given what `find_seams` answers to the tolerances that `tolerances_from_c` makes.
-use borrow.Author.Rules.{rules}
 use Rattle.merlontrispa.proofs.found.mt_find_seams.Goals as goal
 
 pub returns : goal.returns

@@ -1,6 +1,5 @@
 -- `counts_to_c` is given what `triangulate_seams` answers to the tolerances and the seams that `tolerances_from_c` and
 -- `seam_from_c` make, the lists are those that it leaves, and what it says of the surface is passed on.
-use borrow.Author.Rules.{rules}
 use Rattle.lent.proofs.Laws.{answered_in}
 use Rattle.merlontrispa.specs.Meshes.{counts_answer}
 use Rattle.merlontrispa.proofs.given.mt_triangulate_seams.Goals as goal

@@ -1,5 +1,4 @@
 -- In each arm the test says whether a mapping goes in, which `mapping` makes.
-use borrow.Author.Rules.{rules}
 use Rattle.merlontrispa.proofs.given.seam_from_c.Goals as goal
 
 pub returns-then-found : goal.returns-then-found

@@ -2,7 +2,6 @@
 use native.Mathlib.Omega.{arith}
 use Rattle.path.proofs.There.{span_bounds}
 use Rattle.merlontrispa.proofs.Parts.{there, not_there}
-use borrow.Author.Rules.{rules}
 use Rattle.merlontrispa.proofs.lines.mt_get.Goals as goal
 
 pub overflow_mul-result : goal.overflow_mul-result

@@ -1,5 +1,4 @@
 -- `paths_to_c` is given what `grid_paths` answers, and the lists are those that it leaves.
-use borrow.Author.Rules.{rules}
 use Rattle.lent.proofs.Laws.{answered_in}
 use Rattle.merlontrispa.specs.Lines.{paths_answer}
 use Rattle.merlontrispa.proofs.lines.mt_grid_paths.Goals as goal

@@ -1,5 +1,4 @@
 -- `span_to_c` is given what `line_span` answers.
-use borrow.Author.Rules.{rules}
 use Rattle.merlontrispa.proofs.lines.mt_line_span.Goals as goal
 
 pub returns : goal.returns

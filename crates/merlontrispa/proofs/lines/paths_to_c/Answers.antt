@@ -1,5 +1,4 @@
 -- In each arm the match says which answer it is, and `number` gives the number of a refusal.
-use borrow.Author.Rules.{rules}
 use Rattle.merlontrispa.proofs.lines.paths_to_c.Goals as goal
 
 pub returns-in-Drawn : goal.returns-in-Drawn

@@ -1,6 +1,5 @@
 -- In each arm the match says which answer it is, `seam_to_c` and `unjoined` give its seams, and `number` the number of
 -- a refusal.
-use borrow.Author.Rules.{rules}
 use Rattle.merlontrispa.proofs.meshes.mesh_to_c.Goals as goal
 
 pub returns-in-Triangulated : goal.returns-in-Triangulated

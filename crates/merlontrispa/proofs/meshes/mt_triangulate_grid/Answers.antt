@@ -1,6 +1,5 @@
 -- `mesh_to_c` is given what `triangulate_grid` answers to the tolerances that `tolerances_from_c` makes, the lists are
 -- those that it leaves, and what it says of the surface is passed on.
-use borrow.Author.Rules.{rules}
 use Rattle.lent.proofs.Laws.{answered_in}
 use Rattle.merlontrispa.specs.Meshes.{mesh_answer}
 use Rattle.merlontrispa.proofs.meshes.mt_triangulate_grid.Goals as goal

@@ -1,5 +1,4 @@
 -- In each arm the match says whether a mapping was found, and `joined` or `unjoined` gives the seam.
-use borrow.Author.Rules.{rules}
 use Rattle.merlontrispa.proofs.meshes.seam_to_c.Goals as goal
 
 pub returns-in-Joined : goal.returns-in-Joined

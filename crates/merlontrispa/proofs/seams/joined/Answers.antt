@@ -1,5 +1,4 @@
 -- In each arm the match says which mapping it is.
-use borrow.Author.Rules.{rules}
 use Rattle.merlontrispa.proofs.seams.joined.Goals as goal
 
 pub returns-in-Forward : goal.returns-in-Forward

@@ -1,5 +1,4 @@
 -- `is_reverse` is given the mapping of the direction, offset and steps.
-use borrow.Author.Rules.{rules}
 use Rattle.merlontrispa.proofs.seams.mt_is_reverse.Goals as goal
 
 pub returns : goal.returns

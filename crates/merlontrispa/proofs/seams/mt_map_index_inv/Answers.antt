@@ -1,5 +1,4 @@
 -- `index_to_c` is given what `map_index_inv` answers of the mapping of the direction, offset and steps.
-use borrow.Author.Rules.{rules}
 use Rattle.merlontrispa.proofs.seams.mt_map_index_inv.Goals as goal
 
 pub returns : goal.returns

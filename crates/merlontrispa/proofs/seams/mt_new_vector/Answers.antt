@@ -1,5 +1,4 @@
 -- `rows_to_c` is given what `new_vector` answers.
-use borrow.Author.Rules.{rules}
 use Rattle.merlontrispa.proofs.seams.mt_new_vector.Goals as goal
 
 pub returns : goal.returns

@@ -1,6 +1,5 @@
 -- In each arm the match says which answer it is, `joined` and `unjoined` give its seam, and `number` the number of a
 -- refusal.
-use borrow.Author.Rules.{rules}
 use Rattle.merlontrispa.proofs.seams.rows_to_c.Goals as goal
 
 pub returns-in-Found : goal.returns-in-Found

@@ -1,5 +1,4 @@
 -- `angle_to_c` is given what `angle` answers of the texture of the kind and its numbers.
-use borrow.Author.Rules.{rules}
 use Rattle.merlontrispa.proofs.textures.mt_angle.Goals as goal
 
 pub returns : goal.returns

@@ -1,5 +1,4 @@
 -- `plan_to_c` is given what `plan` answers of the texture of the kind and its numbers.
-use borrow.Author.Rules.{rules}
 use Rattle.merlontrispa.proofs.textures.mt_plan.Goals as goal
 
 pub returns : goal.returns

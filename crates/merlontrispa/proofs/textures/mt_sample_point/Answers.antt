@@ -1,5 +1,4 @@
 -- `point_to_c` is given what `sample_point` answers of the texture of the kind and its numbers.
-use borrow.Author.Rules.{rules}
 use Rattle.merlontrispa.proofs.textures.mt_sample_point.Goals as goal
 
 pub returns : goal.returns

@@ -1,6 +1,5 @@
 -- `trace_to_c` is given what `trace_flat` answers to the tolerances that `tolerances_from_c` makes, the lists are those
 -- that it leaves, and its other two promises are passed on.
-use borrow.Author.Rules.{rules}
 use Rattle.lent.proofs.Laws.{answered_in}
 use Rattle.merlontrispa.specs.Lines.{paths_answer}
 use Rattle.merlontrispa.proofs.traces.mt_trace_flat.Goals as goal

@@ -1,5 +1,4 @@
 -- `to_c` is given what `add` answers of the two Vectors that `from_c` makes.
-use borrow.Author.Rules.{rules}
 use Rattle.merlontrispa.proofs.vectors.mt_vector_add.Goals as goal
 
 pub returns : goal.returns

@@ -1,5 +1,4 @@
 -- `all_close` is asked of the two Vectors that `from_c` makes.
-use borrow.Author.Rules.{rules}
 use Rattle.merlontrispa.proofs.vectors.mt_vector_all_close.Goals as goal
 
 pub returns : goal.returns

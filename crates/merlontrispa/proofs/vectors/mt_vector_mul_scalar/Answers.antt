@@ -1,5 +1,4 @@
 -- `to_c` is given what `mul_scalar` answers of the Vector that `from_c` makes.
-use borrow.Author.Rules.{rules}
 use Rattle.merlontrispa.proofs.vectors.mt_vector_mul_scalar.Goals as goal
 
 pub returns : goal.returns

@@ -1,5 +1,4 @@
 -- `mesh::corner::cell_corners` meets its contract, corner by corner.
-use borrow.Author.Rules.{rules}
 use Rattle.mesh.proofs.corner.cell_corners.Goals as goal
 
 pub returns : goal.returns

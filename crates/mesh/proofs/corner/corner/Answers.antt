@@ -3,7 +3,6 @@ use Prim.Native.Nat.{◌≤◌}
 use mathlib.Core.Path.{◌∙◌}
 use native.Mathlib.Omega.{arith}
 use Rattle.mesh.proofs.Joins.{maps_joins, join_within, corner_other, corner_last}
-use borrow.Author.Rules.{rules}
 use Rattle.mesh.proofs.corner.corner.Goals as goal
 use Rattle.mesh.proofs.corner.corner.Goals.{After-join-p}
 

@@ -2,7 +2,6 @@
 use mathlib.Core.Path.{ap, ◌∙◌}
 use Rattle.mesh.specs.Corners.{placed}
 use Rattle.mesh.proofs.Joins.{join_last, join_other, join_none}
-use borrow.Author.Rules.{rules}
 use Rattle.mesh.proofs.corner.join.Goals as goal
 
 pub inverse-requires : goal.inverse-requires

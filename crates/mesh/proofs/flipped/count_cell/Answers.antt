@@ -5,7 +5,6 @@ use Rattle.surface.proofs.Triangles.{number_most}
 use Rattle.mesh.specs.Corners.{shape_of}
 use Rattle.mesh.proofs.Cells.{cell_below}
 use Rattle.mesh.proofs.Numbers.{one_more_most, cells_most, cell_counted}
-use borrow.Author.Rules.{rules}
 use Rattle.mesh.proofs.flipped.count_cell.Goals as goal
 use Rattle.mesh.proofs.flipped.count_cell.Goals.{Start}
 

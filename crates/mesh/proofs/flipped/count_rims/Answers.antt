@@ -1,7 +1,6 @@
 -- `mesh::flipped::count_rims` meets its contract: both rows are counted.
 use Prim.Native.Nat.{◌-◌}
 use native.Mathlib.Omega.{arith}
-use borrow.Author.Rules.{rules}
 use Rattle.mesh.proofs.Flips.{rims_u}
 use Rattle.mesh.proofs.flipped.count_rims.Goals as goal
 

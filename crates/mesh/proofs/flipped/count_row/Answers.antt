@@ -1,12 +1,11 @@
 -- `mesh::flipped::count_row` meets its contract: after v cells the counts are known up to v.
-use Prim.Native.Nat.{ℕ, ◌+◌, ◌-◌, ◌*◌, ◌≤◌}
+use Prim.Native.Nat.{ℕ, ◌+◌, ◌*◌}
 use mathlib.Core.Path.{◌≡◌, refl, ap, ◌∙◌}
 use native.Mathlib.Omega.{arith}
-use lib.ListN.{length, get_or, length-set}
+use lib.ListN.{length-set}
 use Rattle.surface.specs.Surface.{triangle_number}
 use Rattle.mesh.specs.Corners.{shape_of}
 use Rattle.mesh.proofs.Firsts.{value_first, values_more}
-use borrow.Author.Rules.{rules}
 use Rattle.mesh.proofs.flipped.count_row.Goals as goal
 use Rattle.mesh.proofs.flipped.count_row.Goals.{Start}
 

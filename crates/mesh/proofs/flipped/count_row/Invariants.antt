@@ -1,10 +1,8 @@
 use Prim.Native.Nat.{ℕ, ◌+◌, ◌-◌, ◌*◌, ◌≤◌}
-use mathlib.Core.Path.{◌≡◌, refl, ap, ◌∙◌}
-use native.Mathlib.Omega.{arith}
-use lib.ListN.{length, get_or, length-set}
+use mathlib.Core.Path.{◌≡◌}
+use lib.ListN.{length, get_or}
 use Rattle.surface.specs.Surface.{triangle_number}
 use Rattle.mesh.specs.Corners.{shape_of}
-use Rattle.mesh.proofs.Firsts.{value_first, values_more}
 use Rattle.mesh.proofs.flipped.count_row.Given as goal
 
 abbrev pub invariant-loop-v : goal.invariant-loop-v

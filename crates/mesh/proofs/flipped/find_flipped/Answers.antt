@@ -1,6 +1,5 @@
 -- `mesh::flipped::find_flipped` meets its contract: two scratch lists for the counts along the rims, then both seams.
 use native.Mathlib.Omega.{arith}
-use borrow.Author.Rules.{rules}
 use Rattle.mesh.proofs.flipped.find_flipped.Goals as goal
 
 pub count_rims-requires : goal.count_rims-requires

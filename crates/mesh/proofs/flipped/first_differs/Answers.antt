@@ -2,7 +2,6 @@
 use mathlib.Core.Path.{ap, ◌∙◌}
 use Rattle.surface.specs.Surface.{proper}
 use Rattle.mesh.proofs.Cells.{slot_first}
-use borrow.Author.Rules.{rules}
 use Rattle.mesh.proofs.flipped.first_differs.Goals as goal
 
 pub returns : goal.returns

@@ -1,6 +1,5 @@
 -- `mesh::flipped::flip_seam` meets its contract: nothing, or all steps of a reversed seam.
 use Rattle.mesh.proofs.Flips.{maps_told, seam_told}
-use borrow.Author.Rules.{rules}
 use Rattle.mesh.proofs.flipped.flip_seam.Goals as goal
 
 pub process_flipped-requires : goal.process_flipped-requires

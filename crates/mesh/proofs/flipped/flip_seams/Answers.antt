@@ -2,7 +2,6 @@
 use mathlib.Core.Path.{◌≡◌, ◌∙◌}
 use mathlib.Core.List.{[]}
 use native.Mathlib.Omega.{arith}
-use borrow.Author.Rules.{rules}
 use Rattle.param.specs.declared.Axis.TheVariants.{AxisU}
 use Rattle.surface.specs.Found.{seam_of}
 use Rattle.mesh.specs.Corners.{shape_of}

@@ -6,7 +6,6 @@ use mathlib.Core.Bool.{Bool, true, ◌&&◌, cond}
 use mathlib.Core.List.{List}
 use native.Mathlib.Omega.{arith}
 use lib.ListN.{get_or}
-use borrow.Author.Rules.{rules}
 use borrow.Author.Tests.{not-true, not-false}
 use Rattle.basics.proofs.Tests.{and_both}
 use Rattle.surface.specs.Surface.{Shape, Pair, insert, ordered, triangle_number, step_on}

@@ -1,7 +1,6 @@
 -- `mesh::flipped::high_differs` meets its contract: the cell at a step of the high rim.
 use native.Mathlib.Omega.{arith}
 use Rattle.mesh.proofs.Numbers.{high_u_lem, high_v_lem}
-use borrow.Author.Rules.{rules}
 use Rattle.mesh.proofs.flipped.high_differs.Goals as goal
 
 pub second_differs-requires : goal.second_differs-requires

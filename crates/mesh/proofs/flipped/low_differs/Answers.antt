@@ -1,6 +1,5 @@
 -- `mesh::flipped::low_differs` meets its contract: the cell at a step of the low rim.
 use Rattle.mesh.proofs.Numbers.{low_u_lem, low_v_lem}
-use borrow.Author.Rules.{rules}
 use Rattle.mesh.proofs.flipped.low_differs.Goals as goal
 
 pub first_differs-requires : goal.first_differs-requires

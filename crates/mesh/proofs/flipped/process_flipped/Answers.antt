@@ -1,14 +1,10 @@
 -- `mesh::flipped::process_flipped` meets its contract: after i steps the list holds what `process` gives for them.
-use Prim.Native.Nat.{◌-◌, ◌≤◌}
 use mathlib.Core.Path.{◌≡◌, refl, ◌∙◌}
 use native.Mathlib.Omega.{arith}
-use lib.ListN.{length}
-use borrow.Author.Rules.{rules}
 use Rattle.surface.specs.Found.{of_mapping}
 use Rattle.surface.specs.Rims.{rim_steps}
 use Rattle.mesh.specs.Corners.{shape_of}
 use Rattle.mesh.specs.Held.{pairs_in, pair_at}
-use Rattle.mesh.specs.Rims.{flip_steps}
 use Rattle.mesh.proofs.Firsts.{length_firsts}
 use Rattle.mesh.proofs.Flips.{flips_none, flips_more, flips_most, held_pairs}
 use Rattle.mesh.proofs.flipped.process_flipped.Goals as goal

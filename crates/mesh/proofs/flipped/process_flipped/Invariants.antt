@@ -1,14 +1,10 @@
 use Prim.Native.Nat.{◌-◌, ◌≤◌}
-use mathlib.Core.Path.{◌≡◌, refl, ◌∙◌}
-use native.Mathlib.Omega.{arith}
+use mathlib.Core.Path.{◌≡◌}
 use lib.ListN.{length}
 use Rattle.surface.specs.Found.{of_mapping}
-use Rattle.surface.specs.Rims.{rim_steps}
 use Rattle.mesh.specs.Corners.{shape_of}
-use Rattle.mesh.specs.Held.{pairs_in, pair_at}
+use Rattle.mesh.specs.Held.{pairs_in}
 use Rattle.mesh.specs.Rims.{flip_steps}
-use Rattle.mesh.proofs.Firsts.{length_firsts}
-use Rattle.mesh.proofs.Flips.{flips_none, flips_more, flips_most, held_pairs}
 use Rattle.mesh.proofs.flipped.process_flipped.Given as goal
 
 abbrev pub invariant-loop-i : goal.invariant-loop-i

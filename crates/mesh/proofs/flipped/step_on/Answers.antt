@@ -6,7 +6,6 @@ use Rattle.cyclic.specs.Mapping.{steps_of, inverse}
 use Rattle.cyclic.proofs.Mappings.{inverse_within}
 use Rattle.mesh.proofs.Joins.{maps_joins}
 use Rattle.mesh.proofs.Numbers.{step_is}
-use borrow.Author.Rules.{rules}
 use Rattle.mesh.proofs.flipped.step_on.Goals as goal
 use Rattle.mesh.proofs.flipped.step_on.Goals.{Start}
 

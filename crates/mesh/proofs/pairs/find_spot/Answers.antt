@@ -1,12 +1,10 @@
 -- `mesh::pairs::find_spot` meets its contract: the pairs before i all stand before (low, high), so that inserting it
 -- leaves them as they are.
-use Prim.Native.Nat.{◌≤◌, ◌-◌}
 use native.Mathlib.Omega.{arith}
 use Rattle.surface.specs.Surface.{pair}
-use Rattle.mesh.specs.Held.{pair_at, pairs_in}
+use Rattle.mesh.specs.Held.{pair_at}
 use Rattle.mesh.proofs.Firsts.{length_firsts}
-use Rattle.mesh.proofs.Holding.{PassedTo, spot_before, spot_there, spot_on, spot_end}
-use borrow.Author.Rules.{rules}
+use Rattle.mesh.proofs.Holding.{spot_before, spot_there, spot_on, spot_end}
 use Rattle.mesh.proofs.pairs.find_spot.Goals as goal
 
 pub overflow_mul-a : goal.overflow_mul-a

@@ -1,9 +1,7 @@
 use Prim.Native.Nat.{◌≤◌, ◌-◌}
-use native.Mathlib.Omega.{arith}
 use Rattle.surface.specs.Surface.{pair}
-use Rattle.mesh.specs.Held.{pair_at, pairs_in}
-use Rattle.mesh.proofs.Firsts.{length_firsts}
-use Rattle.mesh.proofs.Holding.{PassedTo, spot_before, spot_there, spot_on, spot_end}
+use Rattle.mesh.specs.Held.{pairs_in}
+use Rattle.mesh.proofs.Holding.{PassedTo}
 use Rattle.mesh.proofs.pairs.find_spot.Given as goal
 
 abbrev pub invariant-loop-i : goal.invariant-loop-i

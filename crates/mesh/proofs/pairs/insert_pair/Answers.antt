@@ -3,7 +3,6 @@ use mathlib.Core.Path.{sym, ◌∙◌}
 use native.Mathlib.Omega.{arith}
 use Rattle.mesh.specs.Held.{pair_at}
 use Rattle.mesh.proofs.Firsts.{length_firsts}
-use borrow.Author.Rules.{rules}
 use Rattle.mesh.proofs.pairs.insert_pair.Goals as goal
 
 pub put_pair-requires : goal.put_pair-requires

@@ -1,11 +1,10 @@
 -- `mesh::pairs::open_gap` meets its contract: what is below i stands where it did, what is from i on two places
 -- further.
-use Prim.Native.Nat.{ℕ, ◌+◌, ◌-◌, ◌≤◌, ◌<◌}
+use Prim.Native.Nat.{ℕ, ◌+◌, ◌-◌, ◌<◌}
 use mathlib.Core.Path.{◌≡◌}
 use native.Mathlib.Omega.{arith}
-use lib.ListN.{length, get_or, length-set}
+use lib.ListN.{get_or, length-set}
 use Rattle.mesh.proofs.Holding.{gap_below, gap_moved}
-use borrow.Author.Rules.{rules}
 use Rattle.mesh.proofs.pairs.open_gap.Goals as goal
 
 pub overflow_sub-i : goal.overflow_sub-i

@@ -1,8 +1,6 @@
-use Prim.Native.Nat.{ℕ, ◌+◌, ◌-◌, ◌≤◌, ◌<◌}
+use Prim.Native.Nat.{ℕ, ◌+◌, ◌≤◌, ◌<◌}
 use mathlib.Core.Path.{◌≡◌}
-use native.Mathlib.Omega.{arith}
-use lib.ListN.{length, get_or, length-set}
-use Rattle.mesh.proofs.Holding.{gap_below, gap_moved}
+use lib.ListN.{length, get_or}
 use Rattle.mesh.proofs.pairs.open_gap.Given as goal
 
 abbrev pub invariant-loop-i : goal.invariant-loop-i

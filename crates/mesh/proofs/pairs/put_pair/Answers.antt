@@ -2,7 +2,6 @@
 use native.Mathlib.Omega.{arith}
 use lib.ListN.{length-set}
 use Rattle.mesh.proofs.Holding.{pair_put}
-use borrow.Author.Rules.{rules}
 use Rattle.mesh.proofs.pairs.put_pair.Goals as goal
 
 pub bounds-list-i-2 : goal.bounds-list-i-2

@@ -4,7 +4,6 @@ use borrow.Author.Tests.{not-true, not-false}
 use Rattle.surface.specs.Surface.{tri}
 use Rattle.mesh.specs.Held.{triangles_in}
 use Rattle.mesh.proofs.Cells.{added_none, added_one}
-use borrow.Author.Rules.{rules}
 use Rattle.mesh.proofs.triangles.add_triangle.Goals as goal
 
 pub returns-then-not-differ : goal.returns-then-not-differ

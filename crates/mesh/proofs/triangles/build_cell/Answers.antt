@@ -7,7 +7,6 @@ use Rattle.surface.specs.Surface.{kept}
 use Rattle.mesh.specs.Corners.{shape_of}
 use Rattle.mesh.specs.Held.{triangles_in}
 use Rattle.mesh.proofs.Cells.{held_most, cell_below, cell_first, cell_second}
-use borrow.Author.Rules.{rules}
 use Rattle.mesh.proofs.triangles.build_cell.Goals as goal
 use Rattle.mesh.proofs.triangles.build_cell.Goals.{After-add_triangle-first}
 

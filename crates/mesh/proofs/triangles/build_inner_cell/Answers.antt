@@ -7,7 +7,6 @@ use Rattle.grid.proofs.Laws.{point_below, points_most}
 use Rattle.mesh.specs.Corners.{shape_of}
 use Rattle.mesh.proofs.Cells.{held_most, cell_below}
 use Rattle.mesh.proofs.Inner.{inner_cell}
-use borrow.Author.Rules.{rules}
 use Rattle.mesh.proofs.triangles.build_inner_cell.Goals as goal
 use Rattle.mesh.proofs.triangles.build_inner_cell.Goals.{After-point_number-i00}
 

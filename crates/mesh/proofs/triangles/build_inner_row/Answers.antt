@@ -1,14 +1,10 @@
 -- `mesh::triangles::build_inner_row` meets its contract: after v cells the list holds the triangles of the slots up to
 -- cell (u, v).
-use Prim.Native.Nat.{◌+◌, ◌-◌, ◌*◌, ◌≤◌}
+use Prim.Native.Nat.{◌-◌}
 use mathlib.Core.Path.{◌≡◌, refl, ◌∙◌}
 use native.Mathlib.Omega.{arith}
-use lib.ListN.{length}
-use Rattle.surface.specs.Surface.{kept}
 use Rattle.mesh.specs.Corners.{shape_of}
-use Rattle.mesh.specs.Held.{triangles_in}
 use Rattle.mesh.proofs.Cells.{row_first}
-use borrow.Author.Rules.{rules}
 use Rattle.mesh.proofs.triangles.build_inner_row.Goals as goal
 
 pub overflow_sub-last : goal.overflow_sub-last

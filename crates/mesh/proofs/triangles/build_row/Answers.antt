@@ -4,7 +4,6 @@ use mathlib.Core.Path.{◌∙◌}
 use native.Mathlib.Omega.{arith}
 use Rattle.mesh.specs.Corners.{shape_of}
 use Rattle.mesh.proofs.Cells.{row_next}
-use borrow.Author.Rules.{rules}
 use Rattle.mesh.proofs.triangles.build_row.Goals as goal
 
 pub build_cell-requires : goal.build_cell-requires

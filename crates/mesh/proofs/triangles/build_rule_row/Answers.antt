@@ -1,14 +1,9 @@
 -- `mesh::triangles::build_rule_row` meets its contract: after v cells the list holds the triangles of the slots up to
 -- cell (u, v).
-use Prim.Native.Nat.{◌+◌, ◌-◌, ◌*◌, ◌≤◌}
-use mathlib.Core.Path.{◌≡◌, refl, ◌∙◌}
+use mathlib.Core.Path.{refl, ◌∙◌}
 use native.Mathlib.Omega.{arith}
-use lib.ListN.{length}
-use Rattle.surface.specs.Surface.{kept}
 use Rattle.mesh.specs.Corners.{shape_of}
-use Rattle.mesh.specs.Held.{triangles_in}
 use Rattle.mesh.proofs.Cells.{row_first, row_next}
-use borrow.Author.Rules.{rules}
 use Rattle.mesh.proofs.triangles.build_rule_row.Goals as goal
 
 pub loop-v-init : goal.loop-v-init

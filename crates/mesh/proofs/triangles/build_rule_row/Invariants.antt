@@ -1,11 +1,9 @@
 use Prim.Native.Nat.{◌+◌, ◌-◌, ◌*◌, ◌≤◌}
-use mathlib.Core.Path.{◌≡◌, refl, ◌∙◌}
-use native.Mathlib.Omega.{arith}
+use mathlib.Core.Path.{◌≡◌}
 use lib.ListN.{length}
 use Rattle.surface.specs.Surface.{kept}
 use Rattle.mesh.specs.Corners.{shape_of}
 use Rattle.mesh.specs.Held.{triangles_in}
-use Rattle.mesh.proofs.Cells.{row_first, row_next}
 use Rattle.mesh.proofs.triangles.build_rule_row.Given as goal
 
 abbrev pub invariant-loop-v : goal.invariant-loop-v

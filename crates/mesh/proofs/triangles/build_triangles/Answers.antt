@@ -1,15 +1,13 @@
 -- `mesh::triangles::build_triangles` meets its contract: after u rows the list holds the triangles of their slots, and
 -- the starts are known up to u.
-use Prim.Native.Nat.{ℕ, ◌+◌, ◌-◌, ◌*◌, ◌≤◌}
+use Prim.Native.Nat.{ℕ, ◌+◌, ◌*◌}
 use mathlib.Core.Path.{◌≡◌, refl, ◌∙◌}
 use native.Mathlib.Omega.{arith}
-use lib.ListN.{length, get_or, length-set}
-use Rattle.surface.specs.Surface.{kept, triangle_number}
+use lib.ListN.{length-set}
+use Rattle.surface.specs.Surface.{triangle_number}
 use Rattle.mesh.specs.Corners.{shape_of}
-use Rattle.mesh.specs.Held.{triangles_in}
 use Rattle.mesh.proofs.Firsts.{value_first, values_more}
 use Rattle.mesh.proofs.Cells.{none_held, held_count}
-use borrow.Author.Rules.{rules}
 use Rattle.mesh.proofs.triangles.build_triangles.Goals as goal
 use Rattle.mesh.proofs.triangles.build_triangles.Goals.{Start}
 

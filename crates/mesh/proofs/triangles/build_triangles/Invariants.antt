@@ -1,12 +1,9 @@
-use Prim.Native.Nat.{ℕ, ◌+◌, ◌-◌, ◌*◌, ◌≤◌}
-use mathlib.Core.Path.{◌≡◌, refl, ◌∙◌}
-use native.Mathlib.Omega.{arith}
-use lib.ListN.{length, get_or, length-set}
+use Prim.Native.Nat.{ℕ, ◌-◌, ◌*◌, ◌≤◌}
+use mathlib.Core.Path.{◌≡◌}
+use lib.ListN.{length, get_or}
 use Rattle.surface.specs.Surface.{kept, triangle_number}
 use Rattle.mesh.specs.Corners.{shape_of}
 use Rattle.mesh.specs.Held.{triangles_in}
-use Rattle.mesh.proofs.Firsts.{value_first, values_more}
-use Rattle.mesh.proofs.Cells.{none_held, held_count}
 use Rattle.mesh.proofs.triangles.build_triangles.Given as goal
 
 abbrev pub invariant-loop-u : goal.invariant-loop-u

@@ -2,7 +2,6 @@
 use native.Mathlib.Omega.{arith}
 use lib.ListN.{length-set}
 use Rattle.mesh.proofs.Holding.{triangle_added}
-use borrow.Author.Rules.{rules}
 use Rattle.mesh.proofs.triangles.write_triangle.Goals as goal
 
 pub bounds-triangles-count-2 : goal.bounds-triangles-count-2

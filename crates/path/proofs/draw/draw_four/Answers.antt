@@ -1,10 +1,9 @@
 -- `path::draw::draw_four` meets its contract: the stores that are left in each of the four runs
 -- make what all of them make.
-use Prim.Native.Nat.{◌+◌, ◌*◌, ◌≤◌}
-use mathlib.Core.Path.{◌≡◌, refl, sym, ◌∙◌}
+use Prim.Native.Nat.{◌*◌}
+use mathlib.Core.Path.{refl, sym, ◌∙◌}
 use native.Mathlib.Omega.{arith}
-use lib.ListN.{length}
-use Rattle.path.proofs.Stores.{Fewer, fewer, lanes, lanes_done, lanes_runs, four_turn}
+use Rattle.path.proofs.Stores.{Fewer, fewer, lanes_done, lanes_runs, four_turn}
 use Rattle.path.proofs.draw.draw_four.Goals as goal
 use Rattle.path.proofs.draw.draw_four.Goals.{After-put, After-put-in-loop-left, After-put-in-loop-left-2, In-loop-left}
 

@@ -1,8 +1,7 @@
 use Prim.Native.Nat.{◌+◌, ◌*◌, ◌≤◌}
-use mathlib.Core.Path.{◌≡◌, refl, sym, ◌∙◌}
-use native.Mathlib.Omega.{arith}
+use mathlib.Core.Path.{◌≡◌}
 use lib.ListN.{length}
-use Rattle.path.proofs.Stores.{Fewer, fewer, lanes, lanes_done, lanes_runs, four_turn}
+use Rattle.path.proofs.Stores.{lanes}
 use Rattle.path.proofs.draw.draw_four.Given as goal
 
 abbrev pub invariant-loop-left : goal.invariant-loop-left

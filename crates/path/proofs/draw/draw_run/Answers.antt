@@ -1,11 +1,6 @@
 -- `path::draw::draw_run` meets its contract: the stores that are left, from `place` on, make what all of them make.
-use Prim.Native.Nat.{◌+◌, ◌*◌}
-use mathlib.Core.Path.{◌≡◌, refl, sym, ◌∙◌}
+use mathlib.Core.Path.{refl, sym, ◌∙◌}
 use native.Mathlib.Omega.{arith}
-use lib.ListN.{length}
-use lib.Seq.{sets}
-use Rattle.path.specs.GridPaths.{coordinates}
-use Rattle.path.specs.Runs.{run}
 use Rattle.path.proofs.Stores.{Fewer, fewer, run_turn, run_done}
 use Rattle.path.proofs.draw.draw_run.Goals as goal
 use Rattle.path.proofs.draw.draw_run.Goals.{In-loop-left}

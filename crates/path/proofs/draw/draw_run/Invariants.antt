@@ -1,11 +1,9 @@
 use Prim.Native.Nat.{◌+◌, ◌*◌}
-use mathlib.Core.Path.{◌≡◌, refl, sym, ◌∙◌}
-use native.Mathlib.Omega.{arith}
+use mathlib.Core.Path.{◌≡◌}
 use lib.ListN.{length}
 use lib.Seq.{sets}
 use Rattle.path.specs.GridPaths.{coordinates}
 use Rattle.path.specs.Runs.{run}
-use Rattle.path.proofs.Stores.{Fewer, fewer, run_turn, run_done}
 use Rattle.path.proofs.draw.draw_run.Given as goal
 
 abbrev pub invariant-loop-left : goal.invariant-loop-left

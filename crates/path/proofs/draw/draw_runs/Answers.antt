@@ -1,12 +1,7 @@
 -- `path::draw::draw_runs` meets its contract: the runs that are left, from `place` on, make what all of them make.
-use Prim.Native.Nat.{◌+◌, ◌*◌}
-use mathlib.Core.Path.{◌≡◌, refl, sym, ◌∙◌}
-use mathlib.Core.List.{flatten}
+use Prim.Native.Nat.{◌*◌}
+use mathlib.Core.Path.{refl, sym, ◌∙◌}
 use native.Mathlib.Omega.{arith}
-use lib.ListN.{length}
-use lib.Seq.{sets}
-use Rattle.path.specs.GridPaths.{coordinates}
-use Rattle.path.specs.Runs.{runs}
 use Rattle.path.proofs.Stores.{Fewer, fewer, runs_four, runs_turn, runs_done}
 use Rattle.path.proofs.draw.draw_runs.Goals as goal
 use Rattle.path.proofs.draw.draw_runs.Goals.{In-loop-left, In-loop-left-2}

@@ -1,12 +1,10 @@
 use Prim.Native.Nat.{◌+◌, ◌*◌}
-use mathlib.Core.Path.{◌≡◌, refl, sym, ◌∙◌}
+use mathlib.Core.Path.{◌≡◌}
 use mathlib.Core.List.{flatten}
-use native.Mathlib.Omega.{arith}
 use lib.ListN.{length}
 use lib.Seq.{sets}
 use Rattle.path.specs.GridPaths.{coordinates}
 use Rattle.path.specs.Runs.{runs}
-use Rattle.path.proofs.Stores.{Fewer, fewer, runs_four, runs_turn, runs_done}
 use Rattle.path.proofs.draw.draw_runs.Given as goal
 
 abbrev pub invariant-loop-left : goal.invariant-loop-left

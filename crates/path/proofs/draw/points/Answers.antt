@@ -1,7 +1,6 @@
 -- `path::draw::points` meets its contract: the runs along u, then those along v, are the lines of the
 -- grid, and the rest is zeroed.
 use Rattle.path.proofs.Lines.{points_drawn}
-use borrow.Author.Rules.{rules}
 use Rattle.path.proofs.draw.points.Goals as goal
 
 pub returns : goal.returns

@@ -4,7 +4,6 @@ use mathlib.Core.Path.{◌≡◌}
 use native.Mathlib.Omega.{arith}
 use lib.ListN.{length-set}
 use Rattle.path.specs.GridPaths.{coordinates}
-use borrow.Author.Rules.{rules}
 use Rattle.path.proofs.draw.put.Goals as goal
 
 pub bounds-points-at-2 : goal.bounds-points-at-2

@@ -1,10 +1,7 @@
 -- `path::draw::put_spaced` meets its contract: the stores that are left, from `place` on, make what all of them make.
-use Prim.Native.Nat.{◌+◌, ◌*◌}
-use mathlib.Core.Path.{◌≡◌, refl, sym, ◌∙◌}
+use mathlib.Core.Path.{refl, sym, ◌∙◌}
 use native.Mathlib.Omega.{arith}
-use lib.ListN.{length, length-set}
-use lib.Seq.{sets}
-use Rattle.path.specs.Runs.{spaced}
+use lib.ListN.{length-set}
 use Rattle.path.proofs.Stores.{Fewer, fewer, spaced_turn, spaced_done}
 use Rattle.path.proofs.draw.put_spaced.Goals as goal
 use Rattle.path.proofs.draw.put_spaced.Goals.{In-loop-left}

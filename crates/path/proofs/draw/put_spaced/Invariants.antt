@@ -1,10 +1,8 @@
 use Prim.Native.Nat.{◌+◌, ◌*◌}
-use mathlib.Core.Path.{◌≡◌, refl, sym, ◌∙◌}
-use native.Mathlib.Omega.{arith}
-use lib.ListN.{length, length-set}
+use mathlib.Core.Path.{◌≡◌}
+use lib.ListN.{length}
 use lib.Seq.{sets}
 use Rattle.path.specs.Runs.{spaced}
-use Rattle.path.proofs.Stores.{Fewer, fewer, spaced_turn, spaced_done}
 use Rattle.path.proofs.draw.put_spaced.Given as goal
 
 abbrev pub invariant-loop-left : goal.invariant-loop-left

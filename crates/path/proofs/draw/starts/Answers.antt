@@ -4,7 +4,6 @@ use Prim.Native.Nat.{◌+◌, ◌*◌, ◌≤◌}
 use native.Mathlib.Omega.{arith}
 use Rattle.grid.proofs.Laws.{points_most}
 use Rattle.path.proofs.Lines.{starts_drawn}
-use borrow.Author.Rules.{rules}
 use Rattle.path.proofs.draw.starts.Goals as goal
 use Rattle.path.proofs.draw.starts.Goals.{Start}
 

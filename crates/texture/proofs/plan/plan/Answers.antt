@@ -1,7 +1,6 @@
 -- `texture::plan::plan` meets its contract, test by test: the laws are in proofs/Plans.antt.
 use Rattle.texture.proofs.Plans.{plan_steps, plan_texture, plan_counts, plan_ok}
 use borrow.Author.Tests.{not-true, not-false}
-use borrow.Author.Rules.{rules}
 use Rattle.texture.proofs.plan.plan.Goals as goal
 
 pub returns-then-not-steps_fit : goal.returns-then-not-steps_fit

@@ -1,7 +1,6 @@
 -- `texture::plan::radial_sample_count` meets its contract: the operations are the definition's.
 use Rattle.texture.specs.Plan.{radial_sample_count}
 use Rattle.float.specs.Consts.{tau}
-use borrow.Author.Rules.{rules}
 use Rattle.texture.proofs.plan.radial_sample_count.Goals as goal
 
 pub returns : goal.returns

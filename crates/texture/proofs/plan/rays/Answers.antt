@@ -1,6 +1,5 @@
 -- `texture::plan::rays` meets its contract, case by case: the laws are in proofs/Plans.antt.
 use Rattle.texture.proofs.Plans.{rays_swirl, rays_spiral}
-use borrow.Author.Rules.{rules}
 use Rattle.texture.proofs.plan.rays.Goals as goal
 
 pub returns-in-Swirl : goal.returns-in-Swirl

@@ -1,6 +1,5 @@
 -- `texture::plan::samples_along` meets its contract: the operations are the definition's.
 use Rattle.texture.specs.Plan.{samples_along}
-use borrow.Author.Rules.{rules}
 use Rattle.texture.proofs.plan.samples_along.Goals as goal
 
 pub returns : goal.returns

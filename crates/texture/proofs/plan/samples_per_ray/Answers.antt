@@ -1,6 +1,5 @@
 -- `texture::plan::samples_per_ray` meets its contract, case by case: the laws are in proofs/Plans.antt.
 use Rattle.texture.proofs.Plans.{samples_swirl, samples_spiral}
-use borrow.Author.Rules.{rules}
 use Rattle.texture.proofs.plan.samples_per_ray.Goals as goal
 
 pub returns-in-Swirl : goal.returns-in-Swirl

@@ -1,6 +1,5 @@
 -- `texture::plan::spiral_turns` meets its contract: the operations are the definition's.
 use Rattle.texture.specs.Plan.{spiral_turns}
-use borrow.Author.Rules.{rules}
 use Rattle.texture.proofs.plan.spiral_turns.Goals as goal
 
 pub returns : goal.returns

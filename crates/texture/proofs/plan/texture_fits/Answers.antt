@@ -1,5 +1,4 @@
 -- `texture::plan::texture_fits` meets its contract: each case's test is the definition's.
-use borrow.Author.Rules.{rules}
 use Rattle.texture.proofs.plan.texture_fits.Goals as goal
 
 pub returns-in-Swirl : goal.returns-in-Swirl

@@ -1,7 +1,6 @@
 -- `texture::plan::texture_radius` meets its contract: the operations are the definition's.
 use Rattle.texture.specs.Plan.{texture_radius}
 use Rattle.float.specs.Consts.{sqrt2}
-use borrow.Author.Rules.{rules}
 use Rattle.texture.proofs.plan.texture_radius.Goals as goal
 
 pub returns : goal.returns

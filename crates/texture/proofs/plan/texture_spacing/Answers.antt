@@ -1,7 +1,6 @@
 -- `texture::plan::texture_spacing` meets its contract: the test is the definition's.
 use Rattle.texture.specs.Plan.{texture_spacing}
 use Rattle.float.specs.Consts.{eps}
-use borrow.Author.Rules.{rules}
 use Rattle.texture.proofs.plan.texture_spacing.Goals as goal
 
 pub returns-then-is_finite-spacing : goal.returns-then-is_finite-spacing

@@ -1,6 +1,5 @@
 -- `texture::sample::angle` meets its contract, test by test: the laws are in proofs/Samples.antt.
 use Rattle.texture.proofs.Samples.{angle_ok, angle_not_there, angle_failed}
-use borrow.Author.Rules.{rules}
 use Rattle.texture.proofs.sample.angle.Goals as goal
 
 pub returns-then-ray-rays : goal.returns-then-ray-rays

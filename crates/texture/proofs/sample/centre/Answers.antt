@@ -1,5 +1,4 @@
 -- `texture::sample::centre` meets its contract: the operations are the definition's.
-use borrow.Author.Rules.{rules}
 use Rattle.texture.proofs.sample.centre.Goals as goal
 
 pub returns : goal.returns

@@ -1,6 +1,5 @@
 -- `texture::sample::distance` meets its contract, case by case: the laws are in proofs/Samples.antt.
 use Rattle.texture.proofs.Samples.{distance_swirl, distance_spiral}
-use borrow.Author.Rules.{rules}
 use Rattle.texture.proofs.sample.distance.Goals as goal
 
 pub returns-in-Swirl : goal.returns-in-Swirl

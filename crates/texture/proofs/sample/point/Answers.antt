@@ -1,6 +1,5 @@
 -- `texture::sample::point` meets its contract: the operations are the definition's.
 use Rattle.texture.proofs.Samples.{point_is}
-use borrow.Author.Rules.{rules}
 use Rattle.texture.proofs.sample.point.Goals as goal
 
 pub returns : goal.returns

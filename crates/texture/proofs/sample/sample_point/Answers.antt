@@ -1,7 +1,6 @@
 -- `texture::sample::sample_point` meets its contract, test by test: the laws are in proofs/Samples.antt.
 use Rattle.texture.proofs.Samples.{point_direction, point_ok, point_not_there, point_failed}
 use borrow.Author.Tests.{not-true, not-false}
-use borrow.Author.Rules.{rules}
 use Rattle.texture.proofs.sample.sample_point.Goals as goal
 
 pub returns-then-not-direction_fits : goal.returns-then-not-direction_fits

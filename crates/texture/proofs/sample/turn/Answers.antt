@@ -1,7 +1,6 @@
 -- `texture::sample::turn` meets its contract, case by case: the laws are in proofs/Samples.antt.
 use Rattle.float.specs.Consts.{tau}
 use Rattle.texture.proofs.Samples.{turn_swirl, turn_spiral}
-use borrow.Author.Rules.{rules}
 use Rattle.texture.proofs.sample.turn.Goals as goal
 
 pub returns-in-Swirl : goal.returns-in-Swirl

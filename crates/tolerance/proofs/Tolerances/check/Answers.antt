@@ -1,7 +1,6 @@
 -- `tolerance::Tolerances::check` meets its contract: 13 where one of its three tests fails.
 use mathlib.Core.Path.{◌≡◌, ap₂}
 use mathlib.Core.Bool.{true, false, ◌&&◌}
-use borrow.Author.Rules.{rules}
 use Rattle.basics.proofs.Tests.{held, failed}
 use Rattle.tolerance.specs.Tolerance.{tolerances_fit}
 use Rattle.tolerance.proofs.Tolerances.check.Goals as goal

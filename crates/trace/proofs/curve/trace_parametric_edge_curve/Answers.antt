@@ -1,14 +1,11 @@
 -- `trace::curve::trace_parametric_edge_curve` meets its contract. The invariant says what is left: the moves of all
 -- samples are, from the page so far, those of the samples from i on.
-use Prim.Native.Nat.{◌≤◌, ◌-◌}
-use mathlib.Core.Path.{◌≡◌, ◌∙◌}
+use mathlib.Core.Path.{◌∙◌}
 use native.Mathlib.Omega.{arith}
-use lib.ListN.{length, drop}
-use Rattle.page.specs.Page.{Lists, lists, moves_by, pen_at, Page, page, on_page, PenFits}
+use Rattle.page.specs.Page.{Lists, lists, moves_by, Page, page, on_page}
 use Rattle.page.proofs.Follow.{down_holds}
-use Rattle.page.proofs.Fits.{Fitting, moves_fit, Sized, SizedPage, moves_sized}
-use Rattle.trace.specs.declared.curve.Previous.TheVariants.{Nowhere}
-use Rattle.trace.specs.Curve.{samples_of, visit_moves, trace_moves}
+use Rattle.page.proofs.Fits.{Fitting, moves_fit, SizedPage, moves_sized}
+use Rattle.trace.specs.Curve.{visit_moves}
 use Rattle.trace.proofs.Sampled.{trace_goes, trace_stops, trace_flushes}
 use borrow.Author.Rules.{rules}
 use Rattle.trace.proofs.curve.trace_parametric_edge_curve.Goals as goal

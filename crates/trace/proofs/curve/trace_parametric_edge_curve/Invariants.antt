@@ -1,13 +1,10 @@
 use Prim.Native.Nat.{◌≤◌, ◌-◌}
-use mathlib.Core.Path.{◌≡◌, ◌∙◌}
-use native.Mathlib.Omega.{arith}
+use mathlib.Core.Path.{◌≡◌}
 use lib.ListN.{length, drop}
-use Rattle.page.specs.Page.{Lists, lists, moves_by, pen_at, Page, page, on_page, PenFits}
-use Rattle.page.proofs.Follow.{down_holds}
-use Rattle.page.proofs.Fits.{Fitting, moves_fit, Sized, SizedPage, moves_sized}
+use Rattle.page.specs.Page.{lists, pen_at, page, on_page, PenFits}
+use Rattle.page.proofs.Fits.{Sized}
 use Rattle.trace.specs.declared.curve.Previous.TheVariants.{Nowhere}
-use Rattle.trace.specs.Curve.{samples_of, visit_moves, trace_moves}
-use Rattle.trace.proofs.Sampled.{trace_goes, trace_stops, trace_flushes}
+use Rattle.trace.specs.Curve.{samples_of, trace_moves}
 use Rattle.trace.proofs.curve.trace_parametric_edge_curve.Given as goal
 
 abbrev pub invariant-loop-i : goal.invariant-loop-i

@@ -1,7 +1,6 @@
 -- `trace::curve::trace_sample` meets its contract: proofs/Sampled.antt has what is done by what the sample is.
 use Rattle.page.specs.Page.{lists, Page, page}
 use Rattle.trace.proofs.Sampled.{sample_break, sample_leg, sample_first}
-use borrow.Author.Rules.{rules}
 use Rattle.trace.proofs.curve.trace_sample.Goals as goal
 use Rattle.trace.proofs.curve.trace_sample.Goals.{Start}
 

@@ -1,6 +1,5 @@
 -- `trace::curve::visit_of` meets its contract, by its tests.
 use Rattle.trace.proofs.Sampled.{visit_break, visit_leg, visit_first}
-use borrow.Author.Rules.{rules}
 use Rattle.trace.proofs.curve.visit_of.Goals as goal
 
 pub returns-then-mark-eq0 : goal.returns-then-mark-eq0

@@ -1,5 +1,4 @@
 -- `trace::flat::answer_of` meets its contract, by its cases.
-use borrow.Author.Rules.{rules}
 use Rattle.trace.proofs.flat.answer_of.Goals as goal
 
 pub returns-in-Down : goal.returns-in-Down

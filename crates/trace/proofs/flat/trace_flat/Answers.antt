@@ -7,7 +7,6 @@ use Rattle.page.specs.Page.{Lists, lists}
 use Rattle.trace.proofs.Demands.{demand3}
 use Rattle.trace.proofs.Numbered.{numbers_met}
 use Rattle.trace.proofs.Ended.{passes, refused_before, counted, zeroed}
-use borrow.Author.Rules.{rules}
 use Rattle.trace.proofs.flat.trace_flat.Goals as goal
 use Rattle.trace.proofs.flat.trace_flat.Goals.{After-count_in-count, Start}
 

@@ -1,5 +1,4 @@
 -- `trace::samples::check_lengths` meets its contract: either test that fails makes `samples_length_fits` false.
-use borrow.Author.Rules.{rules}
 use Rattle.trace.proofs.Checks.{marks_long, pairs_other, lengths_fit}
 use Rattle.trace.proofs.samples.check_lengths.Goals as goal
 

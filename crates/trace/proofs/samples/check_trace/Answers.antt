@@ -5,7 +5,6 @@ use Rattle.refusal.specs.Refusals.{and_then}
 use Rattle.tolerance.specs.Tolerance.{tolerances_check}
 use Rattle.trace.specs.Trace.{check_lengths}
 use Rattle.trace.proofs.Checks.{grid_refused, pairs_twice, mark_refused, sample_refused, check_passes}
-use borrow.Author.Rules.{rules}
 use Rattle.trace.proofs.samples.check_trace.Goals as goal
 use Rattle.trace.proofs.samples.check_trace.Goals.{After-and_then-own}
 

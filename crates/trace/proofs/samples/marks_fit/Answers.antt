@@ -1,8 +1,5 @@
 -- `trace::samples::marks_fit` meets its contract: what is left to test from i on answers for the whole list.
-use Prim.Native.Nat.{◌≤◌, ◌-◌}
-use mathlib.Core.Path.{◌≡◌, sym, ◌∙◌}
-use lib.ListN.{length, drop}
-use Rattle.trace.specs.Trace.{marks_fit}
+use mathlib.Core.Path.{sym, ◌∙◌}
 use Rattle.trace.proofs.Checks.{mark_fits, mark_wrong, marks_end}
 use borrow.Author.Rules.{rules}
 use Rattle.trace.proofs.samples.marks_fit.Goals as goal

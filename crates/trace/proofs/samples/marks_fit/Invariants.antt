@@ -1,8 +1,7 @@
 use Prim.Native.Nat.{◌≤◌, ◌-◌}
-use mathlib.Core.Path.{◌≡◌, sym, ◌∙◌}
+use mathlib.Core.Path.{◌≡◌}
 use lib.ListN.{length, drop}
 use Rattle.trace.specs.Trace.{marks_fit}
-use Rattle.trace.proofs.Checks.{mark_fits, mark_wrong, marks_end}
 use Rattle.trace.proofs.samples.marks_fit.Given as goal
 
 abbrev pub invariant-loop-i : goal.invariant-loop-i

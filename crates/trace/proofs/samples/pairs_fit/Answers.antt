@@ -1,9 +1,6 @@
 -- `trace::samples::pairs_fit` meets its contract: what is left to test from pair i on answers for all pairs.
-use Prim.Native.Nat.{◌*◌, ◌≤◌, ◌-◌}
-use mathlib.Core.Path.{◌≡◌, sym, ◌∙◌}
-use lib.ListN.{length, drop}
+use mathlib.Core.Path.{sym, ◌∙◌}
 use borrow.Author.Tests.{not-true, not-false}
-use Rattle.trace.specs.Trace.{pairs_fit}
 use Rattle.trace.proofs.Checks.{pair_fits, pair_wrong, pairs_end}
 use borrow.Author.Rules.{rules}
 use Rattle.trace.proofs.samples.pairs_fit.Goals as goal

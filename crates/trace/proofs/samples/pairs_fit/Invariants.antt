@@ -1,9 +1,7 @@
 use Prim.Native.Nat.{◌*◌, ◌≤◌, ◌-◌}
-use mathlib.Core.Path.{◌≡◌, sym, ◌∙◌}
+use mathlib.Core.Path.{◌≡◌}
 use lib.ListN.{length, drop}
-use borrow.Author.Tests.{not-true, not-false}
 use Rattle.trace.specs.Trace.{pairs_fit}
-use Rattle.trace.proofs.Checks.{pair_fits, pair_wrong, pairs_end}
 use Rattle.trace.proofs.samples.pairs_fit.Given as goal
 
 abbrev pub invariant-loop-i : goal.invariant-loop-i

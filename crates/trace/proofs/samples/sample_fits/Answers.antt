@@ -1,5 +1,4 @@
 -- `trace::samples::sample_fits` meets its contract, by what its calls say.
-use borrow.Author.Rules.{rules}
 use Rattle.trace.proofs.samples.sample_fits.Goals as goal
 
 pub returns : goal.returns

@@ -1,6 +1,5 @@
 -- `vector::Vector::all_close` meets its contract: the largest of the three is below the tolerance where none keeps the
 -- points apart, and a NaN is passed over unless all three are (proofs/Close.antt).
-use borrow.Author.Rules.{rules}
 use Rattle.vector.proofs.Close.{apart_fails, near_passes, apart_first, apart_second, apart_third, none_apart}
 use Rattle.vector.proofs.Vector.all_close.Goals as goal
 

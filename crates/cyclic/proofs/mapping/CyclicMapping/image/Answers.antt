@@ -2,7 +2,6 @@
 -- variant that the match found.
 use native.Mathlib.Omega.{arith}
 use mathlib.Core.Path.{sym}
-use borrow.Author.Rules.{rules}
 use Rattle.cyclic.specs.declared.mapping.CyclicMapping.TheVariants.{Forward}
 use Rattle.cyclic.specs.Mapping.{HasIndex}
 use Rattle.cyclic.proofs.Mappings.{forward_zero, forward_other, has_index_as}

@@ -3,7 +3,6 @@
 use native.Mathlib.Omega.{arith}
 use native.Mathlib.Nat.{mod-lt}
 use mathlib.Core.Path.{sym}
-use borrow.Author.Rules.{rules}
 use Rattle.cyclic.specs.declared.mapping.CyclicMapping.TheVariants.{Forward}
 use Rattle.cyclic.specs.Mapping.{HasIndex}
 use Rattle.cyclic.proofs.Mappings.{inverse_zero, inverse_other, has_index_as, reverse_same}

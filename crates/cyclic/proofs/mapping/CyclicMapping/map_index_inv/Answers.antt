@@ -1,7 +1,6 @@
 -- `cyclic::mapping::CyclicMapping::map_index_inv` meets its contract: `map_index_inv` is `inverse` where the test holds,
 -- and refusal 8 where it does not.
 use mathlib.Core.Path.{sym, ap, ◌∙◌}
-use borrow.Author.Rules.{rules}
 use Rattle.refusal.specs.Refusals.{ok}
 use Rattle.cyclic.specs.Mapping.{map_index_inv}
 use Rattle.cyclic.proofs.Mappings.{usable_known}

@@ -3,7 +3,6 @@ use mathlib.Core.Path.{◌≡◌, sym, ap, ◌∙◌}
 use Rattle.refusal.specs.Refusals.{ok}
 use Rattle.cyclic.specs.declared.seam.Seam.{Seam}
 use Rattle.cyclic.specs.Search.{searched, new_vector}
-use borrow.Author.Rules.{rules}
 use Rattle.cyclic.proofs.Rows.{passed_length, refused_is, answer_is}
 use Rattle.cyclic.proofs.mapping.CyclicMapping.new_vector.Goals as goal
 use Rattle.cyclic.proofs.mapping.CyclicMapping.new_vector.Goals.{After-search-found}

@@ -1,5 +1,4 @@
 -- `cyclic::mapping::CyclicMapping::usable` meets its contract: each variant hands over its offset and steps.
-use borrow.Author.Rules.{rules}
 use Rattle.cyclic.proofs.mapping.CyclicMapping.usable.Goals as goal
 
 pub returns-in-Forward : goal.returns-in-Forward
