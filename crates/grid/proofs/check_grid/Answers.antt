@@ -11,12 +11,12 @@ use Rattle.grid.proofs.check_grid.Goals as goal
 use Rattle.grid.proofs.check_grid.Goals.{Else-not-steps_fit}
 
 -- 1 does not apply
-steps-stand : (e : Else-not-steps_fit) →
+steps_stand : (e : Else-not-steps_fit) →
     steps_fit e.args.m e.args.n ≡ true
-steps-stand e = held e.steps_fit.ensures e.if-not-steps_fit.false-raw
+steps_stand e = held e.steps_fit.ensures e.if-not-steps_fit.false-raw
 
 stepped : (e : Else-not-steps_fit) → Stepped e.args.m e.args.n
-stepped e = steps_known _ _ (steps-stand e)
+stepped e = steps_known _ _ (steps_stand e)
 
 pub returns-then-not-steps_fit : goal.returns-then-not-steps_fit
 unfolding grid_check
@@ -36,18 +36,19 @@ overflow_mul-m-2 c = omega (arith, stepped c)
 
 pub returns-then-grid-m : goal.returns-then-grid-m
 unfolding grid_check
-returns-then-grid-m c = rw (steps-stand (goal.at.returns-then-grid-m c).Else-not-steps_fit, ne_eqb _ _ c.if-grid-m.true)
+returns-then-grid-m c =
+    rw (steps_stand (goal.at.returns-then-grid-m c).Else-not-steps_fit, ne_eqb _ _ c.if-grid-m.true)
 
 pub returns-in-Failed : goal.returns-in-Failed
 unfolding grid_check
 returns-in-Failed c =
-    rw (steps-stand (goal.at.returns-in-Failed c).Else-not-steps_fit, eq-eqb _ _ c.if-grid-m.false, c.in-Failed.is)
+    rw (steps_stand (goal.at.returns-in-Failed c).Else-not-steps_fit, eq-eqb _ _ c.if-grid-m.false, c.in-Failed.is)
 
 pub returns-then-not-coordinates_fit : goal.returns-then-not-coordinates_fit
 unfolding grid_check
 returns-then-not-coordinates_fit c =
     rw (
-      steps-stand (goal.at.returns-then-not-coordinates_fit c).Else-not-steps_fit,
+      steps_stand (goal.at.returns-then-not-coordinates_fit c).Else-not-steps_fit,
       eq-eqb _ _ c.if-grid-m.false,
       c.in_default.is,
       failed c.coordinates_fit.ensures c.if-not-coordinates_fit.true-raw,
@@ -57,7 +58,7 @@ pub returns : goal.returns
 unfolding grid_check
 returns c =
     rw (
-      steps-stand (goal.at.returns c).Else-not-steps_fit,
+      steps_stand (goal.at.returns c).Else-not-steps_fit,
       eq-eqb _ _ c.if-grid-m.false,
       c.in_default.is,
       held c.coordinates_fit.ensures c.if-not-coordinates_fit.false-raw,

@@ -13,26 +13,27 @@ use Rattle.mesh.proofs.Answers.{pairs_most, pairs_filled, lists_written}
 use Rattle.mesh.proofs.triangulate.Goals as goal
 use Rattle.mesh.proofs.triangulate.Goals.{After-build_triangles-count, After-find_flipped-pairs}
 
-triangles-fit : (e : After-build_triangles-count) → let s = e.args.surface in
+triangles_fit : (e : After-build_triangles-count) → let s = e.args.surface in
     3 * e.build_triangles-count.result ≤ 6 * (s.m * s.n)
-triangles-fit e =
+triangles_fit e =
     let b = e.build_triangles-count in
     triangles_most (shape_of e.args.surface) b.result b.new.triangles b.ensures.triangles_after
 
-pairs-fit : (e : After-find_flipped-pairs) → let s = e.args.surface in
+pairs_fit : (e : After-find_flipped-pairs) → let s = e.args.surface in
     2 * e.find_flipped-pairs.result ≤ 2 * (s.m + s.n)
-pairs-fit e =
+pairs_fit e =
     let p = e.find_flipped-pairs in
     pairs_most (shape_of e.args.surface) p.result p.new.flipped p.ensures
 
 pub build_triangles-count-requires : goal.build_triangles-count-requires
-build_triangles-count-requires c = record { bounded = (c.requires.bounded, omega arith); n_in_bounds = c.requires.n_in_bounds.0 }
+build_triangles-count-requires c =
+    record { bounded = (c.requires.bounded, omega arith); n_in_bounds = c.requires.n_in_bounds.0 }
 
 pub overflow_mul-count : goal.overflow_mul-count
-overflow_mul-count c = omega (arith, triangles-fit (goal.at.overflow_mul-count c).After-build_triangles-count)
+overflow_mul-count c = omega (arith, triangles_fit (goal.at.overflow_mul-count c).After-build_triangles-count)
 
 pub overflow_mul-pairs : goal.overflow_mul-pairs
-overflow_mul-pairs c = omega (arith, pairs-fit (goal.at.overflow_mul-pairs c).After-find_flipped-pairs)
+overflow_mul-pairs c = omega (arith, pairs_fit (goal.at.overflow_mul-pairs c).After-find_flipped-pairs)
 
 pub returns : goal.returns
 returns c =
@@ -44,9 +45,19 @@ returns c =
     lists_written s a.triangles.now a.flipped.now
     (c.zero_numbers.ensures
     ∙ triangles_filled s b.result b.new.triangles a.triangles.now all
-    (omega (arith, triangles-fit (goal.at.returns c).After-build_triangles-count, b.auto.triangles, c.requires.n_in_bounds.0)) b.auto.triangles)
+    (omega (
+      arith,
+      triangles_fit (goal.at.returns c).After-build_triangles-count,
+      b.auto.triangles,
+      c.requires.n_in_bounds.0,
+    )) b.auto.triangles)
     (c.zero_numbers-2.ensures
     ∙ pairs_filled s p.result p.new.flipped a.flipped.now p.ensures
-    (omega (arith, pairs-fit (goal.at.returns c).After-find_flipped-pairs, p.auto.flipped, c.requires.n_in_bounds.1)) p.auto.flipped)
+    (omega (
+      arith,
+      pairs_fit (goal.at.returns c).After-find_flipped-pairs,
+      p.auto.flipped,
+      c.requires.n_in_bounds.1,
+    )) p.auto.flipped)
     (held_triangles b.result b.new.triangles all)
     (held_pairs p.result p.new.flipped p.ensures)

@@ -7,22 +7,25 @@ use Rattle.mesh.proofs.triangulate_grid.Goals as goal
 use Rattle.mesh.proofs.triangulate_grid.Goals.{In-Passed}
 
 -- no refusal applies
-let-in : (e : In-Passed) → let a = e.args in
+let_in : (e : In-Passed) → let a = e.args in
     Admitted a.grid.now a.m a.n a.triangles.now a.flipped.now
-let-in e =
+let_in e =
     let a = e.args in
     admitted a.grid.now a.m a.n a.tolerances a.triangles.now a.flipped.now
     (sym e.check_mesh.ensures ∙ e.in-Passed.is)
 
 pub find_seams-seams-requires : goal.find_seams-seams-requires
-find_seams-seams-requires c = (let-in c).accepted
+find_seams-seams-requires c = (let_in c).accepted
 
 pub triangulate-counts-requires : goal.triangulate-counts-requires
 triangulate-counts-requires c =
     let a = c.args in
     let f = c.find_seams-seams in
-    let i = let-in (goal.at.triangulate-counts-requires c).In-Passed in
-    record { bounded = found_bounded a.grid.now a.m a.n a.tolerances i.accepted f.ensures.0 f.ensures.1; n_in_bounds = (i.triangle_room, i.pair_room) }
+    let i = let_in (goal.at.triangulate-counts-requires c).In-Passed in
+    record {
+      bounded = found_bounded a.grid.now a.m a.n a.tolerances i.accepted f.ensures.0 f.ensures.1;
+      n_in_bounds = (i.triangle_room, i.pair_room);
+    }
 
 pub returns-in-Failed : goal.returns-in-Failed
 returns-in-Failed c =

@@ -7,7 +7,8 @@ pub returns-then-count-start-lt2 : goal.returns-then-count-start-lt2
 returns-then-count-start-lt2 c l = flush_drops (with_starts _ l) _ c.requires c.if-count-start-lt2.true
 
 pub returns-then-starts-lines : goal.returns-then-starts-lines
-returns-then-starts-lines c l = flush_full (with_starts _ l) _ c.requires c.if-count-start-lt2.false c.if-starts-lines.true
+returns-then-starts-lines c l =
+    flush_full (with_starts _ l) _ c.requires c.if-count-start-lt2.false c.if-starts-lines.true
 
 pub returns : goal.returns
 returns c l = flush_keeps (with_starts _ l) _ c.requires c.if-count-start-lt2.false c.if-starts-lines.false

@@ -12,13 +12,15 @@ use Rattle.page.proofs.push_segment_point.Goals.{Joined-pen-count, then-pen-coun
 -- past the tests no pending point is close, whatever the starts
 far : (j : Joined-pen-count) (s : List ℕ) →
     let a = j.args in
-    close_to_pending a.tolerance a.c (page (lists a.points.now s a.sides.now a.fractions.now a.samples.now) a.pen) ≡ false
+    close_to_pending a.tolerance a.c
+    (page (lists a.points.now s a.sides.now a.fractions.now a.samples.now) a.pen) ≡ false
 far j s =
     let a = j.args in
     let l = lists a.points.now s a.sides.now a.fractions.now a.samples.now in
     elim j.if-pen-count.branch [
       | then-pen-count+else-all_close w ↦
-          not_close a.tolerance a.c l a.pen w.point_at.ensures w.all_close.ensures w.if-pen-count.true w.if-all_close.false
+          not_close a.tolerance a.c l a.pen w.point_at.ensures w.all_close.ensures w.if-pen-count.true
+          w.if-all_close.false
       | else-pen-count w ↦ none_pending a.tolerance a.c l a.pen w.if-pen-count.false
     ]
 
@@ -28,16 +30,20 @@ returns-then-all_close c s =
     c.if-pen-count.true c.if-all_close.true
 
 pub returns-then-points-count : goal.returns-then-points-count
-returns-then-points-count c s = push_full _ _ (lists _ s _ _ _) _ (far (goal.at.returns-then-points-count c).Joined-pen-count s) (omega arith)
+returns-then-points-count c s =
+    push_full _ _ (lists _ s _ _ _) _ (far (goal.at.returns-then-points-count c).Joined-pen-count s) (omega arith)
 
 pub returns-then-sides-count : goal.returns-then-sides-count
-returns-then-sides-count c s = push_full _ _ (lists _ s _ _ _) _ (far (goal.at.returns-then-sides-count c).Joined-pen-count s) (omega arith)
+returns-then-sides-count c s =
+    push_full _ _ (lists _ s _ _ _) _ (far (goal.at.returns-then-sides-count c).Joined-pen-count s) (omega arith)
 
 pub returns-then-fractions-count : goal.returns-then-fractions-count
-returns-then-fractions-count c s = push_full _ _ (lists _ s _ _ _) _ (far (goal.at.returns-then-fractions-count c).Joined-pen-count s) (omega arith)
+returns-then-fractions-count c s =
+    push_full _ _ (lists _ s _ _ _) _ (far (goal.at.returns-then-fractions-count c).Joined-pen-count s) (omega arith)
 
 pub returns-then-samples-count : goal.returns-then-samples-count
-returns-then-samples-count c s = push_full _ _ (lists _ s _ _ _) _ (far (goal.at.returns-then-samples-count c).Joined-pen-count s) (omega arith)
+returns-then-samples-count c s =
+    push_full _ _ (lists _ s _ _ _) _ (far (goal.at.returns-then-samples-count c).Joined-pen-count s) (omega arith)
 
 pub returns : goal.returns
 returns c s =

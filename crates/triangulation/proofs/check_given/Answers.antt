@@ -23,7 +23,12 @@ seams_fit-requires c = (admitted _ _ _ _ _ _ (passed c)).accepted
 
 pub returns-then-not-seams_fit : goal.returns-then-not-seams_fit
 unfolding given_check
-returns-then-not-seams_fit c = rw (passed (goal.at.returns-then-not-seams_fit c).In_default, failed c.seams_fit.ensures c.if-not-seams_fit.true-raw)
+returns-then-not-seams_fit c =
+    rw (
+      passed (goal.at.returns-then-not-seams_fit c).In_default,
+      failed c.seams_fit.ensures
+          c.if-not-seams_fit.true-raw,
+    )
 
 pub returns : goal.returns
 unfolding given_check

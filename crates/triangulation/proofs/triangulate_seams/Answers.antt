@@ -10,10 +10,10 @@ use Rattle.triangulation.proofs.triangulate_seams.Goals as goal
 use Rattle.triangulation.proofs.triangulate_seams.Goals.{In-Passed}
 
 -- no refusal applies
-let-in : (e : In-Passed) → let a = e.args in
+let_in : (e : In-Passed) → let a = e.args in
     Admitted a.grid.now a.m a.n a.tolerances a.triangles.now a.flipped.now
     × (seams_fit a.grid.now a.m a.n a.tolerances a.u a.v ≡ true)
-let-in e =
+let_in e =
     let a = e.args in
     given_admitted a.grid.now a.m a.n a.tolerances a.triangles.now a.flipped.now a.u a.v
     (sym e.check_given.ensures ∙ e.in-Passed.is)
@@ -21,8 +21,11 @@ let-in e =
 pub triangulate-counts-requires : goal.triangulate-counts-requires
 triangulate-counts-requires c =
     let a = c.args in
-    let i = let-in (goal.at.triangulate-counts-requires c).In-Passed in
-    record { bounded = fitting_bounded a.grid.now a.m a.n a.tolerances a.u a.v i.0.accepted i.1; n_in_bounds = (i.0.triangle_room, i.0.pair_room) }
+    let i = let_in (goal.at.triangulate-counts-requires c).In-Passed in
+    record {
+      bounded = fitting_bounded a.grid.now a.m a.n a.tolerances a.u a.v i.0.accepted i.1;
+      n_in_bounds = (i.0.triangle_room, i.0.pair_room);
+    }
 
 pub returns-in-Failed : goal.returns-in-Failed
 returns-in-Failed c =

@@ -27,7 +27,13 @@ held l = let o = l.loop-i in page (lists o.points o.starts o.sides o.fractions o
 
 -- the events stand in the two scratch lists
 below : (l : At-loop-i) → let o = l.sorted_edge_events-count in o.result ≤ length o.new.lambdas
-below l = omega (arith, l.sorted_edge_events-count.ensures.0, l.sorted_edge_events-count.auto.lambdas, l.requires.lambdas_len.0)
+below l =
+    omega (
+      arith,
+      l.sorted_edge_events-count.ensures.0,
+      l.sorted_edge_events-count.auto.lambdas,
+      l.requires.lambdas_len.0,
+    )
 
 alike : (l : At-loop-i) → let o = l.sorted_edge_events-count in
     length o.new.lambdas ≡ length o.new.codes
@@ -59,7 +65,9 @@ decide-decision-requires c =
     let o = c.sorted_edge_events-count in
     record {
       grid_fits = c.requires.grid_fits;
-      inside = event_inside o.new.lambdas o.new.codes o.result c.loop-i.i (alike (goal.at.decide-decision-requires c).At-loop-i) (below (goal.at.decide-decision-requires c).At-loop-i) c.args.cells
+      inside = event_inside o.new.lambdas o.new.codes o.result c.loop-i.i
+          (alike (goal.at.decide-decision-requires c).At-loop-i)
+          (below (goal.at.decide-decision-requires c).At-loop-i) c.args.cells
           (leg_inside c.args.cells c.args.leg c.requires.grid_fits.0 c.requires.grid_fits.1 o.ensures.1)
           c.loop-i-test.true c.event_at-event.ensures;
     }
@@ -90,7 +98,8 @@ returns-in-Stop c =
     let a = c.args in
     let o = c.sorted_edge_events-count in
     turn_stops a.tolerance a.sample a.grid.now a.cells a.leg o.new.lambdas o.new.codes o.result
-    c.loop-i.i (below (goal.at.returns-in-Stop c).At-loop-i) (alike (goal.at.returns-in-Stop c).At-loop-i) c.loop-i-test.true _ _
+    c.loop-i.i (below (goal.at.returns-in-Stop c).At-loop-i) (alike (goal.at.returns-in-Stop c).At-loop-i)
+    c.loop-i-test.true _ _
     c.event_at-event.ensures c.lambda_or_one-next.ensures c.decide-decision.ensures
     (whole (goal.at.returns-in-Stop c).At-loop-i ∙ c.loop-i.invariant.3) c.draw_event.ensures c.in-Stop.is
 
@@ -108,12 +117,16 @@ loop-i-preserved c =
     let ms = moves_by a.sample (moves_of c.decide-decision.result) in
     let first = (lent (goal.at.loop-i-preserved c).Start).lists in (
       omega (arith, c.loop-i-test.true),
-      down_holds (SizedPage first) (on_page a.tolerance ms (held (goal.at.loop-i-preserved c).At-loop-i)) c.draw_event.ensures
-          c.in-Down.is (moves_sized first a.tolerance ms (held (goal.at.loop-i-preserved c).At-loop-i) c.loop-i.invariant.1),
-      down_holds Fitting (on_page a.tolerance ms (held (goal.at.loop-i-preserved c).At-loop-i)) c.draw_event.ensures c.in-Down.is
+      down_holds (SizedPage first) (on_page a.tolerance ms (held (goal.at.loop-i-preserved c).At-loop-i))
+          c.draw_event.ensures
+          c.in-Down.is
+          (moves_sized first a.tolerance ms (held (goal.at.loop-i-preserved c).At-loop-i) c.loop-i.invariant.1),
+      down_holds Fitting (on_page a.tolerance ms (held (goal.at.loop-i-preserved c).At-loop-i))
+          c.draw_event.ensures c.in-Down.is
           (moves_fit a.tolerance ms (held (goal.at.loop-i-preserved c).At-loop-i) c.loop-i.invariant.2),
       turn_goes a.tolerance a.sample a.grid.now a.cells a.leg o.new.lambdas o.new.codes o.result
-          c.loop-i.i (below (goal.at.loop-i-preserved c).At-loop-i) (alike (goal.at.loop-i-preserved c).At-loop-i) c.loop-i-test.true _ _
+          c.loop-i.i (below (goal.at.loop-i-preserved c).At-loop-i) (alike (goal.at.loop-i-preserved c).At-loop-i)
+          c.loop-i-test.true _ _
           c.event_at-event.ensures c.lambda_or_one-next.ensures c.decide-decision.ensures
           c.loop-i.invariant.3 c.draw_event.ensures c.in-Down.is,
     )
@@ -126,8 +139,10 @@ returns c =
     let a = c.args in
     let o = c.sorted_edge_events-count in
     rw (
-      whole (goal.at.returns c).At-loop-i ∙ c.loop-i.invariant.3 ∙ leg_ends a.tolerance a.sample a.grid.now a.cells a.leg o.new.lambdas
-          o.new.codes o.result c.loop-i.i (below (goal.at.returns c).At-loop-i) (alike (goal.at.returns c).At-loop-i) _ _ c.loop-i-test.false,
+      whole (goal.at.returns c).At-loop-i ∙ c.loop-i.invariant.3 ∙ leg_ends a.tolerance a.sample a.grid.now
+          a.cells a.leg o.new.lambdas
+          o.new.codes o.result c.loop-i.i (below (goal.at.returns c).At-loop-i)
+          (alike (goal.at.returns c).At-loop-i) _ _ c.loop-i-test.false,
       ← c.param_in_bounds.ensures,
     )
     (c.flush_unless.ensures (held (goal.at.returns c).At-loop-i).lists)

@@ -10,10 +10,12 @@ use Rattle.walk.proofs.append_edge_crossings.Given as goal
 
 abbrev pub invariant-loop-i : goal.invariant-loop-i
 invariant-loop-i l = (l.i ≤ l.count)
-    × Sized (lists l.initial.points l.initial.starts l.initial.sides l.initial.fractions l.initial.samples) (lists l.points l.starts l.sides l.fractions l.samples)
+    × Sized (lists l.initial.points l.initial.starts l.initial.sides l.initial.fractions l.initial.samples)
+    (lists l.points l.starts l.sides l.fractions l.samples)
     × PenFits l.points l.pen
     × (left l.tolerance l.sample l.grid l.cells l.leg (events_in l.lambdas l.codes l.count) zero64
-    (page (lists l.initial.points l.initial.starts l.initial.sides l.initial.fractions l.initial.samples) l.initial.pen)
+    (page (lists l.initial.points l.initial.starts l.initial.sides l.initial.fractions l.initial.samples)
+    l.initial.pen)
     ≡ left l.tolerance l.sample l.grid l.cells l.leg (drop l.i (events_in l.lambdas l.codes l.count)) l.previous
     (page (lists l.points l.starts l.sides l.fractions l.samples) l.pen))
 

@@ -14,8 +14,8 @@ lent s =
     page (lists a.points.now a.starts.now a.sides.now a.fractions.now a.samples.now) a.pen
 
 -- the lists that a push leaves
-abbrev lent-on : After-push_segment_point → Lists
-lent-on p =
+abbrev lent_on : After-push_segment_point → Lists
+lent_on p =
     let o = p.push_segment_point.new in
     lists o.points p.args.starts.now o.sides o.fractions o.samples
 
@@ -29,11 +29,12 @@ pub returns-in-Down : goal.returns-in-Down
 returns-in-Down c =
     draws_point c.args.tolerance c.args.sample c.args.decision (lent (goal.at.returns-in-Down c).Start) c.in-Push.is
     (c.push_segment_point.ensures c.args.starts.now) c.in-Down.is
-    (c.flush_unless.ensures (lent-on (goal.at.returns-in-Down c).After-push_segment_point))
+    (c.flush_unless.ensures (lent_on (goal.at.returns-in-Down c).After-push_segment_point))
 
 pub returns-in-Stop-push_segment_point : goal.returns-in-Stop-push_segment_point
 returns-in-Stop-push_segment_point c =
-    draws_full c.args.tolerance c.args.sample c.args.decision (lent (goal.at.returns-in-Stop-push_segment_point c).Start) c.in-Push.is
+    draws_full c.args.tolerance c.args.sample c.args.decision
+    (lent (goal.at.returns-in-Stop-push_segment_point c).Start) c.in-Push.is
     (c.push_segment_point.ensures c.args.starts.now) c.in-Stop-push_segment_point.is
 
 pub returns-in-Pass : goal.returns-in-Pass

@@ -24,16 +24,19 @@ returns-then-not-row_fits c =
 
 pub returns-then-not-tolerance_fits : goal.returns-then-not-tolerance_fits
 returns-then-not-tolerance_fits c =
-    sym (no_tolerance _ _ _ (lengths (goal.at.returns-then-not-tolerance_fits c).Else-not-row_fits) (failed c.tolerance_fits.ensures c.if-not-tolerance_fits.true-raw))
+    sym (no_tolerance _ _ _ (lengths (goal.at.returns-then-not-tolerance_fits c).Else-not-row_fits)
+    (failed c.tolerance_fits.ensures c.if-not-tolerance_fits.true-raw))
 
 pub returns-then-not-coordinates_fit : goal.returns-then-not-coordinates_fit
 returns-then-not-coordinates_fit c =
-    sym (no_coordinate _ _ _ (lengths (goal.at.returns-then-not-coordinates_fit c).Else-not-row_fits) (fits (goal.at.returns-then-not-coordinates_fit c).Else-not-tolerance_fits)
+    sym (no_coordinate _ _ _ (lengths (goal.at.returns-then-not-coordinates_fit c).Else-not-row_fits)
+    (fits (goal.at.returns-then-not-coordinates_fit c).Else-not-tolerance_fits)
     (failed (ap₂ ◌&&◌ c.coordinates_fit.ensures c.coordinates_fit-2.ensures)
     c.if-not-coordinates_fit.true-raw))
 
 pub returns : goal.returns
 returns c =
-    sym (rows_pass _ _ _ (lengths (goal.at.returns c).Else-not-row_fits) (fits (goal.at.returns c).Else-not-tolerance_fits)
+    sym (rows_pass _ _ _ (lengths (goal.at.returns c).Else-not-row_fits)
+    (fits (goal.at.returns c).Else-not-tolerance_fits)
     (held (ap₂ ◌&&◌ c.coordinates_fit.ensures c.coordinates_fit-2.ensures)
     c.if-not-coordinates_fit.false-raw))

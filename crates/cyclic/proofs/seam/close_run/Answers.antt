@@ -56,16 +56,22 @@ pub points_near-requires : goal.points_near-requires
 points_near-requires c = first c
 
 pub overflow_add-a_start-in-loop-run : goal.overflow_add-a_start-in-loop-run
-overflow_add-a_start-in-loop-run c = omega (arith, first (goal.at.overflow_add-a_start-in-loop-run c).After-opposite-next)
+overflow_add-a_start-in-loop-run c =
+    omega (arith, first (goal.at.overflow_add-a_start-in-loop-run c).After-opposite-next)
 
 pub overflow_add-a_start-in-loop-run-2 : goal.overflow_add-a_start-in-loop-run-2
-overflow_add-a_start-in-loop-run-2 c = omega (arith, second (goal.at.overflow_add-a_start-in-loop-run-2 c).After-opposite-next)
+overflow_add-a_start-in-loop-run-2 c =
+    omega (arith, second (goal.at.overflow_add-a_start-in-loop-run-2 c).After-opposite-next)
 
 pub overflow_add-b_start-in-loop-run : goal.overflow_add-b_start-in-loop-run
-overflow_add-b_start-in-loop-run c = omega (arith, second (goal.at.overflow_add-b_start-in-loop-run c).After-opposite-next)
+overflow_add-b_start-in-loop-run c =
+    omega (arith, second (goal.at.overflow_add-b_start-in-loop-run c).After-opposite-next)
 
 pub points_near-requires-in-loop-run : goal.points_near-requires-in-loop-run
-points_near-requires-in-loop-run c = (omega (arith, second (goal.at.points_near-requires-in-loop-run c).After-opposite-next), (second (goal.at.points_near-requires-in-loop-run c).After-opposite-next).1)
+points_near-requires-in-loop-run c = (
+  omega (arith, second (goal.at.points_near-requires-in-loop-run c).After-opposite-next),
+  (second (goal.at.points_near-requires-in-loop-run c).After-opposite-next).1,
+)
 
 pub returns-then-not-points_near : goal.returns-then-not-points_near
 returns-then-not-points_near c = c.loop-run.invariant
@@ -74,11 +80,13 @@ pub loop-run-preserved : goal.loop-run-preserved
 loop-run-preserved c =
     let a = row_of c.args.a.now c.args.a_start c.args.stride in
     let b = row_of c.args.b.now c.args.b_start c.args.stride in
-    let both = and_both c.points_near.result c.points_near-in-loop-run.result (not-false _ c.if-not-points_near.false-raw) in (
+    let both = and_both c.points_near.result c.points_near-in-loop-run.result
+    (not-false _ c.if-not-points_near.false-raw) in (
       omega arith,
       two_longer (close_at c.args.tolerance) a b c.args.steps c.args.reverse c.loop-run.run c.loop-run.invariant.1
           (close_next c.requires c.if-stride-ne1.false c.args.reverse c.loop-run.run c.opposite-k.ensures
-          (close_at c.args.tolerance) refl (coarser (goal.at.loop-run-preserved c).At-loop-run _ _ (c.points_near.ensures both.0)))
+          (close_at c.args.tolerance) refl
+          (coarser (goal.at.loop-run-preserved c).At-loop-run _ _ (c.points_near.ensures both.0)))
           (close_next c.requires c.if-stride-ne1.false c.args.reverse (c.loop-run.run + 1)
           c.opposite-next.ensures (close_at c.args.tolerance) (omega arith)
           (coarser (goal.at.loop-run-preserved c).At-loop-run _ _ (c.points_near-in-loop-run.ensures both.1))),

@@ -7,9 +7,15 @@ pub returns-then-points_close : goal.returns-then-points_close
 unfolding closed
 returns-then-points_close c =
     let s = c.args in
-    let first-a = row_start s.a.now s.a_start s.stride in
-    let first-b = row_start s.b.now s.b_start s.stride in
-    rw (← first-a, ← c.points_close.ensures, c.if-points_close.true, ← first-b, ← c.points_close-then-points_close.ensures)
+    let first_a = row_start s.a.now s.a_start s.stride in
+    let first_b = row_start s.b.now s.b_start s.stride in
+    rw (
+      ← first_a,
+      ← c.points_close.ensures,
+      c.if-points_close.true,
+      ← first_b,
+      ← c.points_close-then-points_close.ensures,
+    )
 
 pub returns : goal.returns
 unfolding closed

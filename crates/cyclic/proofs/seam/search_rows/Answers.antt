@@ -15,16 +15,16 @@ use Rattle.cyclic.proofs.seam.search_rows.Goals.{At-loop-made, At-loop-made-2, E
 use Rattle.cyclic.proofs.seam.search_rows.Goals.{then-offset-eq0, else-offset-eq0, then-offset-eq0-2, else-offset-eq0-2}
 
 -- points j and k stand in the lists of their rows
-stand-forward : (l : At-loop-made) →
+stand_forward : (l : At-loop-made) →
     let s = l.args in
     Stand s.a.now (s.a_start + l.loop-made.j * s.stride) s.b.now (s.b_start + l.loop-made.k * s.stride)
-stand-forward l =
+stand_forward l =
     inside l.requires l.loop-made.j l.loop-made.k l.loop-made.invariant.index.2 l.loop-made.invariant.other
 
-stand-reverse : (r : At-loop-made-2) →
+stand_reverse : (r : At-loop-made-2) →
     let s = r.args in
     Stand s.a.now (s.a_start + r.loop-made-2.j * s.stride) s.b.now (s.b_start + r.loop-made-2.k * s.stride)
-stand-reverse r =
+stand_reverse r =
     inside r.requires r.loop-made-2.j r.loop-made-2.k
     r.loop-made-2.invariant.index.2 r.loop-made-2.invariant.other
 
@@ -58,19 +58,19 @@ loop-made-init c =
     ]
 
 pub overflow_mul-j : goal.overflow_mul-j
-overflow_mul-j c = omega (arith, stand-forward c)
+overflow_mul-j c = omega (arith, stand_forward c)
 
 pub overflow_add-a_start : goal.overflow_add-a_start
-overflow_add-a_start c = omega (arith, stand-forward c)
+overflow_add-a_start c = omega (arith, stand_forward c)
 
 pub overflow_mul-k : goal.overflow_mul-k
-overflow_mul-k c = omega (arith, stand-forward c)
+overflow_mul-k c = omega (arith, stand_forward c)
 
 pub overflow_add-b_start : goal.overflow_add-b_start
-overflow_add-b_start c = omega (arith, stand-forward c)
+overflow_add-b_start c = omega (arith, stand_forward c)
 
 pub points_close-requires : goal.points_close-requires
-points_close-requires c = stand-forward c
+points_close-requires c = stand_forward c
 
 pub loop-made-preserved : goal.loop-made-preserved
 loop-made-preserved c =
@@ -94,28 +94,30 @@ loop-made-2-init c =
     ]
 
 pub overflow_mul-j-in-loop-made-2 : goal.overflow_mul-j-in-loop-made-2
-overflow_mul-j-in-loop-made-2 c = omega (arith, stand-reverse c)
+overflow_mul-j-in-loop-made-2 c = omega (arith, stand_reverse c)
 
 pub overflow_add-a_start-in-loop-made-2 : goal.overflow_add-a_start-in-loop-made-2
-overflow_add-a_start-in-loop-made-2 c = omega (arith, stand-reverse c)
+overflow_add-a_start-in-loop-made-2 c = omega (arith, stand_reverse c)
 
 pub overflow_mul-k-in-loop-made-2 : goal.overflow_mul-k-in-loop-made-2
-overflow_mul-k-in-loop-made-2 c = omega (arith, stand-reverse c)
+overflow_mul-k-in-loop-made-2 c = omega (arith, stand_reverse c)
 
 pub overflow_add-b_start-in-loop-made-2 : goal.overflow_add-b_start-in-loop-made-2
-overflow_add-b_start-in-loop-made-2 c = omega (arith, stand-reverse c)
+overflow_add-b_start-in-loop-made-2 c = omega (arith, stand_reverse c)
 
 pub points_close-requires-in-loop-made-2 : goal.points_close-requires-in-loop-made-2
-points_close-requires-in-loop-made-2 c = stand-reverse c
+points_close-requires-in-loop-made-2 c = stand_reverse c
 
 pub loop-made-2-preserved : goal.loop-made-2-preserved
 loop-made-2-preserved c =
-    next_point c.loop-made-2.invariant c.points_close-in-loop-made-2.ensures c.if-not-points_close-2.false-raw c.if-j-steps-2.false
+    next_point c.loop-made-2.invariant c.points_close-in-loop-made-2.ensures c.if-not-points_close-2.false-raw
+    c.if-j-steps-2.false
     (c.back-k.ensures c.loop-made-2.j (omega arith) c.loop-made-2.invariant.mapped)
 
 pub offsets-preserved : goal.offsets-preserved
 offsets-preserved c =
-    next_offset c.offsets.invariant c.if-offset-end.false (omega (arith, c.loop-made.invariant.index, c.loop-made-2.invariant.index))
+    next_offset c.offsets.invariant c.if-offset-end.false
+    (omega (arith, c.loop-made.invariant.index, c.loop-made-2.invariant.index))
     (far_point c.loop-made.invariant c.points_close.ensures c.if-not-points_close.true-raw)
     (far_point c.loop-made-2.invariant c.points_close-in-loop-made-2.ensures c.if-not-points_close-2.true-raw)
 
@@ -134,4 +136,5 @@ returns-then-j-steps-2 c =
     c.joined-then-j-steps-2.ensures
     ∙ sym (reverse_fits c.offsets.invariant c.if-offset-end.false
     (far_point c.loop-made.invariant c.points_close.ensures c.if-not-points_close.true-raw)
-    (last_point c.loop-made-2.invariant c.points_close-in-loop-made-2.ensures c.if-not-points_close-2.false-raw c.if-j-steps-2.true))
+    (last_point c.loop-made-2.invariant c.points_close-in-loop-made-2.ensures c.if-not-points_close-2.false-raw
+    c.if-j-steps-2.true))

@@ -23,17 +23,19 @@ cells : (e : After-index_of-v1) →
 cells e =
     let a = e.args in
     four_cells a.cells a.point
-    (to_z-of_z w64 e.floor_i64-u_floor.result (record { sfits = e.floor_i64-u_floor.type_inv }) ∙ e.floor_i64-u_floor.ensures)
-    (to_z-of_z w64 e.floor_i64-v_floor.result (record { sfits = e.floor_i64-v_floor.type_inv }) ∙ e.floor_i64-v_floor.ensures)
+    (to_z-of_z w64 e.floor_i64-u_floor.result (record { sfits = e.floor_i64-u_floor.type_inv }) ∙
+    e.floor_i64-u_floor.ensures)
+    (to_z-of_z w64 e.floor_i64-v_floor.result (record { sfits = e.floor_i64-v_floor.type_inv }) ∙
+    e.floor_i64-v_floor.ensures)
     e.index_before-u0.ensures e.index_of-u1.ensures
     e.index_before-v0.ensures e.index_of-v1.ensures
 
 -- neither cell of the earlier u fits
-before-none : (c : Joined-in_cell) →
+before_none : (c : Joined-in_cell) →
     let p = c.args.point in
     let u0 = c.index_before-u0.result in
     (try_cell p u0 c.index_before-v0.result ≡ NoCell) × (try_cell p u0 c.index_of-v1.result ≡ NoCell)
-before-none c =
+before_none c =
     let p = c.args.point in
     let u0 = c.index_before-u0.result in
     elim c.if-in_cell.branch [
@@ -53,12 +55,15 @@ returns-in-Cell c =
 
 pub returns-in-Cell-try_cell : goal.returns-in-Cell-try_cell
 returns-in-Cell-try_cell c =
-    second_fits (cells (goal.at.returns-in-Cell-try_cell c).After-index_of-v1) (sym c.try_cell.ensures ∙ c.in_default.is)
+    second_fits (cells (goal.at.returns-in-Cell-try_cell c).After-index_of-v1)
+    (sym c.try_cell.ensures ∙ c.in_default.is)
     (sym c.try_cell-then-in_cell.ensures ∙ c.in-Cell-try_cell.is)
 
 pub returns-in-Cell-try_cell-2 : goal.returns-in-Cell-try_cell-2
 returns-in-Cell-try_cell-2 c =
-    third_fits (cells (goal.at.returns-in-Cell-try_cell-2 c).After-index_of-v1) (before-none (goal.at.returns-in-Cell-try_cell-2 c).Joined-in_cell) (sym c.try_cell-then-in_cell-2.ensures ∙ c.in-Cell-try_cell-2.is)
+    third_fits (cells (goal.at.returns-in-Cell-try_cell-2 c).After-index_of-v1)
+    (before_none (goal.at.returns-in-Cell-try_cell-2 c).Joined-in_cell)
+    (sym c.try_cell-then-in_cell-2.ensures ∙ c.in-Cell-try_cell-2.is)
 
 pub returns : goal.returns
 returns c =
@@ -69,5 +74,5 @@ returns c =
       | then-in_cell-2+in_default-try_cell-2 w ↦ sym w.try_cell-then-in_cell-2.ensures ∙ w.in_default-try_cell-2.is
       | else-in_cell-2 w ↦ not_in_v c.args.point u1 v0 (sym c.in_cell-2.ensures ∙ w.if-in_cell-2.false)
     ] in
-    fourth_left (cells (goal.at.returns c).After-index_of-v1) (before-none (goal.at.returns c).Joined-in_cell) out
+    fourth_left (cells (goal.at.returns c).After-index_of-v1) (before_none (goal.at.returns c).Joined-in_cell) out
     c.try_cell-2.ensures

@@ -26,11 +26,14 @@ overflow_cast-k c =
 
 pub returns-then-k-n : goal.returns-then-k-n
 returns-then-k-n c =
-    rw (back (goal.at.returns-then-k-n c).Start) (index_in c.args.z c.args.n (not_below (goal.at.returns-then-k-n c).Then-z-ge0) (rw (back (goal.at.returns-then-k-n c).Start) at c.if-k-n.true))
+    rw (back (goal.at.returns-then-k-n c).Start)
+    (index_in c.args.z c.args.n (not_below (goal.at.returns-then-k-n c).Then-z-ge0)
+    (rw (back (goal.at.returns-then-k-n c).Start) at c.if-k-n.true))
 
 pub returns-else-k-n : goal.returns-else-k-n
 returns-else-k-n c =
     index_out c.args.z c.args.n (rw (back (goal.at.returns-else-k-n c).Start) at c.if-k-n.false)
 
 pub returns-else-z-ge0 : goal.returns-else-z-ge0
-returns-else-z-ge0 c = index_neg c.args.z c.args.n (rw (back (goal.at.returns-else-z-ge0 c).Start) at c.if-z-ge0.false)
+returns-else-z-ge0 c =
+    index_neg c.args.z c.args.n (rw (back (goal.at.returns-else-z-ge0 c).Start) at c.if-z-ge0.false)

@@ -32,7 +32,8 @@ returns-in_default c =
 pub returns-then-not-param_in_bounds : goal.returns-then-not-param_in_bounds
 returns-then-not-param_in_bounds c =
     let a = c.args in
-    crossing_out a.cells a.leg (found (goal.at.returns-then-not-param_in_bounds c).After-lambda_at) c.in-Lambda.is c.at-point.ensures
+    crossing_out a.cells a.leg (found (goal.at.returns-then-not-param_in_bounds c).After-lambda_at) c.in-Lambda.is
+    c.at-point.ensures
     (failed c.param_in_bounds.ensures c.if-not-param_in_bounds.true-raw)
 
 pub returns-in_default-diagonal_cell_at : goal.returns-in_default-diagonal_cell_at

@@ -15,16 +15,17 @@ use Rattle.edges.proofs.event.edge_at_point.Goals.{Else-not-param_in_bounds, In_
 inside : (i : Else-not-param_in_bounds) → let a = i.args in param_in_bounds a.cells a.point ≡ true
 inside i = held i.param_in_bounds.ensures i.if-not-param_in_bounds.false-raw
 
-no-u : (e : In_default) →
+no_u : (e : In_default) →
     let a = e.args in integer_step a.point.u a.cells.m ≡ Between
-no-u e = sym e.integer_step.ensures ∙ e.in_default.is
+no_u e = sym e.integer_step.ensures ∙ e.in_default.is
 
 -- off the lines, the cell at the point decides
-on-no-line : (e : In_default-integer_step) → let a = e.args in
+on_no_line : (e : In_default-integer_step) → let a = e.args in
     diagonal_at (diagonal_cell_at a.cells a.point) ≡ edge_at_point a.cells a.point
-on-no-line e =
+on_no_line e =
     let a = e.args in
-    edge_diagonal a.cells a.point ((held e.param_in_bounds.ensures e.if-not-param_in_bounds.false-raw)) ((sym e.integer_step.ensures ∙ e.in_default.is))
+    edge_diagonal a.cells a.point ((held e.param_in_bounds.ensures e.if-not-param_in_bounds.false-raw))
+    ((sym e.integer_step.ensures ∙ e.in_default.is))
     (sym e.integer_step-2.ensures ∙ e.in_default-integer_step.is)
 
 pub returns-then-not-param_in_bounds : goal.returns-then-not-param_in_bounds
@@ -35,20 +36,22 @@ returns-then-not-param_in_bounds c =
 pub returns-in-Step : goal.returns-in-Step
 returns-in-Step c =
     let a = c.args in
-    edge_u a.cells a.point (inside (goal.at.returns-in-Step c).Else-not-param_in_bounds) (sym c.integer_step.ensures ∙ c.in-Step.is)
+    edge_u a.cells a.point (inside (goal.at.returns-in-Step c).Else-not-param_in_bounds)
+    (sym c.integer_step.ensures ∙ c.in-Step.is)
 
 pub returns-in-Step-integer_step : goal.returns-in-Step-integer_step
 returns-in-Step-integer_step c =
     let a = c.args in
-    edge_v a.cells a.point (inside (goal.at.returns-in-Step-integer_step c).Else-not-param_in_bounds) (no-u (goal.at.returns-in-Step-integer_step c).In_default)
+    edge_v a.cells a.point (inside (goal.at.returns-in-Step-integer_step c).Else-not-param_in_bounds)
+    (no_u (goal.at.returns-in-Step-integer_step c).In_default)
     (sym c.integer_step-2.ensures ∙ c.in-Step-integer_step.is)
 
 pub returns-in-Cell : goal.returns-in-Cell
 returns-in-Cell c =
     ap diagonal_at (sym c.in-Cell.is ∙ c.diagonal_cell_at.ensures)
-    ∙ on-no-line (goal.at.returns-in-Cell c).In_default-integer_step
+    ∙ on_no_line (goal.at.returns-in-Cell c).In_default-integer_step
 
 pub returns : goal.returns
 returns c =
     ap diagonal_at (sym c.in_default-diagonal_cell_at.is ∙ c.diagonal_cell_at.ensures)
-    ∙ on-no-line (goal.at.returns c).In_default-integer_step
+    ∙ on_no_line (goal.at.returns c).In_default-integer_step

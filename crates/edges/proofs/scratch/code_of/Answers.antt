@@ -7,23 +7,23 @@ use Rattle.edges.proofs.scratch.code_of.Goals as goal
 use Rattle.edges.proofs.scratch.code_of.Goals.{In-Diagonal, In-U, In-V}
 
 -- the bound on the side, for each kind
-u-most : (c : In-U) → c.in-U.u ≤ 255
-u-most c = rw c.in-U.is at c.requires
+u_most : (c : In-U) → c.in-U.u ≤ 255
+u_most c = rw c.in-U.is at c.requires
 
-v-most : (c : In-V) → c.in-V.v ≤ 255
-v-most c = rw c.in-V.is at c.requires
+v_most : (c : In-V) → c.in-V.v ≤ 255
+v_most c = rw c.in-V.is at c.requires
 
 cell_below : (c : In-Diagonal) → (c.in-Diagonal.u < 255) × (c.in-Diagonal.v < 255)
 cell_below c = rw c.in-Diagonal.is at c.requires
 
 pub overflow_cast-result : goal.overflow_cast-result
-overflow_cast-result c = omega (arith, u-most c)
+overflow_cast-result c = omega (arith, u_most c)
 
 pub overflow_cast-result-in-V : goal.overflow_cast-result-in-V
-overflow_cast-result-in-V c = omega (arith, v-most c)
+overflow_cast-result-in-V c = omega (arith, v_most c)
 
 pub overflow_add-result : goal.overflow_add-result
-overflow_add-result c = omega (arith, v-most c)
+overflow_add-result c = omega (arith, v_most c)
 
 pub overflow_cast-result-in-Diagonal : goal.overflow_cast-result-in-Diagonal
 overflow_cast-result-in-Diagonal c = omega (arith, cell_below c)

@@ -13,11 +13,16 @@ back c = to_z-of_z w64 c.args.z c.ranges.z
 
 pub overflow_cast-result : goal.overflow_cast-result
 overflow_cast-result c =
-    rw (back (goal.at.overflow_cast-result c).Start) (nonneg_of c.args.z (rw (back (goal.at.overflow_cast-result c).Start) at c.if-z-ge0.true), abs_fits c.args.z c.ranges.z)
+    rw (back (goal.at.overflow_cast-result c).Start) (
+      nonneg_of c.args.z (rw (back (goal.at.overflow_cast-result c).Start) at c.if-z-ge0.true),
+      abs_fits c.args.z
+          c.ranges.z,
+    )
 
 pub returns-then-z-ge0 : goal.returns-then-z-ge0
 returns-then-z-ge0 c =
-    rw (back (goal.at.returns-then-z-ge0 c).Start) (count_in_lem c.args.z (rw (back (goal.at.returns-then-z-ge0 c).Start) at c.if-z-ge0.true) c.ranges.z)
+    rw (back (goal.at.returns-then-z-ge0 c).Start)
+    (count_in_lem c.args.z (rw (back (goal.at.returns-then-z-ge0 c).Start) at c.if-z-ge0.true) c.ranges.z)
 
 pub returns-else-z-ge0 : goal.returns-else-z-ge0
 returns-else-z-ge0 c =

@@ -14,7 +14,9 @@ reached : (c : After-count_of-first) → let a = c.args in
 reached c = cc (to_z-of_z w64 c.ceil_i64.result (record { sfits = c.ceil_i64.type_inv }))
 
 pub returns-then-first-lt1 : goal.returns-then-first-lt1
-returns-then-first-lt1 c = omega (arith, reached (goal.at.returns-then-first-lt1 c).After-count_of-first, c.if-first-lt1.true)
+returns-then-first-lt1 c =
+    omega (arith, reached (goal.at.returns-then-first-lt1 c).After-count_of-first, c.if-first-lt1.true)
 
 pub returns-else-first-lt1 : goal.returns-else-first-lt1
-returns-else-first-lt1 c = omega (arith, reached (goal.at.returns-else-first-lt1 c).After-count_of-first, c.if-first-lt1.false)
+returns-else-first-lt1 c =
+    omega (arith, reached (goal.at.returns-else-first-lt1 c).After-count_of-first, c.if-first-lt1.false)

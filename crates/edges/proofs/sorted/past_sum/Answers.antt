@@ -14,7 +14,9 @@ reached : (c : After-count_of-past) → let a = c.args in
 reached c = cc (to_z-of_z w64 c.floor_i64.result (record { sfits = c.floor_i64.type_inv }))
 
 pub returns-then-past-end : goal.returns-then-past-end
-returns-then-past-end c = omega (arith, reached (goal.at.returns-then-past-end c).After-count_of-past, c.if-past-end.true)
+returns-then-past-end c =
+    omega (arith, reached (goal.at.returns-then-past-end c).After-count_of-past, c.if-past-end.true)
 
 pub returns-else-past-end : goal.returns-else-past-end
-returns-else-past-end c = omega (arith, reached (goal.at.returns-else-past-end c).After-count_of-past, c.if-past-end.false)
+returns-else-past-end c =
+    omega (arith, reached (goal.at.returns-else-past-end c).After-count_of-past, c.if-past-end.false)

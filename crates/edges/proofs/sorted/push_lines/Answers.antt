@@ -24,7 +24,8 @@ returns-then-not-abs c =
     let a = c.args in
     let already = events_in a.lambdas.now a.codes.now a.count in (
       search rules,
-      lines_none a.axis a.cells a.leg already (failed (test (goal.at.returns-then-not-abs c).After-abs) c.if-not-abs.true-raw),
+      lines_none a.axis a.cells a.leg already
+          (failed (test (goal.at.returns-then-not-abs c).After-abs) c.if-not-abs.true-raw),
       c.requires.1,
     )
 
@@ -40,7 +41,8 @@ loop-step-init c =
       lambdas_length = c.requires.0.lambdas_length;
       codes_length = c.requires.0.codes_length;
       left =
-          lines_start a.axis a.cells a.leg already (held (test (goal.at.loop-step-init c).After-abs) c.if-not-abs.false-raw)
+          lines_start a.axis a.cells a.leg already
+          (held (test (goal.at.loop-step-init c).After-abs) c.if-not-abs.false-raw)
           c.steps_on-step-end.ensures;
       sorted = c.requires.1;
     }

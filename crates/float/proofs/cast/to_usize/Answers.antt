@@ -9,7 +9,10 @@ pub truncating_f64_to_u64-requires : goal.truncating_f64_to_u64-requires
 unfolding of_bits
 truncating_f64_to_u64-requires c =
     let x = c.args.x in
-    record { lower_bound = (asked x (above_minus x c.if-x.true) c.if-x-2.true).0; upper_bound = (asked x (above_minus x c.if-x.true) c.if-x-2.true).1 }
+    record {
+      lower_bound = (asked x (above_minus x c.if-x.true) c.if-x-2.true).0;
+      upper_bound = (asked x (above_minus x c.if-x.true) c.if-x-2.true).1;
+    }
 
 pub returns-then-x-2 : goal.returns-then-x-2
 returns-then-x-2 c = c.truncating_f64_to_u64.ensures

@@ -13,21 +13,22 @@ returns-then-x-y-2 c = sym (order_greater _ _ c.if-x-y-2.true)
 pub returns-then-minus_x-minus_y : goal.returns-then-minus_x-minus_y
 returns-then-minus_x-minus_y c =
     let not_less = c.if-x-y.false in
-    let not-greater = c.if-x-y-2.false in
-    sym (order_zeros _ _ (not_less, not-greater) c.is_negative-minus_x.ensures c.is_negative-minus_y.ensures c.if-minus_x-minus_y.true)
+    let not_greater = c.if-x-y-2.false in
+    sym (order_zeros _ _ (not_less, not_greater) c.is_negative-minus_x.ensures c.is_negative-minus_y.ensures
+    c.if-minus_x-minus_y.true)
 
 pub returns-then-minus_x-minus_y-2 : goal.returns-then-minus_x-minus_y-2
 returns-then-minus_x-minus_y-2 c =
     let not_less = c.if-x-y.false in
-    let not-greater = c.if-x-y-2.false in
+    let not_greater = c.if-x-y-2.false in
     sym
-    (order_zeros_back _ _ (not_less, not-greater) c.is_negative-minus_x.ensures c.is_negative-minus_y.ensures
+    (order_zeros_back _ _ (not_less, not_greater) c.is_negative-minus_x.ensures c.is_negative-minus_y.ensures
     c.if-minus_x-minus_y.false c.if-minus_x-minus_y-2.true)
 
 pub returns : goal.returns
 returns c =
     let not_less = c.if-x-y.false in
-    let not-greater = c.if-x-y-2.false in
+    let not_greater = c.if-x-y-2.false in
     sym
-    (order_same _ _ (not_less, not-greater) c.is_negative-minus_x.ensures c.is_negative-minus_y.ensures
+    (order_same _ _ (not_less, not_greater) c.is_negative-minus_x.ensures c.is_negative-minus_y.ensures
     c.if-minus_x-minus_y.false c.if-minus_x-minus_y-2.false)

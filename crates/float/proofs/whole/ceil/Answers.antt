@@ -17,7 +17,9 @@ truncating_f64_to_u64-t-requires c = record { lower_bound = (small c).asked.0; u
 
 pub overflow_add-t : goal.overflow_add-t
 overflow_add-t c =
-    record { fits = omega (arith, (small c.before.before.before.before.before).few c.truncating_f64_to_u64-t.ensures) }
+    record {
+      fits = omega (arith, (small c.before.before.before.before.before).few c.truncating_f64_to_u64-t.ensures);
+    }
 
 pub returns-then-is_negative : goal.returns-then-is_negative
 returns-then-is_negative c =
@@ -26,7 +28,8 @@ returns-then-is_negative c =
 
 pub returns-then-r-x : goal.returns-then-r-x
 returns-then-r-x c =
-    c.nearest_u64_to_f64.ensures ∙ (small c.before.before.before.before.before.before).more c.truncating_f64_to_u64-t.ensures
+    c.nearest_u64_to_f64.ensures ∙ (small c.before.before.before.before.before.before).more
+    c.truncating_f64_to_u64-t.ensures
     c.nearest_u64_to_f64-r.ensures (plus c.before.before) c.if-r-x.true
 
 pub returns-else-r-x : goal.returns-else-r-x

@@ -54,14 +54,19 @@ points_close-requires c = let h = there c in (omega arith, h.1)
 
 pub returns-then-not-points_close : goal.returns-then-not-points_close
 returns-then-not-points_close c =
-    sym (ap (λ (t : Tried). t.fits) (far_point c.loop-mapping.invariant (said (goal.at.returns-then-not-points_close c).After-points_close) c.if-not-points_close.true-raw))
+    sym (ap (λ (t : Tried). t.fits)
+    (far_point c.loop-mapping.invariant (said (goal.at.returns-then-not-points_close c).After-points_close)
+    c.if-not-points_close.true-raw))
 
 pub returns-then-j-steps : goal.returns-then-j-steps
 returns-then-j-steps c =
     let last = c.if-j-steps.true ∙ c.steps-steps.ensures in
-    sym (ap (λ (t : Tried). t.fits) (last_point c.loop-mapping.invariant (said (goal.at.returns-then-j-steps c).After-points_close) c.if-not-points_close.false-raw last))
+    sym (ap (λ (t : Tried). t.fits)
+    (last_point c.loop-mapping.invariant (said (goal.at.returns-then-j-steps c).After-points_close)
+    c.if-not-points_close.false-raw last))
 
 pub loop-mapping-preserved : goal.loop-mapping-preserved
 loop-mapping-preserved c =
-    next_point c.loop-mapping.invariant (said (goal.at.loop-mapping-preserved c).After-points_close) c.if-not-points_close.false-raw
+    next_point c.loop-mapping.invariant (said (goal.at.loop-mapping-preserved c).After-points_close)
+    c.if-not-points_close.false-raw
     (λ l. c.if-j-steps.false (l ∙ sym c.steps-steps.ensures)) refl

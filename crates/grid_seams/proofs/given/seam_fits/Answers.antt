@@ -16,8 +16,8 @@ abbrev mapping : In-Joined → CyclicMapping
 mapping e = e.in-Joined.mapping
 
 -- the mapping is one of these rows
-of-these : (e : Else-not-of_rows) → of_rows e.args.steps ((e.in-Joined.mapping)) ≡ true
-of-these e = held e.of_rows.ensures e.if-not-of_rows.false-raw
+of_these : (e : Else-not-of_rows) → of_rows e.args.steps ((e.in-Joined.mapping)) ≡ true
+of_these e = held e.of_rows.ensures e.if-not-of_rows.false-raw
 
 -- the test of the offset is that of the mapping's
 tried : (e : After-offset_tried) →
@@ -35,12 +35,17 @@ returns-then-not-of_rows c =
 pub returns-then-not-offset_tried : goal.returns-then-not-offset_tried
 unfolding seam_fits
 returns-then-not-offset_tried c =
-    rw (c.in-Joined.is, of-these (goal.at.returns-then-not-offset_tried c).Else-not-of_rows, failed (tried (goal.at.returns-then-not-offset_tried c).After-offset_tried) c.if-not-offset_tried.true-raw)
+    rw (
+      c.in-Joined.is,
+      of_these (goal.at.returns-then-not-offset_tried c).Else-not-of_rows,
+      failed
+          (tried (goal.at.returns-then-not-offset_tried c).After-offset_tried) c.if-not-offset_tried.true-raw,
+    )
 
 pub points_fit-requires : goal.points_fit-requires
 points_fit-requires c =
     let m = mapping (goal.at.points_fit-requires c).In-Joined in
-    let own = rows_known c.args.steps m (of-these (goal.at.points_fit-requires c).Else-not-of_rows) in
+    let own = rows_known c.args.steps m (of_these (goal.at.points_fit-requires c).Else-not-of_rows) in
     let most = c.requires.steps_most in
     (rw own.0 c.requires, (rw own.0 (omega arith), rw own.0 own.1, omega arith))
 
@@ -53,7 +58,7 @@ unfolding seam_fits
 returns-else-not-offset_tried c =
     rw (
       c.in-Joined.is,
-      of-these (goal.at.returns-else-not-offset_tried c).Else-not-of_rows,
+      of_these (goal.at.returns-else-not-offset_tried c).Else-not-of_rows,
       held (tried (goal.at.returns-else-not-offset_tried c).After-offset_tried) c.if-not-offset_tried.false-raw,
       ← c.points_fit.ensures,
     )

@@ -23,7 +23,8 @@ join-p-requires c =
 pub join-q-requires : goal.join-q-requires
 join-q-requires c =
     let s = c.args.surface in
-    maps_joins s.v s.m c.join-p.result.line c.requires.0.v_maps (omega arith) (omega (arith, within (goal.at.join-q-requires c).After-join-p))
+    maps_joins s.v s.m c.join-p.result.line c.requires.0.v_maps (omega arith)
+    (omega (arith, within (goal.at.join-q-requires c).After-join-p))
 
 pub point_number-requires : goal.point_number-requires
 point_number-requires c =

@@ -3,7 +3,8 @@ use Rattle.mesh.proofs.Flips.{maps_told, seam_told}
 use Rattle.mesh.proofs.flipped.flip_seam.Goals as goal
 
 pub process_flipped-requires : goal.process_flipped-requires
-process_flipped-requires c = record { bounded = (c.requires.bounded.0, maps_told c.in-Joined.is c.requires.bounded.1); rims = c.requires.rims }
+process_flipped-requires c =
+    record { bounded = (c.requires.bounded.0, maps_told c.in-Joined.is c.requires.bounded.1); rims = c.requires.rims }
 
 pub returns-then-is_reverse : goal.returns-then-is_reverse
 returns-then-is_reverse c =

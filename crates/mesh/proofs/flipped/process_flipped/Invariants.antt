@@ -9,7 +9,8 @@ use Rattle.mesh.proofs.flipped.process_flipped.Given as goal
 
 abbrev pub invariant-loop-i : goal.invariant-loop-i
 invariant-loop-i l = (l.i ≤ l.steps)
-    × (pairs_in l.count l.flipped ≡ flip_steps l.axis (shape_of l.surface) (of_mapping l.mapping) l.i (pairs_in l.start l.initial.flipped))
+    × (pairs_in l.count l.flipped ≡ flip_steps l.axis (shape_of l.surface) (of_mapping l.mapping) l.i
+    (pairs_in l.start l.initial.flipped))
     × (length l.flipped ≡ length l.initial.flipped)
 
 abbrev pub decreases-loop-i : goal.decreases-loop-i

@@ -17,7 +17,12 @@ within t j h =
 
 pub wrap_ends-requires : goal.wrap_ends-requires
 wrap_ends-requires c =
-    omega (arith, within (goal.at.wrap_ends-requires c).Start c.args.i (omega arith), within (goal.at.wrap_ends-requires c).Start (c.args.i + 1) (omega arith))
+    omega (
+      arith,
+      within (goal.at.wrap_ends-requires c).Start c.args.i (omega arith),
+      within
+          (goal.at.wrap_ends-requires c).Start (c.args.i + 1) (omega arith),
+    )
 
 pub returns : goal.returns
 returns c =

@@ -34,7 +34,8 @@ add_triangle-requires c =
     let f = c.add_triangle-first in
     let a = c.args in
     let slots = 2 * (a.u * a.surface.n + a.v) + 1 in
-    let h = held_most (shape_of a.surface) slots f.result f.new.triangles (first_kept (goal.at.add_triangle-requires c).After-add_triangle-first) in
+    let h = held_most (shape_of a.surface) slots f.result f.new.triangles
+    (first_kept (goal.at.add_triangle-requires c).After-add_triangle-first) in
     omega (arith, cell_below c.requires.bounded.1 c.requires.bounded.2)
 
 pub returns : goal.returns

@@ -15,7 +15,12 @@ loop-v-init c =
     (omega arith, c.requires.triangles_value ∙ row_first (shape_of c.args.surface) c.args.surface.n c.args.u, refl)
 
 pub build_inner_cell-count-requires : goal.build_inner_cell-count-requires
-build_inner_cell-count-requires c = record { bounded = (c.requires.bounded.0, c.requires.bounded.1, omega arith); n_in_bounds = omega arith; triangles_value = c.loop-v.invariant.1 }
+build_inner_cell-count-requires c =
+    record {
+      bounded = (c.requires.bounded.0, c.requires.bounded.1, omega arith);
+      n_in_bounds = omega arith;
+      triangles_value = c.loop-v.invariant.1;
+    }
 
 pub overflow_add-v : goal.overflow_add-v
 overflow_add-v c = omega arith

@@ -7,7 +7,12 @@ use Rattle.mesh.proofs.Cells.{row_next}
 use Rattle.mesh.proofs.triangles.build_row.Goals as goal
 
 pub build_cell-requires : goal.build_cell-requires
-build_cell-requires c = record { bounded = (c.requires.bounded.0, c.requires.bounded.1, omega arith); n_in_bounds = omega arith; triangles_value = c.build_inner_row-count.ensures }
+build_cell-requires c =
+    record {
+      bounded = (c.requires.bounded.0, c.requires.bounded.1, omega arith);
+      n_in_bounds = omega arith;
+      triangles_value = c.build_inner_row-count.ensures;
+    }
 
 pub returns-then-u-surface : goal.returns-then-u-surface
 returns-then-u-surface c =

@@ -23,8 +23,14 @@ loop-u-init c =
     let a = c.args in
     let s = shape_of a.surface in
     let none = none_held s a.surface.n a.triangles.now in
-    let zero-first = held_count s (2 * (0 * a.surface.n)) 0 a.triangles.now none in
-    (omega arith, none, refl, refl, value_first (number (goal.at.loop-u-init c).Start) a.starts.now 0 (omega arith) zero-first)
+    let zero_first = held_count s (2 * (0 * a.surface.n)) 0 a.triangles.now none in (
+      omega arith,
+      none,
+      refl,
+      refl,
+      value_first (number (goal.at.loop-u-init c).Start) a.starts.now 0
+          (omega arith) zero_first,
+    )
 
 pub overflow_add-u : goal.overflow_add-u
 overflow_add-u c = omega arith
@@ -67,4 +73,11 @@ returns c =
     let w = c.loop-u in
     let a = c.args in
     let e : w.u ≡ a.surface.m = omega arith in
-    record { triangles_after = rw e at w.invariant.1; starts = record { room = omega (arith, length-set a.starts.now 0 0); at = λ i h. w.invariant.4 i (omega arith) } }
+    record {
+      triangles_after = rw e at w.invariant.1;
+      starts = record {
+        room = omega (arith, length-set a.starts.now 0 0);
+        at = λ i h. w.invariant.4 i
+            (omega arith);
+      };
+    }

@@ -36,31 +36,48 @@ pub overflow_add-place3 : goal.overflow_add-place3
 overflow_add-place3 c = omega arith
 
 pub point_at-requires : goal.point_at-requires
-point_at-requires c = omega (arith, less (goal.at.point_at-requires c).In-loop-left, (goal.at.point_at-requires c).In-loop-left)
+point_at-requires c =
+    omega (arith, less (goal.at.point_at-requires c).In-loop-left, (goal.at.point_at-requires c).In-loop-left)
 
 pub put-requires : goal.put-requires
 put-requires c = omega (arith, (goal.at.put-requires c).In-loop-left)
 
 pub point_at-requires-in-loop-left : goal.point_at-requires-in-loop-left
-point_at-requires-in-loop-left c = omega (arith, less (goal.at.point_at-requires-in-loop-left c).In-loop-left, (goal.at.point_at-requires-in-loop-left c).In-loop-left)
+point_at-requires-in-loop-left c =
+    omega (
+      arith,
+      less (goal.at.point_at-requires-in-loop-left c).In-loop-left,
+      (goal.at.point_at-requires-in-loop-left c).In-loop-left,
+    )
 
 pub put-requires-in-loop-left : goal.put-requires-in-loop-left
 put-requires-in-loop-left c = omega (arith, (goal.at.put-requires-in-loop-left c).In-loop-left)
 
 pub point_at-requires-in-loop-left-2 : goal.point_at-requires-in-loop-left-2
-point_at-requires-in-loop-left-2 c = omega (arith, less (goal.at.point_at-requires-in-loop-left-2 c).In-loop-left, (goal.at.point_at-requires-in-loop-left-2 c).In-loop-left)
+point_at-requires-in-loop-left-2 c =
+    omega (
+      arith,
+      less (goal.at.point_at-requires-in-loop-left-2 c).In-loop-left,
+      (goal.at.point_at-requires-in-loop-left-2 c).In-loop-left,
+    )
 
 pub put-requires-in-loop-left-2 : goal.put-requires-in-loop-left-2
 put-requires-in-loop-left-2 c = omega (arith, (goal.at.put-requires-in-loop-left-2 c).In-loop-left)
 
 pub point_at-requires-in-loop-left-3 : goal.point_at-requires-in-loop-left-3
-point_at-requires-in-loop-left-3 c = omega (arith, less (goal.at.point_at-requires-in-loop-left-3 c).In-loop-left, (goal.at.point_at-requires-in-loop-left-3 c).In-loop-left)
+point_at-requires-in-loop-left-3 c =
+    omega (
+      arith,
+      less (goal.at.point_at-requires-in-loop-left-3 c).In-loop-left,
+      (goal.at.point_at-requires-in-loop-left-3 c).In-loop-left,
+    )
 
 pub put-requires-in-loop-left-3 : goal.put-requires-in-loop-left-3
 put-requires-in-loop-left-3 c = omega (arith, (goal.at.put-requires-in-loop-left-3 c).In-loop-left)
 
 pub overflow_add-number : goal.overflow_add-number
-overflow_add-number c = omega (arith, less (goal.at.overflow_add-number c).In-loop-left, (goal.at.overflow_add-number c).In-loop-left)
+overflow_add-number c =
+    omega (arith, less (goal.at.overflow_add-number c).In-loop-left, (goal.at.overflow_add-number c).In-loop-left)
 
 pub overflow_add-place : goal.overflow_add-place
 overflow_add-place c = omega (arith, (goal.at.overflow_add-place c).In-loop-left)
@@ -76,14 +93,20 @@ loop-left-preserved c =
     let l = c.loop-left in
     let a = c.args in
     let fewer = less (goal.at.loop-left-preserved c).In-loop-left in (
-      omega (arith, (goal.at.loop-left-preserved c).After-put, (goal.at.loop-left-preserved c).After-put-in-loop-left, (goal.at.loop-left-preserved c).After-put-in-loop-left-2),
+      omega (
+        arith,
+        (goal.at.loop-left-preserved c).After-put,
+        (goal.at.loop-left-preserved c).After-put-in-loop-left,
+        (goal.at.loop-left-preserved c).After-put-in-loop-left-2,
+      ),
       omega (arith, (goal.at.loop-left-preserved c).In-loop-left),
       omega (arith, (goal.at.loop-left-preserved c).In-loop-left),
       omega (arith, (goal.at.loop-left-preserved c).In-loop-left),
       l.invariant.4 ∙ four_turn a.grid.now a.apart a.stride (3 * a.count) l.left l.points l.place
           l.number c.loop-left-test.true (omega (arith, (goal.at.loop-left-preserved c).In-loop-left))
           c.point_at.ensures c.put.ensures c.point_at-in-loop-left.ensures c.put-in-loop-left.ensures
-          c.point_at-in-loop-left-2.ensures c.put-in-loop-left-2.ensures c.point_at-in-loop-left-3.ensures c.put-in-loop-left-3.ensures,
+          c.point_at-in-loop-left-2.ensures c.put-in-loop-left-2.ensures c.point_at-in-loop-left-3.ensures
+          c.put-in-loop-left-3.ensures,
     )
 
 pub shape_of-points : goal.shape_of-points

@@ -7,10 +7,10 @@ use Rattle.path.proofs.draw.draw_runs.Goals as goal
 use Rattle.path.proofs.draw.draw_runs.Goals.{In-loop-left, In-loop-left-2}
 
 -- in a turn of the first loop, and of the second
-four-less : (t : In-loop-left) →
+four_less : (t : In-loop-left) →
     let a = t.args in
     let left = t.loop-left.left in Fewer 4 left a.apart × Fewer 4 left (3 * a.count)
-four-less t = (fewer 4 _ _ t.loop-left-test.true, fewer 4 _ _ t.loop-left-test.true)
+four_less t = (fewer 4 _ _ t.loop-left-test.true, fewer 4 _ _ t.loop-left-test.true)
 
 one_less : (t : In-loop-left-2) →
     let a = t.args in
@@ -24,19 +24,19 @@ pub loop-left-init : goal.loop-left-init
 loop-left-init c = (refl, omega arith, refl, refl)
 
 pub draw_four-requires : goal.draw_four-requires
-draw_four-requires c = omega (arith, four-less (goal.at.draw_four-requires c).In-loop-left)
+draw_four-requires c = omega (arith, four_less (goal.at.draw_four-requires c).In-loop-left)
 
 pub overflow_mul-first : goal.overflow_mul-first
 overflow_mul-first c = omega arith
 
 pub overflow_add-first : goal.overflow_add-first
-overflow_add-first c = omega (arith, four-less (goal.at.overflow_add-first c).In-loop-left)
+overflow_add-first c = omega (arith, four_less (goal.at.overflow_add-first c).In-loop-left)
 
 pub overflow_mul-place : goal.overflow_mul-place
-overflow_mul-place c = omega (arith, four-less (goal.at.overflow_mul-place c).In-loop-left)
+overflow_mul-place c = omega (arith, four_less (goal.at.overflow_mul-place c).In-loop-left)
 
 pub overflow_add-place : goal.overflow_add-place
-overflow_add-place c = omega (arith, four-less (goal.at.overflow_add-place c).In-loop-left)
+overflow_add-place c = omega (arith, four_less (goal.at.overflow_add-place c).In-loop-left)
 
 pub loop-left-smaller : goal.loop-left-smaller
 loop-left-smaller c = omega arith
@@ -45,8 +45,8 @@ pub loop-left-preserved : goal.loop-left-preserved
 loop-left-preserved c =
     let l = c.loop-left in (
       omega arith,
-      omega (arith, four-less (goal.at.loop-left-preserved c).In-loop-left),
-      omega (arith, four-less (goal.at.loop-left-preserved c).In-loop-left),
+      omega (arith, four_less (goal.at.loop-left-preserved c).In-loop-left),
+      omega (arith, four_less (goal.at.loop-left-preserved c).In-loop-left),
       l.invariant.3 ∙ runs_four _ _ _ _ _ _ _ l.left c.loop-left-test.true ∙ rw (← c.draw_four.ensures),
     )
 
@@ -54,13 +54,24 @@ pub loop-left-2-init : goal.loop-left-2-init
 loop-left-2-init c = let l = c.loop-left in (refl, l.invariant.1, l.invariant.2, refl)
 
 pub draw_run-requires : goal.draw_run-requires
-draw_run-requires c = omega (arith, one_less (goal.at.draw_run-requires c).In-loop-left-2, (goal.at.draw_run-requires c).In-loop-left-2)
+draw_run-requires c =
+    omega (arith, one_less (goal.at.draw_run-requires c).In-loop-left-2, (goal.at.draw_run-requires c).In-loop-left-2)
 
 pub overflow_add-first-in-loop-left-2 : goal.overflow_add-first-in-loop-left-2
-overflow_add-first-in-loop-left-2 c = omega (arith, one_less (goal.at.overflow_add-first-in-loop-left-2 c).In-loop-left-2, (goal.at.overflow_add-first-in-loop-left-2 c).In-loop-left-2)
+overflow_add-first-in-loop-left-2 c =
+    omega (
+      arith,
+      one_less (goal.at.overflow_add-first-in-loop-left-2 c).In-loop-left-2,
+      (goal.at.overflow_add-first-in-loop-left-2 c).In-loop-left-2,
+    )
 
 pub overflow_add-place-in-loop-left-2 : goal.overflow_add-place-in-loop-left-2
-overflow_add-place-in-loop-left-2 c = omega (arith, one_less (goal.at.overflow_add-place-in-loop-left-2 c).In-loop-left-2, (goal.at.overflow_add-place-in-loop-left-2 c).In-loop-left-2)
+overflow_add-place-in-loop-left-2 c =
+    omega (
+      arith,
+      one_less (goal.at.overflow_add-place-in-loop-left-2 c).In-loop-left-2,
+      (goal.at.overflow_add-place-in-loop-left-2 c).In-loop-left-2,
+    )
 
 pub overflow_sub-left-in-loop-left-2 : goal.overflow_sub-left-in-loop-left-2
 overflow_sub-left-in-loop-left-2 c = omega arith

@@ -17,9 +17,11 @@ abbrev pub decreases-loop-left : goal.decreases-loop-left
 decreases-loop-left l = l.left
 
 abbrev pub invariant-loop-left-2 : goal.invariant-loop-left-2
-invariant-loop-left-2 l = (length l.points ≡ length l.initial.points) × (l.first + l.left * l.apart ≡ l.lines * l.apart)
+invariant-loop-left-2 l =
+    (length l.points ≡ length l.initial.points) × (l.first + l.left * l.apart ≡ l.lines * l.apart)
     × (l.place + l.left * (3 * l.count) ≡ l.at + l.lines * (3 * l.count))
-    × (sets l.initial.points l.initial.place (coordinates (flatten (runs l.grid l.initial.first l.apart l.stride l.count l.initial.left)))
+    × (sets l.initial.points l.initial.place
+    (coordinates (flatten (runs l.grid l.initial.first l.apart l.stride l.count l.initial.left)))
     ≡ sets l.points l.place (coordinates (flatten (runs l.grid l.first l.apart l.stride l.count l.left))))
 
 abbrev pub decreases-loop-left-2 : goal.decreases-loop-left-2

@@ -21,7 +21,12 @@ abbrev held : At-loop-i → Page
 held l = let o = l.loop-i in page (lists o.points o.starts o.sides o.fractions o.samples) o.pen
 
 pub trace_sample-requires : goal.trace_sample-requires
-trace_sample-requires c = record { lambdas_len = (search rules, search rules); grid_fits = c.requires.grid_fits; pen_fits = c.loop-i.invariant.4 }
+trace_sample-requires c =
+    record {
+      lambdas_len = (search rules, search rules);
+      grid_fits = c.requires.grid_fits;
+      pen_fits = c.loop-i.invariant.4;
+    }
 
 pub shape_of-points-in-Stop : goal.shape_of-points-in-Stop
 shape_of-points-in-Stop c = search (rules, c.loop-i.invariant.3)
@@ -57,8 +62,10 @@ loop-i-preserved c =
       omega (arith, c.loop-i-test.true),
       search rules,
       search rules,
-      down_holds (SizedPage first) (on_page a.tolerance ms (held (goal.at.loop-i-preserved c).At-loop-i)) c.trace_sample.ensures
-          c.in-Down.is (moves_sized first a.tolerance ms (held (goal.at.loop-i-preserved c).At-loop-i) c.loop-i.invariant.3),
+      down_holds (SizedPage first) (on_page a.tolerance ms (held (goal.at.loop-i-preserved c).At-loop-i))
+          c.trace_sample.ensures
+          c.in-Down.is
+          (moves_sized first a.tolerance ms (held (goal.at.loop-i-preserved c).At-loop-i) c.loop-i.invariant.3),
       down_holds Fitting (on_page a.tolerance ms (held (goal.at.loop-i-preserved c).At-loop-i)) c.trace_sample.ensures
           c.in-Down.is (moves_fit a.tolerance ms (held (goal.at.loop-i-preserved c).At-loop-i) c.loop-i.invariant.4),
       trace_goes a.tolerance a.grid.now a.cells a.marks.now a.pairs.now c.loop-i.i

@@ -34,7 +34,8 @@ pub returns-in-Failed : goal.returns-in-Failed
 returns-in-Failed c =
     let a = c.args in
     record {
-      answer = refused_before a.grid.now a.m a.n a.tolerances a.pairs.now a.marks.now (lent (goal.at.returns-in-Failed c).Start)
+      answer = refused_before a.grid.now a.m a.n a.tolerances a.pairs.now a.marks.now
+          (lent (goal.at.returns-in-Failed c).Start)
           c.check_trace.ensures c.in-Failed.is;
       demand = demand3 _ _ _;
       numbers = numbers_met _ _ _;

@@ -15,22 +15,26 @@ own t = t.and_then-own.ensures ∙ ap₂ and_then t.check_lengths.ensures t.chec
 
 pub returns-in-Failed : goal.returns-in-Failed
 returns-in-Failed c =
-    grid_refused _ _ _ _ _ _ (own (goal.at.returns-in-Failed c).After-and_then-own) c.check_grid.ensures c.in-Failed.is
+    grid_refused _ _ _ _ _ _ (own (goal.at.returns-in-Failed c).After-and_then-own) c.check_grid.ensures
+    c.in-Failed.is
 
 pub returns-then-not-marks_fit : goal.returns-then-not-marks_fit
 returns-then-not-marks_fit c =
-    mark_refused _ _ _ _ _ _ (own (goal.at.returns-then-not-marks_fit c).After-and_then-own) c.check_grid.ensures c.in_default.is
+    mark_refused _ _ _ _ _ _ (own (goal.at.returns-then-not-marks_fit c).After-and_then-own) c.check_grid.ensures
+    c.in_default.is
     (failed c.marks_fit.ensures c.if-not-marks_fit.true-raw)
 
 pub pairs_fit-requires : goal.pairs_fit-requires
 pairs_fit-requires c =
     let a = c.args in
-    pairs_twice a.grid.now a.m a.n a.tolerances a.pairs.now a.marks.now (own (goal.at.pairs_fit-requires c).After-and_then-own)
+    pairs_twice a.grid.now a.m a.n a.tolerances a.pairs.now a.marks.now
+    (own (goal.at.pairs_fit-requires c).After-and_then-own)
     c.check_grid.ensures c.in_default.is
 
 pub returns-then-not-pairs_fit : goal.returns-then-not-pairs_fit
 returns-then-not-pairs_fit c =
-    sample_refused _ _ _ _ _ _ (own (goal.at.returns-then-not-pairs_fit c).After-and_then-own) c.check_grid.ensures c.in_default.is
+    sample_refused _ _ _ _ _ _ (own (goal.at.returns-then-not-pairs_fit c).After-and_then-own)
+    c.check_grid.ensures c.in_default.is
     (held c.marks_fit.ensures c.if-not-marks_fit.false-raw)
     (failed c.pairs_fit.ensures c.if-not-pairs_fit.true-raw)
 
