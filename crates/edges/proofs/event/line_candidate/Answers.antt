@@ -1,4 +1,4 @@
--- `edges::event::line_candidate` meets its contract: where there is a lambda, `on_line_lem` decides at the point there.
+-- `edges::event::line_candidate` meets its contract: where there is a lambda, `on_line` decides at the point there.
 use mathlib.Core.Path.{◌≡◌}
 use Rattle.float.specs.Cast.{nat_float}
 use Rattle.param.specs.Param.{along}
