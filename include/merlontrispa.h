@@ -1,7 +1,7 @@
 /*
  * Merlontrispa: verified surfaces, seams and pen lines for pen plotters.
  *
- * The functions of target/staticlib/libmerlontrispa.a, which `rt staticlib merlontrispa` writes.
+ * The functions of target/staticlib/libmerlontrispa.a, which `tools/staticlib` writes.
  * Each is proved to end with an answer for every input, to read and write nothing past a list, and
  * to answer, to the last bit, what the definition says that its contract in crates/merlontrispa/src
  * cites; of an answer that is a NaN, its sign and payload are not fixed. The Rules that are cited

@@ -8,7 +8,7 @@ fn main() {
     println!("cargo::rerun-if-changed={}", archive.display());
     if !archive.is_file() {
         println!(
-            "cargo::error=target/staticlib/libmerlontrispa.a is missing: run ./test or `rt staticlib merlontrispa` first"
+            "cargo::error=target/staticlib/libmerlontrispa.a is missing: run ./test or tools/staticlib first"
         );
         return;
     }
