@@ -1,4 +1,4 @@
-//! The files `crates/NAME/must-fail/*.edit`: wrong programs that the prover must refuse.
+//! The files `crates/NAME/must-fail/*.edit`: wrong programs that the prover must refuse, one a file.
 //!
 //!     # a comment, where the name does not say why it is wrong
 //!     wrong: abs_keeps_sign
@@ -8,8 +8,11 @@
 //!     new: if is_negative(x) { x } else { x }
 //!
 //! `leaves: law proofs/Demands.antt demand3` names a lemma or a known result in the place of a
-//! function. `rt` reads the last three kinds of lines and makes every change of a file before its
-//! one check.
+//! function. `rt` reads the last three kinds of lines, makes every change of a file and checks the
+//! crate once. It shows the first refusal of a check, so a file has one wrong program; one that is
+//! made in several functions has a file for each, under the same name.
+
+use std::fmt;
 
 /// What a wrong program must leave unproved.
 #[derive(Debug, Clone, PartialEq, Eq)]
@@ -18,6 +21,15 @@ pub enum Left {
     Function(String),
     /// A declaration of a file of `proofs/` or `specs/`.
     Law { file: String, name: String },
+}
+
+impl fmt::Display for Left {
+    fn fmt(&self, f: &mut fmt::Formatter) -> fmt::Result {
+        match self {
+            Left::Function(path) => write!(f, "fn {path}"),
+            Left::Law { file, name } => write!(f, "law {file} {name}"),
+        }
+    }
 }
 
 /// One replacement: `old` stands in the file exactly once.
@@ -54,30 +66,30 @@ impl Wrong {
     }
 }
 
-/// The wrong programs of a file, or its first line that has no place.
-pub fn parse(text: &str) -> Result<Vec<Wrong>, String> {
-    let mut found: Vec<Wrong> = Vec::new();
+/// The wrong program of a file, or its first line that has no place.
+pub fn parse(text: &str) -> Result<Wrong, String> {
+    let mut found: Option<Wrong> = None;
     let mut place = Place::default();
     let lines = text.lines().filter(|line| !line.starts_with('#'));
     for line in lines.filter(|line| !line.trim().is_empty()) {
-        match (split(line)?, found.last_mut()) {
-            (("wrong", name), _) => {
+        match (split(line)?, &mut found) {
+            (("wrong", name), None) => {
                 let name = name.to_string();
-                found.push(Wrong {
+                found = Some(Wrong {
                     name,
                     ..Wrong::default()
                 });
-                place = Place::default();
+            }
+            (("wrong", name), Some(_)) => {
+                return Err(format!("{name} needs a file of its own"));
             }
             ((word, rest), Some(wrong)) => place.read(word, rest, wrong)?,
             _ => return Err(format!("stands before a `wrong:` line: {line}")),
         }
     }
-    found.iter().try_for_each(whole)?;
-    match found.is_empty() {
-        true => Err("no wrong program".to_string()),
-        false => Ok(found),
-    }
+    let wrong = found.ok_or("no wrong program")?;
+    whole(&wrong)?;
+    Ok(wrong)
 }
 
 /// Where the next change is made: the file stays until another is named.
@@ -144,18 +156,27 @@ fn whole(wrong: &Wrong) -> Result<(), String> {
 mod tests {
     use super::*;
 
-    const TWO: &str = "# why\nwrong: first_one\nleaves: fn a::b\nfile: src/lib.rt\nold: x: 1\nnew: x: 2\n\
-                       wrong: second_one\nleaves: law proofs/L.antt fact\nfile: specs/S.antt\nold:  y\nnew:\n";
+    const ONE: &str =
+        "# why\nwrong: first_one\nleaves: fn a::b\nfile: src/lib.rt\nold: x: 1\nnew: x: 2\n\n";
+    const LAW: &str =
+        "wrong: second_one\nleaves: law proofs/L.antt fact\nfile: specs/S.antt\nold:  y\nnew:\n";
 
     #[test]
-    fn reads_what_each_leaves_and_changes() {
-        let found = parse(TWO).unwrap();
-        assert_eq!(found[0].name, "first_one");
-        assert_eq!(found[0].leaves, [Left::Function("a::b".into())]);
-        assert_eq!(found[0].changes[0].old, "x: 1");
-        assert_eq!(found[1].changes[0].old, " y");
-        assert_eq!(found[1].changes[0].new, "");
-        assert!(found[0].of_code() && !found[1].of_code());
+    fn reads_what_it_leaves_and_changes() {
+        let (one, law) = (parse(ONE).unwrap(), parse(LAW).unwrap());
+        assert_eq!(one.name, "first_one");
+        assert_eq!(one.leaves, [Left::Function("a::b".into())]);
+        assert_eq!(one.changes[0].old, "x: 1");
+        assert_eq!(law.leaves[0].to_string(), "law proofs/L.antt fact");
+        assert_eq!(law.changes[0].old, " y");
+        assert_eq!(law.changes[0].new, "");
+        assert!(one.of_code() && !law.of_code());
+    }
+
+    #[test]
+    fn a_second_one_needs_a_file_of_its_own() {
+        let fault = parse(&format!("{ONE}{LAW}")).unwrap_err();
+        assert_eq!(fault, "second_one needs a file of its own");
     }
 
     #[test]

@@ -1,13 +1,13 @@
 //! Holds each wrong program of `crates/NAME/must-fail` to what it must leave unproved.
 //!
-//!     edits [CRATE..]
+//!     edits SAID [CRATE..]
 //!
-//! Run after `rt ci` or `rt must-fail`, in the repository. `rt` has seen to it that each `.edit`
-//! file is refused; this program reads the logs that it left below `target/must-fail`, and fails
-//! unless every function and law that a wrong program names is refused for its own sake: its own
-//! proof does not show a fact that it needs, and it is not refused for a callee's sake or for a
-//! name that is gone. `edit.rs` has the form of a file, `log.rs` the words of a log, `judge.rs` the
-//! rules.
+//! SAID is a file with what `rt ci` or `rt must-fail` printed, in the repository and as it stands.
+//! `rt` has seen to it that each `.edit` file is refused, and prints of each check the first
+//! refusal; this program fails unless that is a refusal of what the wrong program names, for its
+//! own sake: its own proof does not show a fact that it needs, and it is not refused for a callee's
+//! sake or for a name that is gone. `edit.rs` has the form of a file, `log.rs` the words of `rt`,
+//! `judge.rs` the rules.
 
 mod edit;
 mod judge;
@@ -23,8 +23,8 @@ use judge::Tried;
 use log::Log;
 use source::Source;
 
-/// The name of a wrong program, and what is wrong with how it was refused.
-type Verdict = (String, Result<(), String>);
+/// The name of a wrong program, and what it was refused for, or what is wrong with how it was.
+type Verdict = (String, Result<String, String>);
 
 fn main() -> ExitCode {
     match run(std::env::args().skip(1).collect()) {
@@ -38,15 +38,17 @@ fn main() -> ExitCode {
 }
 
 /// Judges the named crates, or all, and hands back how many wrong programs failed.
-fn run(wanted: Vec<String>) -> Result<usize, String> {
+fn run(words: Vec<String>) -> Result<usize, String> {
+    let (said, wanted) = words.split_first().ok_or("usage: edits SAID [CRATE..]")?;
+    let log = Log::new(read(Path::new(said))?);
     let root = root()?;
     let (mut passed, mut failed) = (0, 0);
-    for krate in crates(&root, &wanted)? {
-        for (name, verdict) in judge_crate(&root, &krate)? {
+    for krate in crates(&root, wanted)? {
+        for (name, verdict) in judge_crate(&root, &krate, &log)? {
             match verdict {
-                Ok(()) => {
+                Ok(own) => {
                     passed += 1;
-                    println!("{krate}/{name}: refused for its own sake");
+                    println!("{krate}/{name}: {own} is refused for its own sake");
                 }
                 Err(why) => {
                     failed += 1;
@@ -81,64 +83,42 @@ fn crates(root: &Path, wanted: &[String]) -> Result<Vec<String>, String> {
 }
 
 /// The verdict on each wrong program of a crate.
-fn judge_crate(root: &Path, krate: &str) -> Result<Vec<Verdict>, String> {
+fn judge_crate(root: &Path, krate: &str, log: &Log) -> Result<Vec<Verdict>, String> {
     let folder = root.join("crates").join(krate);
     let edits = folder.join("must-fail");
     let mut verdicts = Vec::new();
     if !edits.is_dir() {
         return Ok(verdicts);
     }
-    let source = Source::new(krate, files(&folder)?);
+    let source = &Source::new(krate, files(&folder)?);
+    let tried = Tried { krate, source, log };
+    let mut seen = BTreeSet::new();
     for name in names(&edits)? {
-        let copy = root.join("target/must-fail").join(krate);
-        verdicts.extend(
-            match judge_file(&source, krate, &edits.join(&name), &copy) {
-                Ok(judged) => judged,
-                Err(why) => vec![(name, Err(why))],
-            },
-        );
+        let judged = judge_file(&tried, &edits.join(&name), &mut seen);
+        verdicts.push(judged.unwrap_or_else(|why| (name, Err(why))));
     }
-    Ok(once(verdicts))
+    Ok(verdicts)
 }
 
-/// The verdict on each wrong program of a file, from what `rt` left of its check below the folder
-/// `checks`.
+/// The verdict on the wrong program of a file. Its name is not among those of the crate that were
+/// seen, but where another function is left unproved.
 fn judge_file(
-    source: &Source,
-    krate: &str,
+    tried: &Tried,
     file: &Path,
-    checks: &Path,
-) -> Result<Vec<Verdict>, String> {
+    seen: &mut BTreeSet<(String, String)>,
+) -> Result<Verdict, String> {
     let name = file.file_name().unwrap_or_default().to_string_lossy();
     let label = name
         .strip_suffix(".edit")
         .ok_or("no name of an edit: it ends in `.edit`")?;
-    let programs = edit::parse(&read(file)?)?;
-    let copy = checks.join(label);
-    let tried = Tried {
-        source,
-        checked: &files(&copy)?,
-        log: &Log::new(krate, label, read(&copy.join(".log"))?),
+    let wrong = edit::parse(&read(file)?)?;
+    let fresh = seen.insert((wrong.name.clone(), wrong.leaves[0].to_string()));
+    let verdict = match fresh {
+        true => tried.judge(label, &wrong).map(|own| own.to_string()),
+        false => Err("this name is taken".to_string()),
     };
-    let judged = tried.judge(&programs).into_iter();
-    Ok(judged
-        .map(|(name, verdict)| (name.to_string(), verdict))
-        .collect())
-}
-
-/// A name that a crate's wrong programs have twice is a fault of the second.
-fn once(verdicts: Vec<Verdict>) -> Vec<Verdict> {
-    let mut seen = BTreeSet::new();
-    let judged = verdicts.into_iter().map(|(name, verdict)| {
-        let fresh = seen.insert(name.clone());
-        let verdict = if fresh {
-            verdict
-        } else {
-            Err("this name is taken".to_string())
-        };
-        (name, verdict)
-    });
-    judged.collect()
+    let verdict = verdict.map_err(|why| format!("{name}: {why}"));
+    Ok((wrong.name, verdict))
 }
 
 /// The files of src/, specs/ and proofs/ below a folder.
@@ -181,38 +161,42 @@ fn read(path: &Path) -> Result<String, String> {
 mod tests {
     use super::*;
 
-    #[test]
-    fn a_name_counts_once() {
-        let twice = vec![
-            ("a".to_string(), Ok(())),
-            ("b".to_string(), Ok(())),
-            ("a".to_string(), Ok(())),
-        ];
-        let judged = once(twice);
-        assert!(judged[0].1.is_ok() && judged[1].1.is_ok() && judged[2].1.is_err());
+    const TEXT: &str = "wrong: w\nleaves: fn k::f\nfile: src/lib.rt\nold: true\nnew: false\n";
+
+    /// The verdicts on files with these texts, named one, two and so on as far as they go, of all
+    /// of which `rt` says the same.
+    fn verdicts(folder: &str, texts: &[&str]) -> Vec<Result<String, String>> {
+        let root = std::env::temp_dir().join(format!("edits-{}-{folder}", std::process::id()));
+        let edits = root.join("crates/k/must-fail");
+        fs::create_dir_all(&edits).unwrap();
+        fs::create_dir_all(root.join("crates/k/src")).unwrap();
+        let code = "fn f() -> bool {\n    true\n}\n\nfn g() {}\n";
+        fs::write(root.join("crates/k/src/lib.rt"), code).unwrap();
+        let mut said = String::new();
+        for (text, name) in texts.iter().zip(["one", "two"]) {
+            fs::write(edits.join(format!("{name}.edit")), text).unwrap();
+            said += &format!(
+                "rt: must-fail k/{name}.edit: refused, as it must be: note: src/lib.rt:1:1: it is not proved that it holds (`returns`)\n"
+            );
+        }
+        fs::write(edits.join("three.md"), "").unwrap();
+        let judged = judge_crate(&root, "k", &Log::new(said)).unwrap();
+        fs::remove_dir_all(&root).unwrap();
+        judged.into_iter().map(|(_, verdict)| verdict).collect()
     }
 
     #[test]
-    fn a_log_that_is_not_there_or_empty_shows_nothing() {
-        let folder = std::env::temp_dir().join(format!("edits-{}", std::process::id()));
-        let checked = folder.join("checks/one/src");
-        fs::create_dir_all(&checked).unwrap();
-        let (edit, log) = (folder.join("one.edit"), folder.join("checks/one/.log"));
-        let text = "wrong: w\nleaves: fn k::f\nfile: src/lib.rt\nold: true\nnew: false\n";
-        fs::write(&edit, text).unwrap();
-        fs::write(checked.join("lib.rt"), "fn f() -> bool {\n    false\n}\n").unwrap();
-        let code = "fn f() -> bool {\n    true\n}\n".to_string();
-        let source = Source::new("k", [("src/lib.rt".to_string(), code)].into());
-        let judge = || judge_file(&source, "k", &edit, &folder.join("checks"));
-        let missing = judge();
-        fs::write(&log, "").unwrap();
-        let empty = judge();
-        let line = "fn k::f: no proof: expected it; `search` does not close `returns`";
-        fs::write(&log, format!("{line}\nlogic=not-proved\n")).unwrap();
-        let whole = judge();
-        fs::remove_dir_all(&folder).unwrap();
-        assert!(missing.is_err());
-        assert!(empty.unwrap()[0].1.is_err());
-        assert!(whole.unwrap()[0].1.is_ok());
+    fn each_file_is_judged() {
+        let judged = verdicts("each", &[TEXT]);
+        assert_eq!(judged[0], Ok("fn k::f".to_string()));
+        assert!(judged[1].is_err() && judged.len() == 2);
+    }
+
+    #[test]
+    fn a_name_counts_once() {
+        let taken = Err("two.edit: this name is taken".to_string());
+        assert_eq!(verdicts("once", &[TEXT, TEXT])[2], taken);
+        let other = TEXT.replace("k::f", "k::g").replace("true", "g() {");
+        assert_ne!(verdicts("other", &[TEXT, &other])[2], taken);
     }
 }

@@ -4,11 +4,13 @@
 use std::collections::{BTreeMap, BTreeSet};
 use std::ops::Range;
 
-/// A function: its path from the crate on, its file, and its lines there with contract and body.
+/// A function: its path from the crate on, its file, and its lines there: attributes from `head` on,
+/// `fn` with contract and body from `first` on.
 #[derive(Debug, Clone, PartialEq, Eq)]
 pub struct Function {
     pub path: String,
     file: String,
+    head: usize,
     first: usize,
     last: usize,
     text: String,
@@ -53,14 +55,6 @@ impl Source {
         self.files.get(file).map(String::as_str)
     }
 
-    /// The first file that other texts have not, or have otherwise.
-    pub fn differs<'a>(&'a self, other: &'a BTreeMap<String, String>) -> Option<&'a str> {
-        let mut names = self.files.keys().chain(other.keys());
-        names
-            .find(|file| self.files.get(*file) != other.get(*file))
-            .map(String::as_str)
-    }
-
     /// Replaces `old`, which stands in the file exactly once, by `new`, and hands back the line
     /// where it stood.
     pub fn replace(&mut self, file: &str, old: &str, new: &str) -> Result<usize, String> {
@@ -89,13 +83,26 @@ impl Source {
             .collect()
     }
 
+    /// Whether a file of `proofs/` or `specs/` declares a name: with its type, after words as `pub`.
+    pub fn declares(&self, file: &str, name: &str) -> bool {
+        let heads = |text: &str| {
+            let mut heads = text.lines().filter_map(|line| line.split_once(" :"));
+            heads.any(|(head, _)| head.split_whitespace().any(|word| word == name))
+        };
+        self.text(file).is_some_and(heads)
+    }
+
+    /// The function that a line stands in, its attributes included.
+    pub fn around(&self, file: &str, line: usize) -> Option<String> {
+        let around = |f: &Function| f.file == file && (f.head..=f.last).contains(&line);
+        self.functions().into_iter().find(around).map(|f| f.path)
+    }
+
     /// The functions that a line belongs to: the one that it stands in or, where it is a
     /// constant's, those that mention the constant.
     pub fn touched(&self, file: &str, line: usize) -> BTreeSet<String> {
-        let functions = self.functions();
-        let around = |f: &&Function| f.file == file && (f.first..=f.last).contains(&line);
-        if let Some(function) = functions.iter().find(around) {
-            return BTreeSet::from([function.path.clone()]);
+        if let Some(path) = self.around(file, line) {
+            return BTreeSet::from([path]);
         }
         let text = self
             .text(file)
@@ -104,10 +111,9 @@ impl Source {
         let Some(name) = constant(text) else {
             return BTreeSet::new();
         };
-        let users = functions
-            .iter()
-            .filter(|f| words(&f.text).any(|(word, _)| word == name));
-        users.map(|f| f.path.clone()).collect()
+        let mut users = self.functions();
+        users.retain(|f| words(&f.text).any(|word| word == name));
+        users.into_iter().map(|f| f.path).collect()
     }
 
     /// Whether a line belongs to a function's contract, and not to its head or its body.
@@ -115,23 +121,6 @@ impl Source {
         let functions = self.functions();
         let mut here = functions.iter().filter(|f| f.file == file);
         here.any(|f| f.contract().contains(&line))
-    }
-
-    /// The other functions that one reaches by calls. A call is told by the function's last name
-    /// alone, so that it may find too many and never too few.
-    pub fn reached(&self, from: &str) -> BTreeSet<String> {
-        let functions = self.functions();
-        let mut reached = BTreeSet::new();
-        let mut open = vec![from.to_string()];
-        while let Some(path) = open.pop() {
-            let calls = functions
-                .iter()
-                .filter(|f| f.path == path)
-                .flat_map(|f| called(f, &functions));
-            open.extend(calls.filter(|callee| reached.insert(callee.clone())));
-        }
-        reached.remove(from);
-        reached
     }
 
     fn module(&self, file: &str) -> String {
@@ -167,6 +156,7 @@ impl Source {
                 found.push(Function {
                     path: format!("{owner}::{name}"),
                     file: file.to_string(),
+                    head: head(&lines, first),
                     first,
                     last,
                     text: lines[first..=last].join("\n"),
@@ -185,6 +175,16 @@ fn header(line: &str) -> Option<&str> {
     }
     let rest = rest.strip_prefix("fn ")?;
     Some(&rest[..rest.find(['(', '<'])?])
+}
+
+/// The first line of the attributes of the function whose `fn` is on line `first`.
+fn head(lines: &[&str], first: usize) -> usize {
+    let other = |line: &str| {
+        let ends = line.ends_with(['{', '}', ';']);
+        line.is_empty() || ends || line.trim_start().starts_with("//")
+    };
+    let above = lines[..first].iter().rposition(|line| other(line));
+    above.map_or(0, |above| above + 1)
 }
 
 /// The last line of the function that begins at line `first`.
@@ -219,34 +219,14 @@ fn constant(line: &str) -> Option<&str> {
     rest.strip_prefix("const ")?.split(':').next()
 }
 
-/// The functions whose names stand in another's text as those of calls.
-fn called(function: &Function, all: &[Function]) -> Vec<String> {
-    let body = function.text.split_once('(').map_or("", |(_, rest)| rest);
-    let calls: BTreeSet<&str> = words(body)
-        .filter(|(_, next)| *next == Some('('))
-        .map(|(word, _)| word)
-        .collect();
-    let last = |path: &str| path.rsplit("::").next().is_some_and(|n| calls.contains(n));
-    all.iter()
-        .filter(|f| last(&f.path))
-        .map(|f| f.path.clone())
-        .collect()
-}
-
 fn in_word(c: char) -> bool {
     c.is_alphanumeric() || c == '_'
 }
 
-/// Each word of a text, with the character after it.
-fn words(text: &str) -> impl Iterator<Item = (&str, Option<char>)> {
-    let mut rest = text;
-    std::iter::from_fn(move || {
-        rest = &rest[rest.find(in_word)?..];
-        let length = rest.find(|c| !in_word(c)).unwrap_or(rest.len());
-        let (word, after) = rest.split_at(length);
-        rest = after;
-        Some((word, after.chars().next()))
-    })
+/// Each word of a text.
+fn words(text: &str) -> impl Iterator<Item = &str> {
+    let words = text.split(|c: char| !in_word(c));
+    words.filter(|word| !word.is_empty())
 }
 
 #[cfg(test)]
@@ -313,6 +293,16 @@ mod tests {
     }
 
     #[test]
+    fn so_do_its_attributes() {
+        let mut source = source();
+        let text = "impl Point {\n    // Near.\n    #[tactic(\n        auto\n    )]\n    fn near(self) -> bool {\n        true\n    }\n}\n";
+        source.files.insert("src/near.rt".into(), text.into());
+        let around = |line| source.around("src/near.rt", line);
+        assert!((2..8).all(|line| around(line).as_deref() == Some("float::Point::near")));
+        assert!([0, 1, 8].iter().all(|line| around(*line).is_none()));
+    }
+
+    #[test]
     fn a_constant_belongs_to_those_that_use_it() {
         assert_eq!(
             source().touched("src/sign.rt", 0),
@@ -327,7 +317,7 @@ mod tests {
             .collect();
         assert_eq!(lines, [3]);
         let mut source = source();
-        let method = "impl Point {\n    fn near(\n        self,\n    ) -> bool\n        requires { x }\n        ensures { λ r.\n            y }\n    {\n        true\n    }\n}\n";
+        let method = "impl Point {\n    fn near(\n        self,\n    ) -> bool\n        requires { x }\n        ensures { result\n            ≡ y }\n    {\n        true\n    }\n}\n";
         source.files.insert("src/near.rt".into(), method.into());
         assert!((4..7).all(|line| source.in_contract("src/near.rt", line)));
         assert!((0..4).all(|line| !source.in_contract("src/near.rt", line)));
@@ -335,36 +325,14 @@ mod tests {
     }
 
     #[test]
-    fn calls_are_followed() {
-        let reached = source().reached("float::Point::far");
-        assert_eq!(
-            reached,
-            set(&[
-                "float::sign::abs",
-                "float::sign::fits",
-                "float::sign::negative"
-            ])
-        );
-        assert!(source().reached("float::sign::negative").is_empty());
-    }
-
-    #[test]
-    fn a_call_of_itself_or_on_one_line_is_followed_too() {
+    fn a_law_is_declared_with_its_type() {
         let mut source = source();
-        let other = "fn down(x: u8) { down(one(x)) }\n\nfn one(x: u8) {}\n";
-        source.files.insert("src/down.rt".into(), other.into());
-        let reached = source.reached("float::down::down");
-        assert_eq!(reached, set(&["float::down::one"]));
-    }
-
-    #[test]
-    fn a_file_that_is_not_the_same_is_found() {
-        let mut other = source().files;
-        assert_eq!(source().differs(&other), None);
-        other.insert("src/more.rt".into(), String::new());
-        assert_eq!(source().differs(&other), Some("src/more.rt"));
-        other.remove("src/lib.rt");
-        assert_eq!(source().differs(&other), Some("src/lib.rt"));
+        let text = "  pub le_is : {x : ℕ} →\n    le x x\n  le_is = lt_is refl\n";
+        source.files.insert("proofs/Less.antt".into(), text.into());
+        assert!(source.declares("proofs/Less.antt", "le_is"));
+        assert!(!source.declares("proofs/Less.antt", "lt_is"));
+        assert!(!source.declares("proofs/Less.antt", "le-is"));
+        assert!(!source.declares("proofs/More.antt", "le_is"));
     }
 
     #[test]
