@@ -1,2 +1,2 @@
--- The contract of `find_seams` cites Seams, and so does the definition of `triangulate_grid`.
+-- The contract of `find_seams` cites Seams.
 pub mod Seams
