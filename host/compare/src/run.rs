@@ -61,7 +61,8 @@ fn record(seed: u64, file: &str) -> Result<ExitCode, String> {
         return Err(format!("no case reaches {}", missing.join("; ")));
     }
     fs::write(file, record.text()).map_err(|fault| format!("{file}: {fault}"))?;
-    println!("compare: {} cases recorded", record.len());
+    let [written, left_out] = record.counts();
+    println!("compare: {written} cases recorded, {left_out} of seams found and given left out");
     Ok(ExitCode::SUCCESS)
 }
 
