@@ -154,8 +154,8 @@ mt_index_answer mt_map_index_inv(bool reverse, size_t offset, size_t steps, size
  * A grid has two seams: that of u, between its column u = 0 as row a and its column u = m as row b,
  * of n steps each, and that of v, between its row v = 0 as a and its row v = n as b, of m steps.
  * mt_find_seams finds both, mt_triangulate_seams takes two and makes the triangles, and
- * mt_triangulate_grid is the one and then the other. In each u_tolerance is that of the u seam,
- * v_tolerance that of the v seam, and line_tolerance is tested and not used.
+ * mt_triangulate_grid answers what the one and then the other would. In each u_tolerance is that of
+ * the u seam, v_tolerance that of the v seam, and line_tolerance is tested and not used.
  */
 
 /* Both seams, or a refusal. */
@@ -210,8 +210,8 @@ mt_counts_answer mt_triangulate_seams(const double *grid, size_t grid_len, size_
                                       size_t *flipped, size_t flipped_len);
 
 /*
- * Finds the seams of a grid, joins them, and writes its triangles and flipped pairs: what
- * mt_find_seams finds is given to mt_triangulate_seams, which always takes it.
+ * Finds the seams of a grid, joins them, and writes its triangles and flipped pairs: as
+ * mt_triangulate_seams does with what mt_find_seams finds, which always fits.
  * Leaves 3 * triangles numbers in `triangles`, 2 * pairs in `flipped`, and zeros after them.
  * Refusals: 1, 2, 13, 3 (`triangles` has less than 6 * m * n places, or `flipped` less than
  * 2 * (m + n)), 4.

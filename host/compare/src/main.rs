@@ -15,7 +15,8 @@
 //! `--write` names. `--replay` runs the written case alone: status 1 while it differs, 0 when it
 //! does no longer. `--bytes` runs one case that the bytes of a file choose (`-` is stdin), as a
 //! fuzzer wants it. `--record` writes the cases that `crates/replay` runs, and says what they, and
-//! those that it leaves out, reach. Where the sources of the original are absent nothing is compared, and the status is 2.
+//! those that it leaves out, reach. Where the sources of the original are absent nothing is compared,
+//! and the status is 2.
 
 use std::process::ExitCode;
 

@@ -120,8 +120,8 @@ pub struct Triangulation {
 }
 
 /// The triangles of a grid of `u_steps` by `v_steps` cells, its seams joined, and the pairs of
-/// triangles that meet along a reversed seam, each (smaller, larger), ascending (Rules 4): what
-/// [`find_seams`] finds is given to [`triangulate_seams`].
+/// triangles that meet along a reversed seam, each (smaller, larger), ascending (Rules 4): as
+/// [`triangulate_seams`] does with what [`find_seams`] finds.
 ///
 /// The grid has three numbers for each point, and point (u, v) has the number `u * (v_steps + 1) + v`.
 /// The tolerance of lines is tested and not used. All places of the two lists past what is written
