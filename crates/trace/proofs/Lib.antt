@@ -1,4 +1,4 @@
--- Laws that belong to no one function.
+-- Laws that belong to no one function, and known results: Table those of this layer, Known those of all.
 pub mod Sampled
 pub mod Checks
 pub mod Turns
@@ -12,3 +12,5 @@ pub mod Points
 pub mod Demands
 pub mod Numbered
 pub mod Ended
+pub mod Table
+pub mod Known
