@@ -3,15 +3,15 @@
 // each case in which the library differs, and how many cases there were. A read or a write that fails ends it.
 #![tactic(auto)]
 
-ghost use Rattle.std.specs.Prelude.{◌≤◌, IfOk};
+ghost use Rattle.std.specs.Prelude.{◌≤◌, IfOk, length};
 
 use cases::words;
 use replay_curve::{textures, traces};
 use replay_surface::{lines, meshes, seams, vectors};
-use std::io::{self, Read};
+use std::io::{self, Input, Read};
 
 // How many bytes of the record are read: what follows them is left out.
-const TEXT_ROOM: u64 = 524288;
+const TEXT_ROOM: usize = 524288;
 
 // How many words they may be.
 const WORD_ROOM: usize = 65536;
@@ -60,12 +60,37 @@ fn replay(rt: &impl Print, words: &[u64]) -> io::Result<()> {
     println!(rt; "replay: {cases} cases, {differ} differ")
 }
 
-fn main(rt: HostRuntime) -> io::Result<()> {
-    let mut text = Vec::new(rt.alloc());
-    rt.reader().take(TEXT_ROOM).read_to_end(&mut text)?;
-    let mut list = vec![in rt.alloc(); 0u64; WORD_ROOM]?;
-    if !words::read_words(&text, &mut list) {
+// As much of the input as `text` has room for, and how much that is.
+fn read_full(reader: &mut impl Read, text: &mut [u8]) -> io::Result<usize>
+    ensures { IfOk result (λ count. count ≤ length text.new) }
+{
+    let mut count = 0;
+    while count < text.len() {
+        let more = reader.read(&mut text[count..])?;
+        if more == 0 {
+            break;
+        }
+        count += more;
+    }
+    Ok(count)
+}
+
+// The record that is read into the two rooms is replayed.
+fn replay_input<R: Input + Print>(
+    rt: &R,
+    text: &mut [u8; TEXT_ROOM],
+    list: &mut [u64; WORD_ROOM],
+) -> io::Result<()> {
+    let room: &mut [u8] = text;
+    let length = read_full(&mut rt.reader(), room)?;
+    if !words::read_words(&room[..length], list) {
         return println!(rt; "replay: the record is no list of numbers, or too long");
     }
-    replay(&rt, &list)
+    replay(rt, list)
+}
+
+fn main(rt: HostRuntime) -> io::Result<()> {
+    let mut text = [0u8; TEXT_ROOM];
+    let mut list = [0u64; WORD_ROOM];
+    replay_input(&rt, &mut text, &mut list)
 }

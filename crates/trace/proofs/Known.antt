@@ -26,8 +26,8 @@ use Rattle.crossing.specs.Crossing.{step_index}
 use Rattle.crossing.specs.Table as crossing
 use Rattle.lent.specs.Lent.{Afterwards, Counts, counts}
 use Rattle.page.specs.Page.{Lists}
-use Rattle.trace.proofs.Table as traces
-use Rattle.trace.proofs.Table.{traced, numbered, coarse}
+use Rattle.trace.specs.Table as traces
+use Rattle.trace.specs.Table.{traced, numbered, coarse}
 
 -- Rules 7.2, `step_index`: 4 of 4 steps is in cell 3 by 1, −EPS of 4 steps in cell 0 by 0; without steps no answer
 pub step_index_lem : (step_index (of_bits binary64 0x4010000000000000) 4 ≡ At 3 one64)

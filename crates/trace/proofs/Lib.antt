@@ -1,4 +1,4 @@
--- Laws that belong to no one function, and known results: Table those of this layer, Known those of all.
+-- Laws that belong to no one function, and in Known the known results of all layers.
 pub mod Sampled
 pub mod Checks
 pub mod Turns
@@ -12,5 +12,4 @@ pub mod Points
 pub mod Demands
 pub mod Numbered
 pub mod Ended
-pub mod Table
 pub mod Known

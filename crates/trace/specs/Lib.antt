@@ -1,9 +1,11 @@
 -- Curve, Drawing, Trace, Demand and Numbers say what the contract of the open call, `trace_flat`, cites: Rules 6.1, 7,
--- 8, 11 and 5.5. Ended serves inner contracts only, and so does `param_at` of Curve. Known results are in proofs/Table
--- and proofs/Known: so a wrong definition can be tried (must-fail), which a theorem beside it would hide.
+-- 8, 11 and 5.5. Table has known results, by computation; those of all layers are in proofs/Known, since a wrong
+-- definition (must-fail) could not be tried with them here. Ended serves inner contracts only, and so does `param_at` of
+-- Curve.
 pub mod Curve
 pub mod Drawing
 pub mod Trace
 pub mod Demand
 pub mod Numbers
+pub mod Table
 pub mod Ended
