@@ -444,6 +444,10 @@ static void order_of_13(void) {
     const uint8_t mark[] = {2};
     EXPECT(mt_new_vector(LENT(bad), cell, 4, 0).refusal == MT_LENGTH);
     EXPECT(mt_new_vector(LENT(bad), LENT(cell), 0).refusal == MT_TOLERANCE);
+#define TRIANGULATED(...) mt_triangulate_grid(__VA_ARGS__, GIVEN(none), NULL, 0, NULL, 0).refusal
+    EXPECT(TRIANGULATED(LENT(cell), 1, 256) == MT_STEPS);
+    EXPECT(TRIANGULATED(cell, 11, 1, 1) == MT_LENGTH);
+    EXPECT(TRIANGULATED(LENT(bad), 1, 1) == MT_TOLERANCE);
 #define NO_LISTS NULL, 0, NULL, 0, NULL, 0, NULL, 0, NULL, 0
 #define TRACED(grid, len, m, n, ...) \
     mt_trace_flat(grid, len, m, n, GIVEN(none), __VA_ARGS__, NO_LISTS).refusal

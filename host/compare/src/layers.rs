@@ -39,12 +39,12 @@ pub const LAYERS: [Layer; 8] = [
     },
     Layer {
         name: "cyclic",
-        share: 25,
+        share: 30,
         compare: seams::compare,
     },
     Layer {
         name: "mesh",
-        share: 15,
+        share: 10,
         compare: meshes::compare,
     },
     Layer {

@@ -483,7 +483,7 @@ mod tests {
 
     /// All corners are one point, so that both seams would be found.
     #[test]
-    fn a_refused_answer_has_zero_seams_and_counts() {
+    fn a_refused_answer_has_zero_seams() {
         let far = [f64::NAN; 12];
         for (number, grid, steps, line, room) in [
             (1, &[0.0; 12][..], 256, EPS, 6),

@@ -327,7 +327,7 @@ fn nearly_closed() -> Vec<f64> {
 }
 
 #[test]
-fn each_seam_is_found_and_taken_by_its_own_tolerance() {
+fn each_seam_is_found_by_its_own_tolerance() {
     let grid = nearly_closed();
     let surface = Surface::new(&grid, 3, 4).expect("a grid");
     let (u_seam, v_seam) = (forward(0, 4), forward(0, 3));
