@@ -1,4 +1,4 @@
-//! The files `crates/NAME/must-fail/*.edit`: wrong programs that the prover must refuse, one a file.
+//! The files `crates/NAME/must-fail/*.edit`: wrong programs that the prover must refuse.
 //!
 //!     # a comment, where the name does not say why it is wrong
 //!     wrong: abs_keeps_sign
@@ -9,8 +9,7 @@
 //!
 //! `leaves: law proofs/Demands.antt demand3` names a lemma or a known result in the place of a
 //! function. `rt` reads the last three kinds of lines, makes every change of a file and checks the
-//! crate once. It shows the first refusal of a check, so a file has one wrong program; one that is
-//! made in several functions has a file for each, under the same name.
+//! crate once, so the wrong programs of a file are tried together.
 
 use std::fmt;
 
@@ -66,30 +65,30 @@ impl Wrong {
     }
 }
 
-/// The wrong program of a file, or its first line that has no place.
-pub fn parse(text: &str) -> Result<Wrong, String> {
-    let mut found: Option<Wrong> = None;
+/// The wrong programs of a file, or its first line that has no place.
+pub fn parse(text: &str) -> Result<Vec<Wrong>, String> {
+    let mut found: Vec<Wrong> = Vec::new();
     let mut place = Place::default();
     let lines = text.lines().filter(|line| !line.starts_with('#'));
     for line in lines.filter(|line| !line.trim().is_empty()) {
-        match (split(line)?, &mut found) {
-            (("wrong", name), None) => {
+        match (split(line)?, found.last_mut()) {
+            (("wrong", name), _) => {
                 let name = name.to_string();
-                found = Some(Wrong {
+                found.push(Wrong {
                     name,
                     ..Wrong::default()
                 });
-            }
-            (("wrong", name), Some(_)) => {
-                return Err(format!("{name} needs a file of its own"));
+                place = Place::default();
             }
             ((word, rest), Some(wrong)) => place.read(word, rest, wrong)?,
             _ => return Err(format!("stands before a `wrong:` line: {line}")),
         }
     }
-    let wrong = found.ok_or("no wrong program")?;
-    whole(&wrong)?;
-    Ok(wrong)
+    found.iter().try_for_each(whole)?;
+    match found.is_empty() {
+        true => Err("no wrong program".to_string()),
+        false => Ok(found),
+    }
 }
 
 /// Where the next change is made: the file stays until another is named.
@@ -156,27 +155,18 @@ fn whole(wrong: &Wrong) -> Result<(), String> {
 mod tests {
     use super::*;
 
-    const ONE: &str =
-        "# why\nwrong: first_one\nleaves: fn a::b\nfile: src/lib.rt\nold: x: 1\nnew: x: 2\n\n";
-    const LAW: &str =
-        "wrong: second_one\nleaves: law proofs/L.antt fact\nfile: specs/S.antt\nold:  y\nnew:\n";
+    const TWO: &str = "# why\nwrong: first_one\nleaves: fn a::b\nfile: src/lib.rt\nold: x: 1\nnew: x: 2\n\
+                       wrong: second_one\nleaves: law proofs/L.antt fact\nfile: specs/S.antt\nold:  y\nnew:\n";
 
     #[test]
-    fn reads_what_it_leaves_and_changes() {
-        let (one, law) = (parse(ONE).unwrap(), parse(LAW).unwrap());
-        assert_eq!(one.name, "first_one");
-        assert_eq!(one.leaves, [Left::Function("a::b".into())]);
-        assert_eq!(one.changes[0].old, "x: 1");
-        assert_eq!(law.leaves[0].to_string(), "law proofs/L.antt fact");
-        assert_eq!(law.changes[0].old, " y");
-        assert_eq!(law.changes[0].new, "");
-        assert!(one.of_code() && !law.of_code());
-    }
-
-    #[test]
-    fn a_second_one_needs_a_file_of_its_own() {
-        let fault = parse(&format!("{ONE}{LAW}")).unwrap_err();
-        assert_eq!(fault, "second_one needs a file of its own");
+    fn reads_what_each_leaves_and_changes() {
+        let found = parse(TWO).unwrap();
+        assert_eq!(found[0].name, "first_one");
+        assert_eq!(found[0].leaves, [Left::Function("a::b".into())]);
+        assert_eq!(found[0].changes[0].old, "x: 1");
+        assert_eq!(found[1].changes[0].old, " y");
+        assert_eq!(found[1].changes[0].new, "");
+        assert!(found[0].of_code() && !found[1].of_code());
     }
 
     #[test]

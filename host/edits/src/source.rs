@@ -55,6 +55,17 @@ impl Source {
         self.files.get(file).map(String::as_str)
     }
 
+    /// The names of the files and their texts.
+    pub fn files(&self) -> impl Iterator<Item = (&str, &str)> {
+        let both = |(file, text)| (String::as_str(file), String::as_str(text));
+        self.files.iter().map(both)
+    }
+
+    /// Gives a file another text.
+    pub fn set(&mut self, file: &str, text: String) {
+        self.files.insert(file.to_string(), text);
+    }
+
     /// Replaces `old`, which stands in the file exactly once, by `new`, and hands back the line
     /// where it stood.
     pub fn replace(&mut self, file: &str, old: &str, new: &str) -> Result<usize, String> {
