@@ -50,6 +50,10 @@ impl Tried<'_> {
             return None;
         }
         let refusal = self.said.refusal(self.krate, label)?;
+        // The goal may be open because the change renamed it: the whole log tells.
+        if wrong.of_code() && refusal.is_left_open() {
+            return None;
+        }
         let mut leaves = wrong.leaves.iter();
         let own = leaves.find(|left| belongs(&refusal, left, &edited))?;
         refusal
@@ -220,16 +224,22 @@ fn by_new_names(left: &Left, renamed: &Renamed) -> Option<String> {
     ways.iter().all(refused).then_some(words)
 }
 
-/// Whether a check leaves that function or law unproved for its own sake.
+/// Whether a check leaves that function or law unproved for its own sake. Where names are gone that
+/// the answers of a function have, a goal of it that is left open may just have another name.
 fn is_left(left: &Left, edited: &Source, log: &Whole) -> Result<(), String> {
+    let mut names_are_gone = false;
     if let Left::Function(path) = left {
         log.leaves(path)?;
+        let answers = format!("{}Answers.antt", proof_folder(path));
+        names_are_gone = !log.names(path, &answers).0.is_empty();
     }
     let own: Vec<Refusal> = log
         .refusals()
         .filter(|refusal| belongs(refusal, left, edited))
         .collect();
-    if own.iter().any(Refusal::is_of_a_fact) {
+    let counts =
+        |refusal: &Refusal| refusal.is_of_a_fact() && !(names_are_gone && refusal.is_left_open());
+    if own.iter().any(counts) {
         return Ok(());
     }
     Err(match own.first() {

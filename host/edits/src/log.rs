@@ -12,9 +12,9 @@
 //! The second's own proof does not fail, and the third's does.
 
 /// The words for a fact that is not shown: antt has them where an answer of a proof does not show
-/// what it is to show, and `rattle` has the last for a goal that no answer and no search closes. A
-/// refusal in other words tells nothing of the program's meaning: a goal or a field that is not
-/// there under its name, a name that is not in scope, a file that cannot be read.
+/// what it is to show. A refusal in other words, but those for a goal that is left open, tells
+/// nothing of the program's meaning: a goal or a field that is not there under its name, a name that
+/// is not in scope, a file that cannot be read.
 const FACT_FAILS: &[&str] = &[
     // a proof of another statement than the one asked for
     "the two types ",
@@ -32,10 +32,10 @@ const FACT_FAILS: &[&str] = &[
     "no proof of ",
     "the goal does not follow",
     "does not follow from what it read",
-    // a goal that is left open
-    "it is not proved that ",
-    "`search` found no proof (`",
 ];
+
+/// The words for a goal that no answer and no search closes.
+const LEFT_OPEN: &[&str] = &["it is not proved that ", "`search` found no proof (`"];
 
 /// What goes before the fields of a record that has not the one which is named.
 const FIELDS: &str = "  the fields that can be named here are ";
@@ -144,9 +144,15 @@ impl Whole {
 }
 
 impl Refusal {
-    /// Whether it is of a fact that is not shown.
+    /// Whether it is of a fact that is not shown, or of a goal that is left open.
     pub fn is_of_a_fact(&self) -> bool {
-        FACT_FAILS.iter().any(|words| self.message.contains(words)) || is_a_term(&self.message)
+        let fails = || FACT_FAILS.iter().any(|words| self.message.contains(words));
+        self.is_left_open() || fails() || is_a_term(&self.message)
+    }
+
+    /// Whether it is of a goal that is left open.
+    pub fn is_left_open(&self) -> bool {
+        LEFT_OPEN.iter().any(|words| self.message.contains(words))
     }
 }
 
