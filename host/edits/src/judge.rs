@@ -199,6 +199,7 @@ fn leaves(wrong: &Wrong, edited: &Source, log: &Whole, renamed: &Renamed) -> Jud
     let own = wrong.leaves.iter().map(|left| {
         let own = is_left(left, edited, log).map(|()| format!("{left} is"));
         own.or_else(|why| by_new_names(left, renamed).ok_or(why))
+            .or_else(|why| by_open_goal(left, edited, log).ok_or(why))
     });
     let (own, faults): (Vec<Judged>, Vec<Judged>) = own.partition(Result::is_ok);
     let is_enough = faults.is_empty() || !own.is_empty() && !wrong.of_code();
@@ -217,28 +218,48 @@ fn by_new_names(left: &Left, renamed: &Renamed) -> Option<String> {
     };
     let ways = renamed.get(path).filter(|ways| !ways.is_empty())?;
     let refused = |(source, log): &(Source, Logged)| match log {
-        Ok(log) => is_left(left, source, log).is_ok(),
+        Ok(log) => is_left_by(left, source, log, Refusal::is_of_a_fact).is_ok(),
         Err(_) => false,
     };
     let words = format!("{left}, under the names that its goals then have, is");
     ways.iter().all(refused).then_some(words)
 }
 
+/// Whether a goal of a function is left open at least, where its new names cannot be put for the old.
+fn by_open_goal(left: &Left, edited: &Source, log: &Whole) -> Option<String> {
+    let is_open = is_left_by(left, edited, log, Refusal::is_left_open).is_ok();
+    is_open.then(|| format!("{left}, by a goal that is open under another name, is"))
+}
+
 /// Whether a check leaves that function or law unproved for its own sake. Where names are gone that
 /// the answers of a function have, a goal of it that is left open may just have another name.
 fn is_left(left: &Left, edited: &Source, log: &Whole) -> Result<(), String> {
-    let mut names_are_gone = false;
+    let names_are_gone = match left {
+        Left::Function(path) => {
+            let answers = format!("{}Answers.antt", proof_folder(path));
+            !log.names(path, &answers).0.is_empty()
+        }
+        Left::Law { .. } => false,
+    };
+    is_left_by(left, edited, log, |refusal| {
+        refusal.is_of_a_fact() && !(names_are_gone && refusal.is_left_open())
+    })
+}
+
+/// Whether a check leaves that function or law unproved by a refusal that counts.
+fn is_left_by(
+    left: &Left,
+    edited: &Source,
+    log: &Whole,
+    counts: impl Fn(&Refusal) -> bool,
+) -> Result<(), String> {
     if let Left::Function(path) = left {
         log.leaves(path)?;
-        let answers = format!("{}Answers.antt", proof_folder(path));
-        names_are_gone = !log.names(path, &answers).0.is_empty();
     }
     let own: Vec<Refusal> = log
         .refusals()
         .filter(|refusal| belongs(refusal, left, edited))
         .collect();
-    let counts =
-        |refusal: &Refusal| refusal.is_of_a_fact() && !(names_are_gone && refusal.is_left_open());
     if own.iter().any(counts) {
         return Ok(());
     }
