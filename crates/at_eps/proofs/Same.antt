@@ -1,7 +1,7 @@
 -- At EPS refusal 13 never applies, and a test that passes may stand between others or be left out: so the tests are
 -- those of before, and all else takes EPS where it stood.
 use mathlib.Core.Path.{◌≡◌}
-use Rattle.refusal.specs.declared.Check.TheVariants.{Passed}
+use Rattle.refusal.specs.Refusals.{passed}
 use Rattle.refusal.proofs.Laws.{then_nothing}
 use Rattle.tolerance.specs.Tolerance.{every_eps, tolerances_check}
 use Rattle.tolerance.specs.Table.{eps_fits}
@@ -11,7 +11,7 @@ use Rattle.mesh.specs.Mesh.{mesh_check, triangulate_grid}
 use Rattle.trace.specs.Trace.{check_lengths, trace_check, trace_flat}
 use Rattle.at_eps.specs.AtEps.{SameAtEps}
 
-every_fits : tolerances_check every_eps ≡ Passed
+every_fits : tolerances_check every_eps ≡ passed
 every_fits = rw eps_fits
 
 pub same_at_eps : SameAtEps

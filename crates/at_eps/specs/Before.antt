@@ -2,24 +2,25 @@
 -- EPS, and no refusal is for a tolerance. What is the same before and after is cited.
 use Rattle.std.specs.Prelude.{ℕ, ◌+◌, ◌*◌, ◌/◌, ◌&&◌, List, length, Float}
 use Rattle.float.specs.Consts.{eps}
-use Rattle.refusal.specs.declared.Check.{Check}
-use Rattle.refusal.specs.declared.Check.TheVariants.{Passed}
 use Rattle.refusal.specs.declared.Refusal.TheVariants.{Length, Coordinate, Mark, Sample}
-use Rattle.refusal.specs.Refusals.{Answer, ok, unless, and_then, passing}
-use Rattle.lent.specs.Lent.{room_check, Afterwards, answering, if_passed, Counts}
+use Rattle.refusal.specs.Refusals.{Check, passed, Answer, ok, unless, and_then, passing}
+use Rattle.lent.specs.declared.Counts.{Counts}
+use Rattle.lent.specs.Lent.{room_check, Afterwards, answering, if_passed}
 use Rattle.grid.specs.Grid.{point_at, coordinates_fit, grid_check}
 use Rattle.cyclic.specs.declared.seam.SeamSearch.{SeamSearch}
 use Rattle.cyclic.specs.Search.{close_at, search, row_fits}
 use Rattle.surface.specs.Surface.{Shape}
 use Rattle.surface.specs.Found.{column, row, surface_with}
-use Rattle.mesh.specs.Mesh.{Meshed, MeshLists, written, meshed}
+use Rattle.mesh.specs.declared.Meshed.{Meshed}
+use Rattle.mesh.specs.Mesh.{MeshLists, written, meshed}
 use Rattle.page.specs.Page.{Lists}
 use Rattle.trace.specs.Drawing.{room_in}
 use Rattle.trace.specs.Trace.{check_lengths, marks_fit, pairs_fit, drawing_of, finished}
 
 -- `new_vector`: refusals 2 and 4 of two rows, and the search
 abbrev pub rows_check : List Float → List Float → Check
-rows_check a b = unless (row_fits a && row_fits b) Length (unless (coordinates_fit a && coordinates_fit b) Coordinate Passed)
+rows_check a b =
+    unless (row_fits a && row_fits b) Length (unless (coordinates_fit a && coordinates_fit b) Coordinate passed)
 
 abbrev pub new_vector : List Float → List Float → Answer SeamSearch
 new_vector a b =
@@ -48,7 +49,7 @@ abbrev pub trace_check : List Float → ℕ → ℕ → List Float → List ℕ 
 trace_check g m n pairs marks =
     and_then (grid_check g m n (check_lengths pairs marks))
     (unless (marks_fit marks) Mark
-    (unless (pairs_fit pairs marks) Sample Passed))
+    (unless (pairs_fit pairs marks) Sample passed))
 
 abbrev pub trace_flat : List Float → ℕ → ℕ → List Float → List ℕ → Lists → Afterwards (Answer Counts) Lists
 trace_flat g m n pairs marks l =

@@ -2,6 +2,7 @@
 // into.
 #![tactic(auto)]
 
+pub mod answers;
 pub mod lists;
 pub mod rooms;
 pub mod words;

@@ -1,19 +1,20 @@
 -- What it means that a seam fits two rows, for any closeness; and the seam that a search finds does: its offset was
 -- tried, and each point was found close.
-use Prim.Native.Nat.{ℕ, ◌≤◌, ◌<◌}
+use Prim.Native.Nat.{ℕ, ◌+◌, ◌≤◌, ◌<◌}
 use native.Mathlib.Omega.{arith}
 use mathlib.Core.Path.{◌≡◌, refl, sym, ◌∙◌}
 use mathlib.Core.Logic.{⊎_elim}
 use mathlib.Core.Bool.{Bool, true, false, ◌&&◌, ◌||◌, true≢false, cond}
 use lib.Dec.{eqb, ltb}
 use borrow.Author.Tests.{eqb-true, ltb-true, eq-eqb, lt-ltb}
-use Rattle.basics.proofs.Tests.{and_both, or_one, must}
+use Rattle.std.specs.Prelude.{Some, None}
+use Rattle.basics.proofs.Tests.{and_both, or_one, must, cannot}
 use Rattle.cyclic.specs.declared.mapping.CyclicMapping.{CyclicMapping}
-use Rattle.cyclic.specs.declared.seam.Seam.{Seam}
-use Rattle.cyclic.specs.declared.seam.Seam.TheVariants.{Joined, Unjoined}
-use Rattle.cyclic.specs.Mapping.{offset_of, steps_of}
+use Rattle.cyclic.specs.Mapping.{Seam, image, offset_of, steps_of}
 use Rattle.cyclic.specs.Search.{Row, Closeness, closed, search_rows}
 use Rattle.cyclic.specs.Fits.{of_rows, offset_tried, points_fit, seam_fits}
+use Rattle.cyclic.proofs.Mappings.{image_within}
+use Rattle.cyclic.proofs.Remains.{Run}
 use Rattle.cyclic.proofs.Laws.{Fits, offsets_tried, tells, closed_both, found, found_below}
 
 -- both rows are closed
@@ -41,7 +42,7 @@ module _ (close : Closeness) (a b : Row) (n : ℕ) where
   closed_is h = closed_both close a b n ∙ rw (h.0, h.1)
 
   -- what the test says is what is meant
-  pub fits_known : (m : CyclicMapping) → seam_fits close a b n (Joined m) ≡ true → Fitting close a b n m
+  pub fits_known : (m : CyclicMapping) → seam_fits close a b n (Some m) ≡ true → Fitting close a b n m
   unfolding seam_fits
   fits_known m h =
       let all = and_both (of_rows n m) (offset_tried close a b n (offset_of m) && points_fit close a b m) h in
@@ -56,7 +57,7 @@ module _ (close : Closeness) (a b : Row) (n : ℕ) where
         fits = (tells close a b m 0).0 rest.1;
       }
 
-  pub known_fits : (m : CyclicMapping) → Fitting close a b n m → seam_fits close a b n (Joined m) ≡ true
+  pub known_fits : (m : CyclicMapping) → Fitting close a b n m → seam_fits close a b n (Some m) ≡ true
   unfolding seam_fits
   known_fits m k =
       let own : of_rows n m ≡ true = rw (eq-eqb (steps_of m) n k.steps, lt-ltb (offset_of m) n k.below) in
@@ -80,8 +81,17 @@ module _ (close : Closeness) (a b : Row) (n : ℕ) where
       go true e l = and_both (close (a 0) (a n)) (close (b 0) (b n)) e
       go false e l = absurd (off (omega arith))
 
+  -- the points tried: all of them fit, or one does not
+  pub all_close : (m : CyclicMapping) → Run close a b m (steps_of m + 1) → points_fit close a b m ≡ true
+  all_close m f = must (points_fit close a b m) (λ e. (tells close a b m 0).1 e (λ j l. f j (omega arith)))
+
+  pub one_apart : (m : CyclicMapping) (j : ℕ) → j ≤ steps_of m → close (a j) (b (image m j)) ≡ false →
+      points_fit close a b m ≡ false
+  one_apart m j l h =
+      cannot (points_fit close a b m) (λ e. true≢false (sym ((tells close a b m 0).0 e j l) ∙ h))
+
   -- None always fits
-  none_fits : seam_fits close a b n Unjoined ≡ true
+  none_fits : seam_fits close a b n None ≡ true
   unfolding seam_fits
   none_fits = refl
 
@@ -90,8 +100,8 @@ module _ (close : Closeness) (a b : Row) (n : ℕ) where
   found_fit h = go (search_rows close a b n).seam refl
     where
       go : (s : Seam) → (search_rows close a b n).seam ≡ s → seam_fits close a b n s ≡ true
-      go Unjoined e = none_fits
-      go (Joined m) e =
+      go None e = none_fits
+      go (Some m) e =
           let f = found close a b n e in
           known_fits m
           (record {
@@ -100,3 +110,6 @@ module _ (close : Closeness) (a b : Row) (n : ℕ) where
             closed_off_zero = tried_closed (offset_of m) (omega (arith, f.below));
             fits = f.fits;
           })
+
+-- for a loop over the points of a mapping
+pub ruleset by_points = (image_within, all_close, one_apart)

@@ -7,14 +7,13 @@ use native.Mathlib.Omega.{arith}
 use mathlib.Core.Path.{◌≡◌, refl, sym, subst, ◌∙◌}
 use mathlib.Core.Logic.{⊎_elim}
 use mathlib.Core.Bool.{Bool, true, false, ◌&&◌, true≢false, cond}
+use Rattle.std.specs.Prelude.{Some, None}
 use Rattle.basics.proofs.Tests.{cond_keeps}
 use Rattle.cyclic.specs.declared.mapping.CyclicMapping.{CyclicMapping}
 use Rattle.cyclic.specs.declared.mapping.CyclicMapping.TheVariants.{Forward, Reverse}
-use Rattle.cyclic.specs.declared.seam.Seam.{Seam}
-use Rattle.cyclic.specs.declared.seam.Seam.TheVariants.{Joined, Unjoined}
 use Rattle.cyclic.specs.declared.seam.SeamSearch.{SeamSearch}
 use Rattle.cyclic.specs.declared.seam.Tried.{Tried}
-use Rattle.cyclic.specs.Mapping.{image, offset_of, steps_of, is_reverse}
+use Rattle.cyclic.specs.Mapping.{Seam, image, offset_of, steps_of, is_reverse}
 use Rattle.cyclic.specs.Search.{Row, Closeness, tried, searched, try_from, closed, search_from, search_rows}
 
 -- point j of a is close to its image
@@ -44,14 +43,14 @@ pub record Joins (close : Closeness) (a b : Row) (n o k : ℕ) (m : CyclicMappin
 
 -- what such a search says by its answer
 abbrev pub Outcome : Closeness → Row → Row → ℕ → ℕ → ℕ → Seam → Type 0
-Outcome close a b n o k (Joined m) = Joins close a b n o k m
-Outcome close a b n o k Unjoined = (i : ℕ) → o ≤ i → i < o + k → Neither close a b n i
+Outcome close a b n o k (Some m) = Joins close a b n o k m
+Outcome close a b n o k None = (i : ℕ) → o ≤ i → i < o + k → Neither close a b n i
 
 -- the answer at offset o: forward, then reverse, then what is left
 abbrev one_offset : ℕ → ℕ → Tried → Tried → SeamSearch → SeamSearch
 one_offset n o f r s =
-    cond f.fits (searched (Joined (Forward o n)) f.made)
-    (cond r.fits (searched (Joined (Reverse o n)) r.made) s)
+    cond f.fits (searched (Some (Forward o n)) f.made)
+    (cond r.fits (searched (Some (Reverse o n)) r.made) s)
 
 -- as many offsets as steps at most
 pub offsets_most : (n : ℕ) (t : Bool) → 1 ≤ n → cond t n 1 ≤ n
@@ -109,7 +108,7 @@ module _ (close : Closeness) (a b : Row) where
   -- one offset more in front, which fits neither way
   extend : (n o k : ℕ) (s : Seam) → Neither close a b n o → Outcome close a b n (o + 1) k s →
       Outcome close a b n o (suc k) s
-  extend n o k (Joined m) h t =
+  extend n o k (Some m) h t =
       record {
         steps = t.steps;
         least = omega (arith, t.least);
@@ -118,7 +117,7 @@ module _ (close : Closeness) (a b : Row) where
         earlier = λ i l g. ⊎_elim (λ e. rw (← e) h) (λ e. t.earlier i (omega arith) g) (eq-or-lt_of_le l);
         not_forward = t.not_forward;
       }
-  extend n o k Unjoined h t =
+  extend n o k None h t =
       λ i l g. ⊎_elim (λ e. rw (← e) h) (λ e. t i (omega arith) (omega arith)) (eq-or-lt_of_le l)
 
   -- a mapping at the first offset
@@ -142,8 +141,8 @@ module _ (close : Closeness) (a b : Row) where
     where
       go : (x y : Bool) → f.fits ≡ x → r.fits ≡ y →
           Outcome close a b n o (suc k)
-          (cond x (searched (Joined (Forward o n)) f.made)
-          (cond y (searched (Joined (Reverse o n)) r.made) s)).seam
+          (cond x (searched (Some (Forward o n)) f.made)
+          (cond y (searched (Some (Reverse o n)) r.made) s)).seam
       go true y e g = joins_first n k (Forward o n) refl (tf.0 e) (λ h. absurd (true≢false (sym h)))
       go false true e g = joins_first n k (Reverse o n) refl (tr.0 g) (λ h. tf.1 e)
       go false false e g = extend n o k s.seam (tf.1 e, tr.1 g) t
@@ -174,50 +173,50 @@ module _ (close : Closeness) (a b : Row) where
 
   -- A mapping was found
 
-  pub found : (n : ℕ) {m : CyclicMapping} → (search_rows close a b n).seam ≡ Joined m →
+  pub found : (n : ℕ) {m : CyclicMapping} → (search_rows close a b n).seam ≡ Some m →
       Joins close a b n 0 (offsets_tried close a b n) m
   found n e = subst (Outcome close a b n 0 (offsets_tried close a b n)) e (outcome n)
 
   -- its steps are the rows'
-  pub found_steps : (n : ℕ) {m : CyclicMapping} → (search_rows close a b n).seam ≡ Joined m → steps_of m ≡ n
+  pub found_steps : (n : ℕ) {m : CyclicMapping} → (search_rows close a b n).seam ≡ Some m → steps_of m ≡ n
   found_steps n e = (found n e).steps
 
   -- its offset is below steps
-  pub found_below : (n : ℕ) {m : CyclicMapping} → 1 ≤ n → (search_rows close a b n).seam ≡ Joined m → offset_of m < n
+  pub found_below : (n : ℕ) {m : CyclicMapping} → 1 ≤ n → (search_rows close a b n).seam ≡ Some m → offset_of m < n
   found_below n l e = omega (arith, (found n e).below, offsets_most n (close (a 0) (a n) && close (b 0) (b n)) l)
 
   -- it fits at every point
-  pub found_fits : (n : ℕ) {m : CyclicMapping} → (search_rows close a b n).seam ≡ Joined m → Fits close a b m
+  pub found_fits : (n : ℕ) {m : CyclicMapping} → (search_rows close a b n).seam ≡ Some m → Fits close a b m
   found_fits n e = (found n e).fits
 
   -- no earlier offset fits either way
-  pub found_first : (n : ℕ) {m : CyclicMapping} → (search_rows close a b n).seam ≡ Joined m → (o : ℕ) → o < offset_of m →
+  pub found_first : (n : ℕ) {m : CyclicMapping} → (search_rows close a b n).seam ≡ Some m → (o : ℕ) → o < offset_of m →
       Neither close a b n o
   found_first n e o l = (found n e).earlier o (omega arith) l
 
   -- where reverse was found, forward does not fit at its offset
-  pub found_not_forward : (n o : ℕ) → (search_rows close a b n).seam ≡ Joined (Reverse o n) →
+  pub found_not_forward : (n o : ℕ) → (search_rows close a b n).seam ≡ Some (Reverse o n) →
       Fits close a b (Forward o n) → ⊥
   found_not_forward n o e = (found n e).not_forward refl
 
   -- there is no mapping if and only if none of the offsets tried fits in either direction
 
-  pub none_fits : (n : ℕ) → (search_rows close a b n).seam ≡ Unjoined → (o : ℕ) → o < offsets_tried close a b n →
+  pub none_fits : (n : ℕ) → (search_rows close a b n).seam ≡ None → (o : ℕ) → o < offsets_tried close a b n →
       Neither close a b n o
   none_fits n e o l =
       subst (Outcome close a b n 0 (offsets_tried close a b n)) e (outcome n) o (omega arith) (omega arith)
 
   pub none_found : (n : ℕ) → ((o : ℕ) → o < offsets_tried close a b n → Neither close a b n o) →
-      (search_rows close a b n).seam ≡ Unjoined
+      (search_rows close a b n).seam ≡ None
   none_found n f = go (search_rows close a b n).seam (outcome n)
     where
       either : (m : CyclicMapping) → steps_of m ≡ n → Fits close a b m → Neither close a b n (offset_of m) → ⊥
       either (Forward o k) e g h = h.0 (rw e at g)
       either (Reverse o k) e g h = h.1 (rw e at g)
 
-      go : (s : Seam) → Outcome close a b n 0 (offsets_tried close a b n) s → s ≡ Unjoined
-      go (Joined m) t = absurd (either m t.steps t.fits (f (offset_of m) (omega (arith, t.below))))
-      go Unjoined t = refl
+      go : (s : Seam) → Outcome close a b n 0 (offsets_tried close a b n) s → s ≡ None
+      go (Some m) t = absurd (either m t.steps t.fits (f (offset_of m) (omega (arith, t.below))))
+      go None t = refl
 
   -- Comparisons: at most 2 for the ends, and 2·(n + 1) at each offset
 

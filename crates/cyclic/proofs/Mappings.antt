@@ -7,13 +7,12 @@ use native.Mathlib.Nat.{add-mod-mod, add-mod_right}
 use native.Mathlib.Omega.{arith}
 use mathlib.Core.Path.{◌≡◌, refl, ◌∙◌}
 use mathlib.Core.Logic.{◌⊎◌, inl, inr, ⊎_elim}
-use mathlib.Core.Bool.{Bool, true, false, ◌&&◌, cond}
-use lib.Dec.{ltb, leb}
-use borrow.Author.Tests.{ltb-true, ltb-false, leb-true, eq-eqb, ne_eqb}
-use Rattle.basics.proofs.Tests.{and_both}
+use mathlib.Core.Bool.{Bool, true, false, not, ◌&&◌, and-false, cond}
+use lib.Dec.{eqb, ltb}
+use borrow.Author.Tests.{ltb-true, ltb-false, eq-eqb, ne_eqb}
 use Rattle.cyclic.specs.declared.mapping.CyclicMapping.{CyclicMapping}
 use Rattle.cyclic.specs.declared.mapping.CyclicMapping.TheVariants.{Forward, Reverse}
-use Rattle.cyclic.specs.Mapping.{image, inverse, offset_of, steps_of, is_reverse, usable, HasIndex}
+use Rattle.cyclic.specs.Mapping.{image, inverse, offset_of, steps_of, is_reverse, HasIndex}
 
 -- one of three
 abbrev OneOf : Type 0 → Type 0 → Type 0 → Type 0
@@ -37,15 +36,15 @@ wrapped x n h = go (ltb x n) refl
 
 -- The definitions, at offset 0 and at others
 
-pub forward_zero : (o n j : ℕ) → o ≡ 0 → image (Forward o n) j ≡ j
+forward_zero : (o n j : ℕ) → o ≡ 0 → image (Forward o n) j ≡ j
 unfolding image
 forward_zero o n j z = rw (eq-eqb o 0 z)
 
-pub forward_other : (o n j : ℕ) → (o ≡ 0 → ⊥) → image (Forward o n) j ≡ (o + j) % n
+forward_other : (o n j : ℕ) → (o ≡ 0 → ⊥) → image (Forward o n) j ≡ (o + j) % n
 unfolding image
 forward_other o n j f = rw (ne_eqb o 0 f)
 
-pub reverse_zero : (o n j : ℕ) → o ≡ 0 → image (Reverse o n) j ≡ n - j
+reverse_zero : (o n j : ℕ) → o ≡ 0 → image (Reverse o n) j ≡ n - j
 unfolding image
 reverse_zero o n j z = rw (eq-eqb o 0 z)
 
@@ -64,11 +63,11 @@ reverse_minus o n j l f = rw (ne_eqb o 0 f) (⊎_elim last below (eq-or-lt_of_le
         let y : o + n - j ≡ o = omega arith in
         rw (x, y, add-mod_right)
 
-pub inverse_zero : (o n j : ℕ) → o ≡ 0 → inverse (Forward o n) j ≡ j
+inverse_zero : (o n j : ℕ) → o ≡ 0 → inverse (Forward o n) j ≡ j
 unfolding inverse
 inverse_zero o n j z = rw (eq-eqb o 0 z)
 
-pub inverse_other : (o n j : ℕ) → (o ≡ 0 → ⊥) → inverse (Forward o n) j ≡ (j + n - o % n) % n
+inverse_other : (o n j : ℕ) → (o ≡ 0 → ⊥) → inverse (Forward o n) j ≡ (j + n - o % n) % n
 unfolding inverse
 inverse_other o n j f = rw (ne_eqb o 0 f)
 
@@ -229,22 +228,27 @@ reverse_next o n j h l =
     (λ f. rw (reverse_minus o n (j + 1) (omega arith) f)
     (mod-lt (o + n - (j + 1)) (omega arith), rw (mod-add-mod, x) (reverse_minus o n j (omega arith) f)))
 
+-- the index that follows an image, by the direction
+abbrev pub after : CyclicMapping → ℕ → ℕ
+after (Forward o n) k = cond (not (eqb o 0) && eqb (k + 1) n) 0 (k + 1)
+after (Reverse o n) k = cond (eqb k 0) (n - 1) (k - 1)
+
+pub image_next : (m : CyclicMapping) (j : ℕ) → offset_of m < steps_of m → j < steps_of m →
+    image m (j + 1) ≡ after m (image m j)
+image_next (Forward o n) j h l =
+    three (forward_next o n j h)
+    (λ w. rw (eq-eqb o 0 w.0) w.1)
+    (λ w. rw (ne_eqb (image (Forward o n) j + 1) n (omega arith), and-false) w.2)
+    (λ w. rw (ne_eqb o 0 (omega arith), eq-eqb (image (Forward o n) j + 1) n w.1) w.2)
+image_next (Reverse o n) j h l =
+    three (reverse_next o n j h l)
+    (λ w. rw (ne_eqb (image (Reverse o n) j) 0 (omega arith)) (omega arith))
+    (λ w. rw (ne_eqb (image (Reverse o n) j) 0 (omega arith)) (omega arith))
+    (λ w. rw (eq-eqb (image (Reverse o n) j) 0 w.2) (omega arith))
+
 -- the image of index 0, where the offset is not 0
 pub first_image : (m : CyclicMapping) → HasIndex m 0 → (offset_of m ≡ 0 → ⊥) → offset_of m ≡ image m 0
 first_image (Forward o n) u f =
     three (forward_at o n 0 u.1 u.2) (λ w. absurd (f w.0)) (λ w. omega arith) (λ w. absurd (omega arith))
 first_image (Reverse o n) u f =
     three (reverse_at o n 0 u.1 u.2) (λ w. absurd (f w.0)) (λ w. omega arith) (λ w. absurd (omega arith))
-
--- What the test of an index shows
-
-pub usable_known : (m : CyclicMapping) (i : ℕ) → usable m i ≡ true → HasIndex m i
-usable_known m i h =
-    let b = and_both (leb 1 (steps_of m) && leb (steps_of m) 65535)
-    (ltb (offset_of m) (steps_of m) && leb i (steps_of m)) h in
-    let s = and_both (leb 1 (steps_of m)) (leb (steps_of m) 65535) b.0 in
-    let t = and_both (ltb (offset_of m) (steps_of m)) (leb i (steps_of m)) b.1 in
-    (leb-true (steps_of m) 65535 s.1, ltb-true (offset_of m) (steps_of m) t.0, leb-true i (steps_of m) t.1)
-
-pub has_index_as : {m k : CyclicMapping} (i : ℕ) → m ≡ k → HasIndex m i → HasIndex k i
-has_index_as i e u = rw e at u

@@ -1,9 +1,7 @@
 -- Rules 3.5: whether a seam that is given, and not searched for, fits two rows.
-use Rattle.std.specs.Prelude.{ℕ, ◌+◌, Bool, true, ◌&&◌, ◌||◌, eqb, ltb}
+use Rattle.std.specs.Prelude.{ℕ, ◌+◌, Bool, true, ◌&&◌, ◌||◌, eqb, ltb, Some, None}
 use Rattle.cyclic.specs.declared.mapping.CyclicMapping.{CyclicMapping}
-use Rattle.cyclic.specs.declared.seam.Seam.{Seam}
-use Rattle.cyclic.specs.declared.seam.Seam.TheVariants.{Joined, Unjoined}
-use Rattle.cyclic.specs.Mapping.{offset_of, steps_of}
+use Rattle.cyclic.specs.Mapping.{Seam, offset_of, steps_of}
 use Rattle.cyclic.specs.Search.{Row, Closeness, try_from, closed}
 
 -- a mapping of rows of so many steps: it has their steps, and an offset below them
@@ -21,5 +19,5 @@ module _ (close : Closeness) (a b : Row) where
 
   -- the seam fits: a mapping of these rows, at an offset that is tried, at each point; None always does
   unfoldable pub seam_fits : ℕ → Seam → Bool
-  seam_fits steps Unjoined = true
-  seam_fits steps (Joined m) = of_rows steps m && (offset_tried steps (offset_of m) && points_fit m)
+  seam_fits steps None = true
+  seam_fits steps (Some m) = of_rows steps m && (offset_tried steps (offset_of m) && points_fit m)

@@ -3,5 +3,6 @@
 -- results, and no contract cites it.
 pub mod Mapping
 pub mod Search
+pub mod TwoRows
 pub mod Fits
 pub mod Table

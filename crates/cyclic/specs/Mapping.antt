@@ -1,12 +1,13 @@
 -- Rules 3.4: a mapping's image of an index of a, its inverse image of an index of b, and refusal 8 of the two calls.
-use Rattle.std.specs.Prelude.{ℕ, ◌+◌, ◌-◌, ◌%◌, ◌≤◌, ◌<◌, Bool, true, false, ◌&&◌, cond, eqb, ltb, leb}
+use Rattle.std.specs.Prelude.{ℕ, ◌+◌, ◌-◌, ◌%◌, ◌≤◌, ◌<◌, Bool, true, false, ◌&&◌, cond, eqb, ltb, leb, Option}
 use Rattle.refusal.specs.declared.Refusal.TheVariants.{NotThere}
-use Rattle.refusal.specs.declared.Check.TheVariants.{Passed}
-use Rattle.refusal.specs.Refusals.{Answer, ok, refused, number_of, unless, passing}
+use Rattle.refusal.specs.Refusals.{passed, Answer, ok, unless, passing}
 use Rattle.cyclic.specs.declared.mapping.CyclicMapping.{CyclicMapping}
 use Rattle.cyclic.specs.declared.mapping.CyclicMapping.TheVariants.{Forward, Reverse}
-use Rattle.cyclic.specs.declared.mapping.MappedIndex.{MappedIndex}
-use Rattle.cyclic.specs.declared.mapping.MappedIndex.TheVariants.{Index, Refused}
+
+-- a seam: None, or a mapping
+abbrev pub Seam : Type 0
+Seam = Option CyclicMapping
 
 -- a mapping's offset, and its steps
 abbrev pub offset_of : CyclicMapping → ℕ
@@ -46,13 +47,8 @@ HasIndex m i = (steps_of m ≤ 65535) × (offset_of m < steps_of m) × (i ≤ st
 
 -- the open call `map_index`: 8, or the image
 unfoldable pub map_index : CyclicMapping → ℕ → Answer ℕ
-map_index m i = passing (unless (usable m i) NotThere Passed) (ok (image m i))
+map_index m i = passing (unless (usable m i) NotThere passed) (ok (image m i))
 
 -- the open call `map_index_inv`: 8, or the inverse image
 unfoldable pub map_index_inv : CyclicMapping → ℕ → Answer ℕ
-map_index_inv m i = passing (unless (usable m i) NotThere Passed) (ok (inverse m i))
-
--- the value or the number that each answer of the code stands for
-abbrev pub stated_index : MappedIndex → Answer ℕ
-stated_index (Index i) = ok i
-stated_index (Refused k) = refused (number_of k)
+map_index_inv m i = passing (unless (usable m i) NotThere passed) (ok (inverse m i))

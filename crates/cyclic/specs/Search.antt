@@ -1,23 +1,18 @@
 -- Rules 3.1 to 3.3: the first offset at which row a fits row b, forward before reverse, and the comparisons made.
 -- A row is its points by index, 0 to steps; `close` compares a point of one row with a point of another (or the same).
-use Rattle.std.specs.Prelude.{ℕ, zero, suc, ◌+◌, ◌-◌, ◌*◌, ◌/◌, ◌%◌, ◌≤◌, Bool, true, false, ◌&&◌, ◌||◌, not, cond, List, eqb, ltb, leb, length, Float}
+use Rattle.std.specs.Prelude.{ℕ, zero, suc, ◌+◌, ◌-◌, ◌*◌, ◌/◌, ◌%◌, ◌≤◌, Bool, true, false, ◌&&◌, ◌||◌, not, cond, List}
+use Rattle.std.specs.Prelude.{eqb, ltb, leb, length, Float, Some, None}
 use Rattle.tolerance.specs.Tolerance.{tolerance_fits}
 use Rattle.vector.specs.declared.Vector.{Vector}
 use Rattle.vector.specs.Vectors.{all_close}
 use Rattle.grid.specs.Grid.{point_at, coordinates_fit}
 use Rattle.refusal.specs.declared.Refusal.TheVariants.{Length, Tolerance, Coordinate}
-use Rattle.refusal.specs.declared.Check.{Check}
-use Rattle.refusal.specs.declared.Check.TheVariants.{Passed}
-use Rattle.refusal.specs.Refusals.{Answer, ok, refused, number_of, unless, passing}
+use Rattle.refusal.specs.Refusals.{Check, passed, Answer, ok, unless, passing}
 use Rattle.cyclic.specs.declared.mapping.CyclicMapping.{CyclicMapping}
 use Rattle.cyclic.specs.declared.mapping.CyclicMapping.TheVariants.{Forward, Reverse}
-use Rattle.cyclic.specs.declared.seam.Seam.{Seam}
-use Rattle.cyclic.specs.declared.seam.Seam.TheVariants.{Joined, Unjoined}
 use Rattle.cyclic.specs.declared.seam.SeamSearch.{SeamSearch}
 use Rattle.cyclic.specs.declared.seam.Tried.{Tried}
-use Rattle.cyclic.specs.declared.seam.SeamAnswer.{SeamAnswer}
-use Rattle.cyclic.specs.declared.seam.SeamAnswer.TheVariants.{Found, NotFound, Refused}
-use Rattle.cyclic.specs.Mapping.{image}
+use Rattle.cyclic.specs.Mapping.{Seam, image}
 
 -- a row, by index
 abbrev pub Row : Type 0
@@ -64,12 +59,12 @@ module _ (close : Closeness) (a b : Row) where
 
   -- k offsets from o on, after c comparisons: at each, forward before reverse, and the first that fits is the answer
   unfoldable pub search_from : ℕ → ℕ → ℕ → ℕ → SeamSearch
-  search_from steps zero o c = searched Unjoined c
+  search_from steps zero o c = searched None c
   search_from steps (suc k) o c =
       let forward = try_from (Forward o steps) (steps + 1) 0 c in
       let reverse = try_from (Reverse o steps) (steps + 1) 0 forward.made in
-      cond forward.fits (searched (Joined (Forward o steps)) forward.made)
-      (cond reverse.fits (searched (Joined (Reverse o steps)) reverse.made)
+      cond forward.fits (searched (Some (Forward o steps)) forward.made)
+      (cond reverse.fits (searched (Some (Reverse o steps)) reverse.made)
       (search_from steps k (o + 1) reverse.made))
 
   -- all offsets below steps on closed rows, and offset 0 on others
@@ -78,7 +73,7 @@ module _ (close : Closeness) (a b : Row) where
 
 -- Rules 3.1: rows of na and nb points; where these differ or are under two, there is no seam after no comparison
 unfoldable pub search : Closeness → Row → Row → ℕ → ℕ → SeamSearch
-search close a b na nb = cond (ltb na 2 || not (eqb na nb)) (searched Unjoined 0) (search_rows close a b (na - 1))
+search close a b na nb = cond (ltb na 2 || not (eqb na nb)) (searched None 0) (search_rows close a b (na - 1))
 
 -- what refusal 2 asks of a row: whole points, and at most 65,536
 abbrev pub row_fits : List Float → Bool
@@ -89,16 +84,10 @@ unfoldable pub rows_check : List Float → List Float → Float → Check
 rows_check a b tolerance =
     unless (row_fits a && row_fits b) Length
     (unless (tolerance_fits tolerance) Tolerance
-    (unless (coordinates_fit a && coordinates_fit b) Coordinate Passed))
+    (unless (coordinates_fit a && coordinates_fit b) Coordinate passed))
 
 -- the open call `CyclicMapping::new_vector`, at a tolerance
 unfoldable pub new_vector : List Float → List Float → Float → Answer SeamSearch
 new_vector a b tolerance =
     passing (rows_check a b tolerance)
     (ok (search (close_at tolerance) (point_at a) (point_at b) (length a / 3) (length b / 3)))
-
--- the values or the number that each answer of the code stands for
-abbrev pub stated_seam : SeamAnswer → Answer SeamSearch
-stated_seam (Found m k) = ok (searched (Joined m) k)
-stated_seam (NotFound k) = ok (searched Unjoined k)
-stated_seam (Refused k) = refused (number_of k)

@@ -1,5 +1,5 @@
 -- The known results of Rules 3, by computation: mappings, searches, and seams that are given.
-use Rattle.std.specs.Prelude.{◌≡◌, refl, Bool, true, false, List, [], ◌∷◌, Float}
+use Rattle.std.specs.Prelude.{◌≡◌, refl, Bool, true, false, List, [], ◌∷◌, Float, Some, None}
 use Rattle.std.specs.Float.{nan, binary64}
 use Rattle.std.specs.Float.Ieee.{of_bits, lt, le, neg, sub, round}
 use Rattle.float.specs.Consts.{eps, zero64, one64, half64}
@@ -9,9 +9,7 @@ use Rattle.vector.specs.Vectors.{all_close}
 use Rattle.grid.specs.Grid.{point_at, coordinates_fit}
 use Rattle.refusal.specs.Refusals.{ok, refused}
 use Rattle.cyclic.specs.declared.mapping.CyclicMapping.TheVariants.{Forward, Reverse}
-use Rattle.cyclic.specs.declared.seam.Seam.{Seam}
-use Rattle.cyclic.specs.declared.seam.Seam.TheVariants.{Joined, Unjoined}
-use Rattle.cyclic.specs.Mapping.{image, inverse, map_index, map_index_inv}
+use Rattle.cyclic.specs.Mapping.{Seam, image, inverse, map_index, map_index_inv}
 use Rattle.cyclic.specs.Search.{close_at, searched, try_from, closed, search_from, search_rows, search, rows_check}
 use Rattle.cyclic.specs.Search.{new_vector}
 use Rattle.cyclic.specs.Fits.{points_fit, seam_fits}
@@ -58,19 +56,19 @@ along (x ∷ xs) = x ∷ zero64 ∷ zero64 ∷ along xs
 -- b is a from its end to its start
 pub turned : new_vector (along (zero64 ∷ one64 ∷ two64 ∷ three64 ∷ []))
     (along (three64 ∷ two64 ∷ one64 ∷ zero64 ∷ [])) eps
-    ≡ ok (searched (Joined (Reverse 0 3)) 6)
+    ≡ ok (searched (Some (Reverse 0 3)) 6)
 unfolding computed
 turned = refl
 
 -- closed rows, b a step further round than a
 pub shifted : new_vector (along (zero64 ∷ one64 ∷ two64 ∷ zero64 ∷ [])) (along (one64 ∷ two64 ∷ zero64 ∷ one64 ∷ [])) eps
-    ≡ ok (searched (Joined (Forward 2 3)) 10)
+    ≡ ok (searched (Some (Forward 2 3)) 10)
 unfolding computed
 shifted = refl
 
 -- open rows that fit neither way
 pub apart : new_vector (along (zero64 ∷ one64 ∷ two64 ∷ [])) (along (one64 ∷ two64 ∷ three64 ∷ [])) eps
-    ≡ ok (searched Unjoined 3)
+    ≡ ok (searched None 3)
 unfolding computed
 apart = refl
 
@@ -97,15 +95,15 @@ turned_row =
     ∷ quarter64 ∷ [])
 
 -- at 1/4 no point is close to its partner, at the next f64 each is
-pub apart_at_quarter : new_vector ahead_row turned_row quarter64 ≡ ok (searched Unjoined 3)
+pub apart_at_quarter : new_vector ahead_row turned_row quarter64 ≡ ok (searched None 3)
 unfolding computed
 apart_at_quarter = refl
 
-pub turned_above_quarter : new_vector ahead_row turned_row above_quarter ≡ ok (searched (Joined (Reverse 0 3)) 6)
+pub turned_above_quarter : new_vector ahead_row turned_row above_quarter ≡ ok (searched (Some (Reverse 0 3)) 6)
 unfolding computed
 turned_above_quarter = refl
 
-pub turned_at_one : new_vector ahead_row turned_row one64 ≡ ok (searched (Joined (Reverse 0 3)) 6)
+pub turned_at_one : new_vector ahead_row turned_row one64 ≡ ok (searched (Some (Reverse 0 3)) 6)
 unfolding computed
 turned_at_one = refl
 
@@ -116,11 +114,11 @@ nearly_closed = along (zero64 ∷ one64 ∷ two64 ∷ two_fifths ∷ [])
 abbrev pub nearly_closed_further : List Float
 nearly_closed_further = along (one64 ∷ two64 ∷ zero64 ∷ of_bits binary64 0x3FF6666666666666 ∷ [])
 
-pub shifted_at_half : new_vector nearly_closed nearly_closed_further half64 ≡ ok (searched (Joined (Forward 2 3)) 10)
+pub shifted_at_half : new_vector nearly_closed nearly_closed_further half64 ≡ ok (searched (Some (Forward 2 3)) 10)
 unfolding computed
 shifted_at_half = refl
 
-pub open_at_two_fifths : new_vector nearly_closed nearly_closed_further two_fifths ≡ ok (searched Unjoined 3)
+pub open_at_two_fifths : new_vector nearly_closed nearly_closed_further two_fifths ≡ ok (searched None 3)
 unfolding computed
 open_at_two_fifths = refl
 
@@ -158,8 +156,8 @@ abbrev pub one_point : List Float
 one_point = along (zero64 ∷ zero64 ∷ zero64 ∷ zero64 ∷ [])
 
 -- closed rows, b a step further round than a: the mapping that is found above; it is not there at offset 0
-pub given_shifted : (fits eps round_row (along (one64 ∷ two64 ∷ zero64 ∷ one64 ∷ [])) (Joined (Forward 2 3)) ≡ true)
-    × (fits eps round_row (along (one64 ∷ two64 ∷ zero64 ∷ one64 ∷ [])) (Joined (Forward 0 3)) ≡ false)
+pub given_shifted : (fits eps round_row (along (one64 ∷ two64 ∷ zero64 ∷ one64 ∷ [])) (Some (Forward 2 3)) ≡ true)
+    × (fits eps round_row (along (one64 ∷ two64 ∷ zero64 ∷ one64 ∷ [])) (Some (Forward 0 3)) ≡ false)
 unfolding computed
 given_shifted = (refl, refl)
 
@@ -167,26 +165,26 @@ given_shifted = (refl, refl)
 pub given_open_b :
     (points_fit (close_at eps) (point_at round_row) (point_at (along (one64 ∷ two64 ∷ zero64 ∷ nine64 ∷ []))) (Forward 2 3)
     ≡ true)
-    × (fits eps round_row (along (one64 ∷ two64 ∷ zero64 ∷ nine64 ∷ [])) (Joined (Forward 2 3)) ≡ false)
+    × (fits eps round_row (along (one64 ∷ two64 ∷ zero64 ∷ nine64 ∷ [])) (Some (Forward 2 3)) ≡ false)
 unfolding computed
 given_open_b = (refl, refl)
 
 -- 0 2 4 0.8 and 2 4 0.4 2 by 1/2: a is open, and each of its points is close to its image
 pub given_open_a :
     (points_fit (close_at half64) (point_at open_row) (point_at open_row_further) (Forward 2 3) ≡ true)
-    × (fits half64 open_row open_row_further (Joined (Forward 2 3)) ≡ false)
+    × (fits half64 open_row open_row_further (Some (Forward 2 3)) ≡ false)
 unfolding computed
 given_open_a = (refl, refl)
 
 -- other steps than those of the rows, and an offset that is not below them, where all points are one
-pub given_not_of_rows : (fits eps one_point one_point (Joined (Forward 0 4)) ≡ false)
-    × (fits eps one_point one_point (Joined (Forward 3 3)) ≡ false)
-    × (fits eps one_point one_point (Joined (Reverse 0 2)) ≡ false)
+pub given_not_of_rows : (fits eps one_point one_point (Some (Forward 0 4)) ≡ false)
+    × (fits eps one_point one_point (Some (Forward 3 3)) ≡ false)
+    × (fits eps one_point one_point (Some (Reverse 0 2)) ≡ false)
 unfolding computed
 given_not_of_rows = (refl, refl, refl)
 
 -- there any mapping fits, first or not, and None does everywhere
-pub given_not_first : (fits eps one_point one_point (Joined (Reverse 2 3)) ≡ true)
-    × (fits eps round_row one_point Unjoined ≡ true)
+pub given_not_first : (fits eps one_point one_point (Some (Reverse 2 3)) ≡ true)
+    × (fits eps round_row one_point None ≡ true)
 unfolding computed
 given_not_first = (refl, refl)

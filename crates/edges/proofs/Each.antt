@@ -1,5 +1,6 @@
 -- What holds of every candidate holds of every event, and there are no more events than candidates: sorting keeps to
 -- the candidates, and dropping to what was sorted.
+use Rattle.std.specs.Prelude.{Option, Some, None}
 use mathlib.Core.Path.{◌≡◌, refl}
 use mathlib.Core.Bool.{Bool, cond}
 use mathlib.Core.List.{List, [], ◌∷◌, ◌++◌}
@@ -18,26 +19,24 @@ use Rattle.param.specs.declared.Axis.{Axis}
 use Rattle.param.specs.declared.Axis.TheVariants.{AxisU, AxisV}
 use Rattle.param.specs.Param.{steps_on}
 use Rattle.edges.specs.declared.event.EdgeEvent.{EdgeEvent}
-use Rattle.edges.specs.declared.event.Candidate.{Candidate}
-use Rattle.edges.specs.declared.event.Candidate.TheVariants.{Event, NoEvent}
 use Rattle.edges.specs.Events.{edge_at_point, end_candidate, change, line_candidate, change_of_sum, diagonal_candidate}
 use Rattle.edges.specs.Events.{changes, listed, list_from, first_sum, past_sum, ends, lines, diagonals, candidates}
-use Rattle.edges.specs.Events.{precedes, insert, sort_into, close_by, unique_after, unique, sorted_edge_events}
+use Rattle.edges.specs.Events.{precedes, insert, pushed, sort_into, close_by, unique_after, unique, sorted_edge_events}
 use Rattle.edges.specs.Events.{IfEvent}
 
 module _ (P : EdgeEvent → Type 0) where
-  each_listed : (c : Candidate) (es : List EdgeEvent) → IfEvent P c → Each P es → Each P (listed c es)
-  each_listed (Event e) es h k = (h, k)
-  each_listed NoEvent es h k = k
+  each_listed : (c : Option EdgeEvent) (es : List EdgeEvent) → IfEvent P c → Each P es → Each P (listed c es)
+  each_listed (Some e) es h k = (h, k)
+  each_listed None es h k = k
 
-  each_from : (f : ℕ → Candidate) (k i : ℕ) → ((j : ℕ) → j < i + k → IfEvent P (f j)) → Each P (list_from f k i)
+  each_from : (f : ℕ → Option EdgeEvent) (k i : ℕ) → ((j : ℕ) → j < i + k → IfEvent P (f j)) → Each P (list_from f k i)
   unfolding list_from
   each_from f zero i h = tt
   each_from f (suc k) i h =
       each_listed (f i) (list_from f k (i + 1)) (h i (omega arith)) (each_from f k (i + 1) (λ j l. h j (omega arith)))
 
   -- candidates in a row, which are tried if an axis changes
-  each_tried : (changed : Bool) (f : ℕ → Candidate) (k i : ℕ) → ((j : ℕ) → j < i + k → IfEvent P (f j)) →
+  each_tried : (changed : Bool) (f : ℕ → Option EdgeEvent) (k i : ℕ) → ((j : ℕ) → j < i + k → IfEvent P (f j)) →
       Each P (cond changed (list_from f k i) [])
   each_tried changed f k i h = cond_keeps (Each P) changed _ [] (each_from f k i h) tt
 
@@ -84,7 +83,8 @@ module _ (P : EdgeEvent → Type 0) where
     each_diagonals : Each P (diagonals k leg)
     unfolding diagonals
     each_diagonals =
-        each_tried (changes (change_of_sum leg)) (diagonal_candidate k leg) (past_sum k leg - first_sum leg) (first_sum leg)
+        let first = first_sum leg in
+        each_tried (changes (change_of_sum leg)) (diagonal_candidate k leg) (past_sum k leg - first) first
         (λ j h. d j)
 
     pub each_candidate : Each P (candidates k leg)
@@ -102,11 +102,11 @@ module _ (P : EdgeEvent → Type 0) where
     each_event = each_unique (sort_into (candidates k leg) []) (each_sort (candidates k leg) [] each_candidate tt)
 
 -- ---- how many
-length_listed : (c : Candidate) (es : List EdgeEvent) → length (listed c es) ≤ length es + 1
-length_listed (Event e) es = omega arith
-length_listed NoEvent es = omega arith
+length_listed : (c : Option EdgeEvent) (es : List EdgeEvent) → length (listed c es) ≤ length es + 1
+length_listed (Some e) es = omega arith
+length_listed None es = omega arith
 
-length_from : (f : ℕ → Candidate) (k i : ℕ) → length (list_from f k i) ≤ k
+length_from : (f : ℕ → Option EdgeEvent) (k i : ℕ) → length (list_from f k i) ≤ k
 unfolding list_from
 length_from f zero i = omega arith
 length_from f (suc k) i = omega (arith, length_listed (f i) (list_from f k (i + 1)), length_from f k (i + 1))
@@ -118,6 +118,10 @@ length_insert e (x ∷ xs) =
     cond_keeps (λ (r : List EdgeEvent). length r ≡ suc (length xs) + 1)
     (precedes (total_order e.lambda x.lambda)) (e ∷ (x ∷ xs)) (x ∷ insert e xs)
     (omega arith) (omega (arith, length_insert e xs))
+
+pub length_pushed : (c : Option EdgeEvent) (es : List EdgeEvent) → length (pushed c es) ≤ length es + 1
+length_pushed (Some e) es = omega (arith, length_insert e es)
+length_pushed None es = omega arith
 
 pub length_sort : (es acc : List EdgeEvent) → length (sort_into es acc) ≡ length es + length acc
 unfolding sort_into
@@ -137,18 +141,18 @@ unfolding unique
 length_unique [] = omega arith
 length_unique (e ∷ es) = omega (arith, length_after e.lambda es)
 
-length_tried : (changed : Bool) (f : ℕ → Candidate) (k i : ℕ) → length (cond changed (list_from f k i) []) ≤ k
+length_tried : (changed : Bool) (f : ℕ → Option EdgeEvent) (k i : ℕ) → length (cond changed (list_from f k i) []) ≤ k
 length_tried changed f k i =
     cond_keeps (λ (r : List EdgeEvent). length r ≤ k) changed _ [] (length_from f k i) (omega arith)
 
-length_ends : (k : Cells) (leg : Leg) → length (ends k leg) ≤ 2
+pub length_ends : (k : Cells) (leg : Leg) → length (ends k leg) ≤ 2
 unfolding ends
 length_ends k leg =
     let start = end_candidate zero64 (edge_at_point k leg.a) in
     let end = end_candidate one64 (edge_at_point k leg.b) in
     omega (arith, length_listed start (listed end []), length_listed end [])
 
-length_lines : (x : Axis) (k : Cells) (leg : Leg) → length (lines x k leg) ≤ steps_on x k + 1
+pub length_lines : (x : Axis) (k : Cells) (leg : Leg) → length (lines x k leg) ≤ steps_on x k + 1
 unfolding lines
 length_lines x k leg = length_tried (changes (change x leg)) (line_candidate x k leg) (steps_on x k + 1) 0
 

@@ -1,42 +1,30 @@
 -- Candidates are sorted in one by one: what remains to be sorted into the events that stand there gives the whole.
+use Rattle.std.specs.Prelude.{Option, Some, None}
 use mathlib.Core.Path.{◌≡◌, refl}
 use mathlib.Core.Bool.{true, false}
 use mathlib.Core.List.{List, [], ◌∷◌, ◌++◌}
 use Prim.Native.Nat.{ℕ, suc, ◌+◌, ◌-◌, ◌<◌, ◌≤◌, max}
 use native.Mathlib.Omega.{arith}
 use lib.ListN.{length}
-use lib.Ieee.{Float}
 use Rattle.float.specs.Consts.{zero64, one64}
 use Rattle.param.specs.declared.Leg.{Leg}
 use Rattle.param.specs.declared.Cells.{Cells}
 use Rattle.param.specs.declared.Axis.{Axis}
 use Rattle.param.specs.declared.Axis.TheVariants.{AxisU, AxisV}
 use Rattle.param.specs.Param.{steps_on}
+use Rattle.edges.specs.declared.event.ParamEdge.{ParamEdge}
 use Rattle.edges.specs.declared.event.EdgeEvent.{EdgeEvent}
-use Rattle.edges.specs.declared.event.Candidate.{Candidate}
-use Rattle.edges.specs.declared.event.Candidate.TheVariants.{Event, NoEvent}
-use Rattle.edges.specs.declared.event.EdgeAtPoint.{EdgeAtPoint}
 use Rattle.edges.specs.Events.{edge_at_point, end_candidate, change, line_candidate, change_of_sum, diagonal_candidate}
 use Rattle.edges.specs.Events.{changes, listed, list_from, first_sum, past_sum, ends, lines, diagonals, candidates}
-use Rattle.edges.specs.Events.{insert, pushed, sort_into, IfEvent}
-use Rattle.edges.specs.Scratch.{events_in, Sorted}
-
--- ---- a candidate by what the code found
-pub if_event : (P : EdgeEvent → Type 0) {c : Candidate} {e : EdgeEvent} → c ≡ Event e → IfEvent P c → P e
-if_event P q h = rw q at h
-
-pub push_yes : {c : Candidate} {e : EdgeEvent} (acc : List EdgeEvent) {r : List EdgeEvent} → c ≡ Event e →
-    r ≡ insert e acc → r ≡ pushed c acc
-push_yes acc q h = rw q h
-
-pub push_no : {c : Candidate} (acc : List EdgeEvent) → c ≡ NoEvent → acc ≡ pushed c acc
-push_no acc q = rw q
+use Rattle.edges.specs.Events.{insert, pushed, sort_into}
+use Rattle.edges.proofs.Each.{length_pushed, length_sort, length_ends, length_lines}
 
 -- ---- one candidate, then the rest
-sort_listed : (c : Candidate) (rest acc : List EdgeEvent) → sort_into (listed c rest) acc ≡ sort_into rest (pushed c acc)
+sort_listed : (c : Option EdgeEvent) (rest acc : List EdgeEvent) →
+    sort_into (listed c rest) acc ≡ sort_into rest (pushed c acc)
 unfolding sort_into
-sort_listed (Event e) rest acc = refl
-sort_listed NoEvent rest acc = refl
+sort_listed (Some e) rest acc = refl
+sort_listed None rest acc = refl
 
 pub sort_append : (xs ys acc : List EdgeEvent) → sort_into (xs ++ ys) acc ≡ sort_into ys (sort_into xs acc)
 unfolding sort_into
@@ -46,40 +34,40 @@ sort_append (x ∷ xs) ys acc = sort_append xs ys (insert x acc)
 -- ---- a loop over the candidates of numbers from `first` up to, and without, `end`
 
 -- so far those below i are sorted in, and with the others they give the whole
-pub record Gathering (f : ℕ → Candidate) (first end : ℕ) (whole : List EdgeEvent) (count : ℕ) (ls : List Float)
-    (cs : List ℕ) (total i : ℕ) : Type 0 where
+pub record Gathering (f : ℕ → Option EdgeEvent) (first end : ℕ) (whole start es : List EdgeEvent) (i : ℕ) : Type 0 where
   pub from : first ≤ i
   pub to : i ≤ max first end
-  pub few : total + first ≤ count + i
-  pub lambdas_length : length ls ≡ 1023
-  pub codes_length : length cs ≡ 1023
-  pub left : whole ≡ sort_into (list_from f (end - i) i) (events_in ls cs total)
-  pub sorted : Sorted (events_in ls cs total)
+  pub few : length es + first ≤ length start + i
+  pub left : whole ≡ sort_into (list_from f (end - i) i) es
 
-module _ {f : ℕ → Candidate} {first end : ℕ} {whole : List EdgeEvent} {count : ℕ} {ls : List Float} {cs : List ℕ}
-    {total i : ℕ} (g : Gathering f first end whole count ls cs total i) where
-  pub gather_turn : i < end → {c : Candidate} {ms : List Float} {ds : List ℕ} {r : ℕ} → c ≡ f i → length ms ≡ 1023 →
-      length ds ≡ 1023 →
-      (r ≤ total + 1) × (events_in ms ds r ≡ pushed c (events_in ls cs total)) × Sorted (events_in ms ds r) →
-      Gathering f first end whole count ms ds r (i + 1)
+module _ {f : ℕ → Option EdgeEvent} {first end : ℕ} {whole start es : List EdgeEvent} {i : ℕ}
+    (g : Gathering f first end whole start es i) where
+  pub gather_turn : i < end → {c : Option EdgeEvent} {r : List EdgeEvent} → c ≡ f i → r ≡ pushed c es →
+      Gathering f first end whole start r (i + 1)
   unfolding list_from
-  gather_turn h p hl hc t =
+  gather_turn h {c} p q =
       let s : end - i ≡ suc (end - (i + 1)) = omega arith in
       record {
         from = omega arith;
         to = omega arith;
-        few = omega arith;
-        lambdas_length = hl;
-        codes_length = hc;
-        left = rw (g.left, s, sort_listed, t.1, p);
-        sorted = t.2;
+        few = rw q (omega (arith, length_pushed c es));
+        left = rw (g.left, s, sort_listed, q, p);
       }
 
-  pub gather_ends : end ≤ i → events_in ls cs total ≡ whole
+  pub gather_ends : end ≤ i → es ≡ whole
   unfolding list_from sort_into
   gather_ends h = let s : end - i ≡ 0 = omega arith in rw (g.left, s)
 
 -- ---- the four groups
+-- by how much they grow
+pub ends_grow : (k : Cells) (leg : Leg) (acc : List EdgeEvent) {r : List EdgeEvent} → r ≡ sort_into (ends k leg) acc →
+    length r ≤ length acc + 2
+ends_grow k leg acc h = rw h (omega (arith, length_sort (ends k leg) acc, length_ends k leg))
+
+pub lines_grow : (x : Axis) (k : Cells) (leg : Leg) (acc : List EdgeEvent) {r : List EdgeEvent} →
+    r ≡ sort_into (lines x k leg) acc → length r ≤ length acc + (steps_on x k + 1)
+lines_grow x k leg acc h = rw h (omega (arith, length_sort (lines x k leg) acc, length_lines x k leg))
+
 module _ (x : Axis) (k : Cells) (leg : Leg) (acc : List EdgeEvent) where
   pub lines_none : changes (change x leg) ≡ false → acc ≡ sort_into (lines x k leg) acc
   unfolding lines sort_into
@@ -91,11 +79,11 @@ module _ (x : Axis) (k : Cells) (leg : Leg) (acc : List EdgeEvent) where
   lines_start h {n} q = let all : n + 1 - 0 ≡ steps_on x k + 1 = omega arith in rw (h, all)
 
 module _ (k : Cells) (leg : Leg) where
-  pub ends_pushed : {x y : EdgeAtPoint} {c d : Candidate} {r s : List EdgeEvent} → x ≡ edge_at_point k leg.a →
-      y ≡ edge_at_point k leg.b → c ≡ end_candidate zero64 x → d ≡ end_candidate one64 y →
-      r ≡ pushed c [] → s ≡ pushed d r → s ≡ sort_into (ends k leg) []
+  pub ends_pushed : (acc : List EdgeEvent) {x y : Option ParamEdge} {c d : Option EdgeEvent} {r s : List EdgeEvent} →
+      x ≡ edge_at_point k leg.a → y ≡ edge_at_point k leg.b → c ≡ end_candidate zero64 x → d ≡ end_candidate one64 y →
+      r ≡ pushed c acc → s ≡ pushed d r → s ≡ sort_into (ends k leg) acc
   unfolding ends sort_into
-  ends_pushed hx hy hc hd hr hs = rw (hs, hr, hd, hc, hy, hx, sort_listed, sort_listed)
+  ends_pushed acc hx hy hc hd hr hs = rw (hs, hr, hd, hc, hy, hx, sort_listed, sort_listed)
 
   module _ (acc : List EdgeEvent) where
     pub diagonals_none : changes (change_of_sum leg) ≡ false → acc ≡ sort_into (diagonals k leg) acc

@@ -1,121 +1,132 @@
--- Dropping close events in place: what is kept so far, and the events that are left, make the answer. A store below
--- the place that is read does not touch what is left.
+-- Dropping close events in place: those kept so far come first in the order, and with the events that are left they
+-- make the answer.
+use Rattle.std.specs.Prelude.{Option, Some, None, nat_eq}
+use Rattle.std.specs.Option.{MatchOption, option_map_or}
+use Rattle.std.specs.List.{All, IsDistinct}
+use Rattle.std.specs.List.Sorted.{IsPermutation}
 use mathlib.Core.Path.{◌≡◌, refl, ◌∙◌}
 use mathlib.Core.Bool.{Bool, true, false, cond}
-use mathlib.Core.List.{List, [], ◌∷◌, ◌++◌, append_assoc, append-nil}
-use Prim.Native.Nat.{ℕ, zero, suc, ◌+◌, ◌<◌, ◌≤◌}
+use mathlib.Core.List.{List, [], ◌∷◌, ◌++◌, map, append_assoc, append-nil}
+use Prim.Native.Nat.{ℕ, ◌+◌, ◌<◌, ◌≤◌}
 use native.Mathlib.Omega.{arith}
 use native.Mathlib.Numerals.{add-one}
-use lib.ListN.{length, take, drop, get_or, set, length-set, drop_of_length-le}
-use lib.Seq.{drop-cons, take-suc-set, take-set-lt, drop-set-lt}
-use lib.Ieee.{Float, nan}
+use lib.ListN.{length, take, drop, get_or, set, drop_of_length-le}
+use lib.Seq.{drop-cons, get_or-take, length-take-le}
+use Rattle.std.proofs.lemmas.List.{map-append}
+use Rattle.std.proofs.lemmas.List.Sorted.{All-permutation, length_permutation}
+use Rattle.std.proofs.lemmas.Map.Keys.{IsDistinct-IsPermutation}
 use Rattle.edges.specs.declared.event.EdgeEvent.{EdgeEvent}
 use Rattle.edges.specs.Events.{close_by, unique_after, unique}
-use Rattle.edges.specs.Scratch.{event_of, held, events_in}
-use Rattle.edges.proofs.Places.{held_length, held_set, event_in, events_length}
+use Rattle.edges.specs.Order.{Sorted, event_at, events_in, Ordered}
+use Rattle.edges.proofs.Places.{nat_eq_flips, swapped}
+use Rattle.edges.proofs.Laws.{unique_sorted}
 
--- the event at i, and those after it
-pub next_event : (ls : List Float) (cs : List ℕ) (count i : ℕ) → length ls ≡ length cs → count ≤ length ls → i < count →
-    drop i (events_in ls cs count) ≡ event_of (get_or ls i nan) (get_or cs i 0) ∷ drop (i + 1) (events_in ls cs count)
-next_event ls cs count i e h k =
-    rw (
-      add-one,
-      drop-cons (events_in ls cs count) i (event_of nan 0) (omega (arith, events_length ls cs count e h)),
-      ← event_in ls cs count i (event_of nan 0) e h k,
-    )
+-- what the last of those kept, if there is one, makes of the events that are left
+abbrev pub left_by : Option EdgeEvent → List EdgeEvent → List EdgeEvent
+left_by None es = unique es
+left_by (Some e) es = unique_after e.lambda es
 
--- past the last there is none
-pub none_left : (ls : List Float) (cs : List ℕ) (count i : ℕ) → length ls ≡ length cs → count ≤ length ls → count ≤ i →
-    drop i (events_in ls cs count) ≡ []
-none_left ls cs count i e h k =
-    let past : length (events_in ls cs count) ≤ i = omega (arith, events_length ls cs count e h) in
-    drop_of_length-le (events_in ls cs count) past
+-- it drops x
+abbrev pub drops : EdgeEvent → Option EdgeEvent → Bool
+drops x last = option_map_or (λ e. close_by e.lambda x.lambda) last false
 
--- ---- in lists that held `count` events, so far i are looked at and `kept` of them kept, the last at `last`
+-- b is what `is_some_and` says of it, which P says of an event
+pub drops_says : (last : Option EdgeEvent) (x : EdgeEvent) {b : Bool} (P : EdgeEvent → Type 0) →
+    MatchOption last (b ≡ false) P → ((e : EdgeEvent) → P e → b ≡ close_by e.lambda x.lambda) → b ≡ drops x last
+drops_says None x P m h = m
+drops_says (Some e) x P m h = h e m
 
--- with what is left from i on, those kept make the answer
-pub record Keeping (ls₀ : List Float) (cs₀ : List ℕ) (count : ℕ) (ls : List Float) (cs : List ℕ) (kept : ℕ)
-    (last : Float) (i : ℕ) : Type 0 where
+next_left : (last : Option EdgeEvent) (x : EdgeEvent) (xs : List EdgeEvent) →
+    left_by last (x ∷ xs) ≡ cond (drops x last) (left_by last xs) (x ∷ left_by (Some x) xs)
+unfolding unique unique_after
+next_left None x xs = refl
+next_left (Some e) x xs = refl
+
+none_left : (last : Option EdgeEvent) → left_by last [] ≡ []
+unfolding unique unique_after
+none_left None = refl
+none_left (Some e) = refl
+
+-- of the first `found` of an order, those before i are looked at, and `kept` of them kept, the last of which is `last`;
+-- with what it makes of the others they are the answer for es
+pub record Keeping (es list : List EdgeEvent) (order : List ℕ) (found kept i : ℕ)
+    (last : Option EdgeEvent) : Type 0 where
   pub behind : kept ≤ i
-  pub to : i ≤ count
-  pub lambdas_as_long : length ls ≡ length ls₀
-  pub codes_as_long : length cs ≡ length cs₀
-  pub answer : unique (events_in ls₀ cs₀ count) ≡ events_in ls cs kept ++ unique_after last (drop i (events_in ls cs count))
+  pub to : i ≤ found
+  pub few : found ≤ 1023
+  pub list_length : length list ≡ 1023
+  pub order_length : length order ≡ 1023
+  pub places : All (λ place. place < 1023) order
+  pub once : IsDistinct nat_eq order
+  pub answer :
+      unique es ≡ events_in list order kept ++ left_by last (map (event_at list) (drop i (take found order)))
 
-pub keeping_none : (ls : List Float) (cs : List ℕ) {count : ℕ} → count ≡ 0 →
-    events_in ls cs 0 ≡ unique (events_in ls cs count)
-unfolding unique
-keeping_none ls cs h = rw h
+pub keeping_starts : {list : List EdgeEvent} {order : List ℕ} {found : ℕ} → Ordered list order found →
+    Keeping (events_in list order found) list order found 0 0 None
+keeping_starts o =
+    record {
+      behind = omega arith;
+      to = omega arith;
+      few = o.few;
+      list_length = o.list_length;
+      order_length = o.order_length;
+      places = o.places;
+      once = o.once;
+      answer = refl;
+    }
 
-first_kept : (ls : List Float) (cs : List ℕ) (count : ℕ) → length ls ≡ length cs → count ≤ length ls → 0 < count →
-    unique (events_in ls cs count) ≡ events_in ls cs 1 ++ unique_after (get_or ls 0 nan) (drop 1 (events_in ls cs count))
-unfolding held unique
-first_kept ls cs zero e h k = absurd (omega arith)
-first_kept [] cs (suc n) e h k = absurd (omega arith)
-first_kept (l ∷ ls) [] (suc n) e h k = absurd (omega arith)
-first_kept (l ∷ ls) (c ∷ cs) (suc n) e h k = refl
+module _ {es list : List EdgeEvent} {order : List ℕ} {found kept i : ℕ} {last : Option EdgeEvent}
+    (m : Keeping es list order found kept i last) where
+  abbrev here : EdgeEvent
+  here = event_at list (get_or order i 0)
 
-module _ {ls₀ : List Float} {cs₀ : List ℕ} {count : ℕ} (e : length ls₀ ≡ length cs₀) (h : count ≤ length ls₀) where
-  pub keeping_starts : 0 < count → Keeping ls₀ cs₀ count ls₀ cs₀ 1 (get_or ls₀ 0 nan) 1
-  keeping_starts k =
+  next : i < found → drop i (take found order) ≡ get_or order i 0 ∷ drop (i + 1) (take found order)
+  next h =
+      let n : length (take found order) ≡ found = length-take-le found order (omega (arith, m.few, m.order_length)) in
+      rw (add-one, drop-cons (take found order) i 0 (omega arith), get_or-take found order i 0 h)
+
+  pub keeping_dropped : i < found → drops here last ≡ true → Keeping es list order found kept (i + 1) last
+  keeping_dropped h t =
       record {
         behind = omega arith;
         to = omega arith;
-        lambdas_as_long = refl;
-        codes_as_long = refl;
-        answer = first_kept ls₀ cs₀ count e h k;
+        few = m.few;
+        list_length = m.list_length;
+        order_length = m.order_length;
+        places = m.places;
+        once = m.once;
+        answer = rw (m.answer, next h, next_left, t);
       }
 
-  module _ {ls : List Float} {cs : List ℕ} {kept : ℕ} {last : Float} {i : ℕ}
-      (m : Keeping ls₀ cs₀ count ls cs kept last i) where
-    abbrev here : EdgeEvent
-    here = event_of (get_or ls i nan) (get_or cs i 0)
+  pub keeping_kept : (ys : List ℕ) → ys ≡ set (set order kept (get_or order i 0)) i (get_or order kept 0) →
+      IsPermutation order ys → i < found → drops here last ≡ false →
+      Keeping es list ys found (kept + 1) (i + 1) (Some here)
+  keeping_kept ys e p h t =
+      let s = swapped order ys kept i found m.behind h (omega (arith, m.few, m.order_length)) e in
+      record {
+        behind = omega arith;
+        to = omega arith;
+        few = m.few;
+        list_length = m.list_length;
+        order_length = length_permutation order ys p ∙ m.order_length;
+        places = All-permutation (λ k. k < 1023) order ys p m.places;
+        once = IsDistinct-IsPermutation nat_eq nat_eq_flips order ys p m.once;
+        answer = rw (m.answer, next h, next_left, t, s.0, s.1, map-append, append_assoc);
+      }
 
-    -- of what is left, the first is dropped or kept
-    left : i < count → {b : Bool} → close_by last (get_or ls i nan) ≡ b →
-        unique_after last (drop i (events_in ls cs count))
-        ≡ cond b (unique_after last (drop (i + 1) (events_in ls cs count)))
-        (here ∷ unique_after (get_or ls i nan) (drop (i + 1) (events_in ls cs count)))
-    unfolding unique_after
-    left k t = rw (next_event ls cs count i (omega arith) (omega arith) k, t)
+  pub keeping_ends : found ≤ i → events_in list order kept ≡ unique es
+  keeping_ends h =
+      let n : length (take found order) ≡ found = length-take-le found order (omega (arith, m.few, m.order_length)) in
+      let past : length (take found order) ≤ i = omega arith in
+      rw (m.answer, drop_of_length-le (take found order) past, none_left, append-nil)
 
-    pub keeping_dropped : i < count → close_by last (get_or ls i nan) ≡ true →
-        Keeping ls₀ cs₀ count ls cs kept last (i + 1)
-    keeping_dropped k t =
-        record {
-          behind = omega arith;
-          to = omega arith;
-          lambdas_as_long = m.lambdas_as_long;
-          codes_as_long = m.codes_as_long;
-          answer = rw (m.answer, left k t);
-        }
-
-    pub keeping_kept : i < count → close_by last (get_or ls i nan) ≡ false →
-        Keeping ls₀ cs₀ count (set ls kept (get_or ls i nan)) (set cs kept (get_or cs i 0)) (kept + 1) (get_or ls i nan)
-        (i + 1)
-    keeping_kept k t =
-        let r = held ls cs in
-        let same : length ls ≡ length cs = omega arith in
-        let room : kept < length r = omega (arith, held_length ls cs same) in
-        let rest : drop (i + 1) (take count (set r kept here)) ≡ drop (i + 1) (take count r) =
-        rw (take-set-lt count r kept here (omega arith), drop-set-lt (i + 1) (take count r) kept here (omega arith)) in
-        record {
-          behind = omega arith;
-          to = omega arith;
-          lambdas_as_long = length-set ls kept (get_or ls i nan) ∙ m.lambdas_as_long;
-          codes_as_long = length-set cs kept (get_or cs i 0) ∙ m.codes_as_long;
-          answer =
-              rw (
-                m.answer,
-                left k t,
-                held_set ls cs kept (get_or ls i nan) (get_or cs i 0) same,
-                rest,
-                add-one kept,
-                take-suc-set r kept here room,
-                append_assoc,
-              );
-        }
-
-    pub keeping_ends : count ≤ i → events_in ls cs kept ≡ unique (events_in ls₀ cs₀ count)
-    unfolding unique_after
-    keeping_ends k = rw (m.answer, none_left ls cs count i (omega arith) (omega arith) k, append-nil)
+  pub keeping_ordered : found ≤ i → Sorted es → Ordered list order kept
+  keeping_ordered h s =
+      record {
+        list_length = m.list_length;
+        order_length = m.order_length;
+        few = omega (arith, m.behind, m.to, m.few);
+        places = m.places;
+        once = m.once;
+        sorted = rw (keeping_ends h) (unique_sorted es s);
+      }

@@ -1,13 +1,11 @@
 -- Laws that belong to no one function.
 pub mod Steps
 pub mod Index
-pub mod Candidates
-pub mod Codes
-pub mod Places
-pub mod Kept
-pub mod Gather
 pub mod Grid
 pub mod Each
 pub mod Order
+pub mod Places
 pub mod Laws
-pub mod Storable
+pub mod Placed
+pub mod Kept
+pub mod Gather

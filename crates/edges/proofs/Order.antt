@@ -1,22 +1,23 @@
--- Events in order: an insertion keeps them so, and an event goes to the place that is after what it does not precede
--- and before what it precedes.
+-- Events in order: an insertion keeps them so, and an event goes after what it does not precede and before what it
+-- precedes, which a search by halves finds.
 use mathlib.Core.Path.{◌≡◌, refl, sym, ap, ◌∙◌}
-use mathlib.Core.Bool.{Bool, true, false, true≢false}
+use mathlib.Core.Bool.{Bool, true, false, not, true≢false}
 use mathlib.Core.List.{List, [], ◌∷◌}
 use Prim.Native.Nat.{ℕ, zero, suc, ◌+◌, ◌≤◌, ◌<◌}
 use native.Mathlib.Omega.{arith}
 use lib.ListN.{length, get_or}
-use lib.Ieee.{Float, nan, is_nan}
+use lib.Ieee.{Float, is_nan}
+use Rattle.std.specs.List.Sorted.{IsPartitionedBy}
+use borrow.Author.Tests.{not-true}
 use Rattle.float.specs.Order.{total_order}
-use Rattle.float.specs.declared.order.Ordering.{Ordering}
-use Rattle.float.specs.declared.order.Ordering.TheVariants.{Less, Equal, Greater}
+use Rattle.std.specs.declared.cmp.Ordering.{Ordering}
+use Rattle.std.specs.declared.cmp.Ordering.TheVariants.{Less, Equal, Greater}
 use Rattle.basics.specs.Lists.{put_at, Each}
 use Rattle.basics.proofs.Tests.{cannot, cond_case}
 use Rattle.float.proofs.Orders.{less_greater, not_less_transitive}
 use Rattle.edges.specs.declared.event.EdgeEvent.{EdgeEvent}
 use Rattle.edges.specs.Events.{precedes, insert, sort_into}
-use Rattle.edges.specs.Scratch.{event_of, events_in, PlaceOf, AscendFrom, Ascend, Storable, Sorted}
-use Rattle.edges.proofs.Places.{event_in, events_length}
+use Rattle.edges.specs.Order.{AscendFrom, Ascend, Placed, Sorted}
 use Rattle.edges.proofs.Each.{each_insert}
 
 -- ---- `precedes` is an order of lambdas
@@ -63,66 +64,53 @@ sort_ascends [] acc h = h
 sort_ascends (e ∷ es) acc h = sort_ascends es (insert e acc) (insert_ascends e acc h)
 
 -- ---- sorted events stay so
-pub sorted_none : Sorted []
-sorted_none = record { ascend = tt; storable = tt }
-
-pub sorted_insert : (e : EdgeEvent) (acc : List EdgeEvent) {r : List EdgeEvent} → Storable e → Sorted acc →
+pub sorted_insert : (e : EdgeEvent) (acc : List EdgeEvent) {r : List EdgeEvent} → Placed e → Sorted acc →
     r ≡ insert e acc → Sorted r
 sorted_insert e acc h s q =
-    rw q (record { ascend = insert_ascends e acc s.ascend; storable = each_insert Storable e acc h s.storable })
-
--- ---- a place that is after what l does not precede
-module _ (l : Float) (ls : List Float) where
-  abbrev pub After : ℕ → Type 0
-  After p = (i : ℕ) → i + 1 ≡ p → precedes (total_order l (get_or ls i nan)) ≡ false
-
-  pub after_none : After 0
-  after_none i h = absurd (omega arith)
-
-  pub after_this : (k p : ℕ) → k + 1 ≡ p → precedes (total_order l (get_or ls k nan)) ≡ false → After p
-  after_this k p e t i h = let q : k ≡ i = omega arith in rw q at t
+    rw q (record { ascend = insert_ascends e acc s.ascend; placed = each_insert Placed e acc h s.placed })
 
 -- ---- the place of an event
 tail_ascends : (x : Float) (es : List EdgeEvent) → AscendFrom x es → Ascend es
 tail_ascends x [] h = tt
 tail_ascends x (e ∷ es) h = h.1
 
-module _ (e d : EdgeEvent) (n : Storable e) where
-  abbrev ahead : EdgeEvent → Bool
+module _ (e : EdgeEvent) (n : Placed e) where
+  abbrev pub ahead : EdgeEvent → Bool
   ahead x = precedes (total_order e.lambda x.lambda)
 
+  -- what the search asks of an event
+  abbrev pub behind : EdgeEvent → Bool
+  behind x = not (ahead x)
+
   -- where e does not precede one event, it does not precede those before it
-  not_before : (x : EdgeEvent) (es : List EdgeEvent) (i : ℕ) → Each Storable (x ∷ es) → AscendFrom x.lambda es →
-      i ≤ length es → ahead (get_or (x ∷ es) i d) ≡ false → ahead x ≡ false
-  not_before x es zero s a l h = h
-  not_before x [] (suc i) s a l h = absurd (omega arith)
-  not_before x (y ∷ ys) (suc i) s a l h =
-      not_precedes_transitive x.lambda y.lambda e.lambda s.0.1 s.1.0.1 n.1 a.0
-      (not_before y ys i s.1 a.1 (omega arith) h)
+  not_before : (x : EdgeEvent) (es : List EdgeEvent) (i : ℕ) (d : EdgeEvent) → Each Placed (x ∷ es) →
+      AscendFrom x.lambda es → i ≤ length es → ahead (get_or (x ∷ es) i d) ≡ false → ahead x ≡ false
+  not_before x es zero d s a l h = h
+  not_before x [] (suc i) d s a l h = absurd (omega arith)
+  not_before x (y ∷ ys) (suc i) d s a l h =
+      not_precedes_transitive x.lambda y.lambda e.lambda s.0 s.1.0 n a.0
+      (not_before y ys i d s.1 a.1 (omega arith) h)
+
+  -- so that the events are those behind which e goes, and then the others
+  pub parted : (es : List EdgeEvent) → Ascend es → Each Placed es → IsPartitionedBy behind es
+  parted [] a s i j d l t h = absurd (omega arith)
+  parted (x ∷ xs) a s zero j d l t h = ap not (not_before x xs j d s a (omega arith) (not-true _ h))
+  parted (x ∷ xs) a s (suc i) zero d l t h = absurd (omega arith)
+  parted (x ∷ xs) a s (suc i) (suc j) d l t h =
+      parted xs (tail_ascends x.lambda xs a) s.1 i j d (omega arith) (omega arith) h
 
   -- put at a place that is after what it does not precede, and before what it precedes, it is inserted
-  put_inserts : (es : List EdgeEvent) (p : ℕ) → Ascend es → Each Storable es → p ≤ length es →
+  pub placed : (es : List EdgeEvent) (p : ℕ) (d : EdgeEvent) → Ascend es → Each Placed es → p ≤ length es →
       ((i : ℕ) → i + 1 ≡ p → ahead (get_or es i d) ≡ false) → (p < length es → ahead (get_or es p d) ≡ true) →
       put_at p e es ≡ insert e es
   unfolding insert
-  put_inserts [] zero a s l f g = refl
-  put_inserts [] (suc p) a s l f g = absurd (omega arith)
-  put_inserts (x ∷ xs) zero a s l f g = let t : ahead x ≡ true = g (omega arith) in rw t
-  put_inserts (x ∷ xs) (suc p) a s l f g =
-      let t : ahead x ≡ false = not_before x xs p s a (omega arith) (f p (omega arith)) in
+  placed [] zero d a s l f g = refl
+  placed [] (suc p) d a s l f g = absurd (omega arith)
+  placed (x ∷ xs) zero d a s l f g = let t : ahead x ≡ true = g (omega arith) in rw t
+  placed (x ∷ xs) (suc p) d a s l f g =
+      let t : ahead x ≡ false = not_before x xs p d s a (omega arith) (f p (omega arith)) in
       rw (
         t,
-        put_inserts xs p (tail_ascends x.lambda xs a) s.1 (omega arith) (λ i h. f (suc i) (omega arith))
+        placed xs p d (tail_ascends x.lambda xs a) s.1 (omega arith) (λ i h. f (suc i) (omega arith))
             (λ h. g (omega arith)),
       )
-
--- e put where the search found its lambda's place among the lambdas
-pub placed : (e : EdgeEvent) (ls : List Float) (cs : List ℕ) (n p : ℕ) → length ls ≡ length cs → n ≤ length ls →
-    Storable e → Sorted (events_in ls cs n) → PlaceOf e.lambda ls n p →
-    put_at p e (events_in ls cs n) ≡ insert e (events_in ls cs n)
-placed e ls cs n p q h k s f =
-    let d : EdgeEvent = event_of nan 0 in
-    let m : length (events_in ls cs n) ≡ n = events_length ls cs n q h in
-    put_inserts e d k (events_in ls cs n) p s.ascend s.storable (omega (arith, f.most))
-    (λ i g. rw (← event_in ls cs n i d q h (omega (arith, f.most))) (f.after i g))
-    (λ g. rw (← event_in ls cs n p d q h (omega arith)) (f.before (omega arith)))

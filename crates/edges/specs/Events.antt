@@ -1,13 +1,14 @@
 -- Rules 6.2 and 6.4: the events of a leg: the candidates in their order, sorted, and without those that are too near
 -- the one kept before. Original: `sorted_edge_events` and what it calls.
-use Rattle.std.specs.Prelude.{Bool, true, false, cond, List, [], ◌∷◌, ◌++◌, ℕ, zero, suc, ◌+◌, ◌-◌, ◌≤◌, ◌<◌, min, max, Float}
+use Rattle.std.specs.Prelude.{Bool, true, false, cond, Option, Some, None, List, [], ◌∷◌, ◌++◌}
+use Rattle.std.specs.Prelude.{ℕ, zero, suc, ◌+◌, ◌-◌, ◌≤◌, ◌<◌, min, max, Float}
 use Rattle.std.specs.Float.{binary64}
 use Rattle.std.specs.Float.Ieee.{lt, add, sub, div}
 use Rattle.float.specs.Consts.{eps, zero64, one64}
 use Rattle.float.specs.Sign.{absolute}
 use Rattle.float.specs.Order.{total_order}
-use Rattle.float.specs.declared.order.Ordering.{Ordering}
-use Rattle.float.specs.declared.order.Ordering.TheVariants.{Less, Equal, Greater}
+use Rattle.std.specs.declared.cmp.Ordering.{Ordering}
+use Rattle.std.specs.declared.cmp.Ordering.TheVariants.{Less, Equal, Greater}
 use Rattle.float.specs.Whole.{floor_z, ceil_z}
 use Rattle.float.specs.Cast.{nat_float, count}
 use Rattle.param.specs.declared.ParamPoint.{ParamPoint}
@@ -16,19 +17,9 @@ use Rattle.param.specs.declared.Cells.{Cells}
 use Rattle.param.specs.declared.Axis.{Axis}
 use Rattle.param.specs.declared.Axis.TheVariants.{AxisU, AxisV}
 use Rattle.param.specs.Param.{along, across, leg_at, steps_on, steps_off, within, param_in_bounds}
-use Rattle.edges.specs.declared.point.WholeStep.{WholeStep}
-use Rattle.edges.specs.declared.point.WholeStep.TheVariants.{Step, Between}
-use Rattle.edges.specs.declared.cell.DiagonalCell.{DiagonalCell}
-use Rattle.edges.specs.declared.cell.DiagonalCell.TheVariants.{Cell, NoCell}
 use Rattle.edges.specs.declared.event.ParamEdge.{ParamEdge}
 use Rattle.edges.specs.declared.event.ParamEdge.TheVariants.{U, «V», Diagonal}
 use Rattle.edges.specs.declared.event.EdgeEvent.{EdgeEvent}
-use Rattle.edges.specs.declared.event.EdgeAtPoint.{EdgeAtPoint}
-use Rattle.edges.specs.declared.event.EdgeAtPoint.TheVariants.{Edge, NoEdge}
-use Rattle.edges.specs.declared.event.NormalizedLambda.{NormalizedLambda}
-use Rattle.edges.specs.declared.event.NormalizedLambda.TheVariants.{Lambda, Outside}
-use Rattle.edges.specs.declared.event.Candidate.{Candidate}
-use Rattle.edges.specs.declared.event.Candidate.TheVariants.{Event, NoEvent}
 use Rattle.edges.specs.Near.{integer_step, normalize_lambda}
 use Rattle.edges.specs.Cell.{diagonal_cell_at}
 
@@ -38,39 +29,39 @@ event l e = record { lambda = l; edge = e }
 
 -- ---- Rules 6.2, 1: the side that a point is on (`edge_at_point`): U(u), else V(v), else a diagonal
 
-abbrev pub diagonal_at : DiagonalCell → EdgeAtPoint
-diagonal_at (Cell u v) = Edge (Diagonal u v)
-diagonal_at NoCell = NoEdge
+abbrev pub diagonal_at : Option (ℕ × ℕ) → Option ParamEdge
+diagonal_at (Some (u, v)) = Some (Diagonal u v)
+diagonal_at None = None
 
-abbrev pub or_v : WholeStep → EdgeAtPoint → EdgeAtPoint
-or_v (Step v) e = Edge («V» v)
-or_v Between e = e
+abbrev pub or_v : Option ℕ → Option ParamEdge → Option ParamEdge
+or_v (Some v) e = Some («V» v)
+or_v None e = e
 
-abbrev pub or_u : WholeStep → EdgeAtPoint → EdgeAtPoint
-or_u (Step u) e = Edge (U u)
-or_u Between e = e
+abbrev pub or_u : Option ℕ → Option ParamEdge → Option ParamEdge
+or_u (Some u) e = Some (U u)
+or_u None e = e
 
 -- on a side: only a point within EPS of the grid is
-unfoldable pub edge_at_point : Cells → ParamPoint → EdgeAtPoint
+unfoldable pub edge_at_point : Cells → ParamPoint → Option ParamEdge
 edge_at_point k p =
     cond (param_in_bounds k p)
     (or_u (integer_step p.u k.m) (or_v (integer_step p.v k.n) (diagonal_at (diagonal_cell_at k p))))
-    NoEdge
+    None
 
 -- ---- Rules 6.2: one candidate
 
 -- of an end of the leg, at lambda 0 or 1, if it is on a side
-abbrev pub end_candidate : Float → EdgeAtPoint → Candidate
-end_candidate l (Edge e) = Event (event l e)
-end_candidate l NoEdge = NoEvent
+abbrev pub end_candidate : Float → Option ParamEdge → Option EdgeEvent
+end_candidate l (Some e) = Some (event l e)
+end_candidate l None = None
 
 -- the lambda at which what goes from x by dx comes to y, if it counts
-abbrev pub lambda_at : Float → Float → Float → NormalizedLambda
+abbrev pub lambda_at : Float → Float → Float → Option Float
 lambda_at y x dx = normalize_lambda (div binary64 (sub binary64 y x) dx)
 
 -- an event on a line of so many steps, if x, where the leg meets it, is within EPS of the line
-abbrev pub on_line : Float → ℕ → EdgeEvent → Candidate
-on_line x steps e = cond (within x (nat_float steps)) (Event e) NoEvent
+abbrev pub on_line : Float → ℕ → EdgeEvent → Option EdgeEvent
+on_line x steps e = cond (within x (nat_float steps)) (Some e) None
 
 -- the line at a step of an axis
 abbrev pub line_at : Axis → ℕ → ParamEdge
@@ -78,26 +69,26 @@ line_at AxisU u = U u
 line_at AxisV v = «V» v
 
 -- of a line, at a lambda that counts: the leg's point there is within EPS of the grid on the other axis
-unfoldable pub line_crossing : Axis → Cells → Leg → ℕ → NormalizedLambda → Candidate
-line_crossing x k leg step Outside = NoEvent
-line_crossing x k leg step (Lambda l) = on_line (across x (leg_at leg l)) (steps_off x k) (event l (line_at x step))
+unfoldable pub line_crossing : Axis → Cells → Leg → ℕ → Option Float → Option EdgeEvent
+line_crossing x k leg step None = None
+line_crossing x k leg step (Some l) = on_line (across x (leg_at leg l)) (steps_off x k) (event l (line_at x step))
 
-abbrev pub diagonal_event : Float → DiagonalCell → Candidate
-diagonal_event l (Cell u v) = Event (event l (Diagonal u v))
-diagonal_event l NoCell = NoEvent
+abbrev pub diagonal_event : Float → Option (ℕ × ℕ) → Option EdgeEvent
+diagonal_event l (Some (u, v)) = Some (event l (Diagonal u v))
+diagonal_event l None = None
 
 -- of a diagonal: the leg's point there is within EPS of the grid and on the diagonal of a cell
-unfoldable pub diagonal_crossing : Cells → Leg → NormalizedLambda → Candidate
-diagonal_crossing k leg Outside = NoEvent
-diagonal_crossing k leg (Lambda l) =
-    cond (param_in_bounds k (leg_at leg l)) (diagonal_event l (diagonal_cell_at k (leg_at leg l))) NoEvent
+unfoldable pub diagonal_crossing : Cells → Leg → Option Float → Option EdgeEvent
+diagonal_crossing k leg None = None
+diagonal_crossing k leg (Some l) =
+    cond (param_in_bounds k (leg_at leg l)) (diagonal_event l (diagonal_cell_at k (leg_at leg l))) None
 
 -- by how much an axis changes along the leg
 abbrev pub change : Axis → Leg → Float
 change x leg = sub binary64 (along x leg.b) (along x leg.a)
 
 -- 2 and 3: U(step) or V(step)
-abbrev pub line_candidate : Axis → Cells → Leg → ℕ → Candidate
+abbrev pub line_candidate : Axis → Cells → Leg → ℕ → Option EdgeEvent
 line_candidate x k leg step = line_crossing x k leg step (lambda_at (nat_float step) (along x leg.a) (change x leg))
 
 -- u + v of a point, and by how much it changes along the leg: the sum of both changes
@@ -108,7 +99,7 @@ abbrev pub change_of_sum : Leg → Float
 change_of_sum leg = add binary64 (sub binary64 leg.b.u leg.a.u) (sub binary64 leg.b.v leg.a.v)
 
 -- 4: the diagonal at which u + v is `sum`
-abbrev pub diagonal_candidate : Cells → Leg → ℕ → Candidate
+abbrev pub diagonal_candidate : Cells → Leg → ℕ → Option EdgeEvent
 diagonal_candidate k leg sum = diagonal_crossing k leg (lambda_at (nat_float sum) (sum_of leg.a) (change_of_sum leg))
 
 -- ---- Rules 6.2: the candidates in their order
@@ -117,12 +108,12 @@ diagonal_candidate k leg sum = diagonal_crossing k leg (lambda_at (nat_float sum
 abbrev pub changes : Float → Bool
 changes d = lt eps (absolute d)
 
-abbrev pub listed : Candidate → List EdgeEvent → List EdgeEvent
-listed (Event e) es = e ∷ es
-listed NoEvent es = es
+abbrev pub listed : Option EdgeEvent → List EdgeEvent → List EdgeEvent
+listed (Some e) es = e ∷ es
+listed None es = es
 
 -- n candidates from number i on
-unfoldable pub list_from : (ℕ → Candidate) → ℕ → ℕ → List EdgeEvent
+unfoldable pub list_from : (ℕ → Option EdgeEvent) → ℕ → ℕ → List EdgeEvent
 list_from f zero i = []
 list_from f (suc n) i = listed (f i) (list_from f n (i + 1))
 
@@ -174,9 +165,9 @@ insert e [] = e ∷ []
 insert e (x ∷ xs) = cond (precedes (total_order e.lambda x.lambda)) (e ∷ (x ∷ xs)) (x ∷ insert e xs)
 
 -- a candidate, sorted in; for inner contracts
-abbrev pub pushed : Candidate → List EdgeEvent → List EdgeEvent
-pushed (Event e) sorted = insert e sorted
-pushed NoEvent sorted = sorted
+abbrev pub pushed : Option EdgeEvent → List EdgeEvent → List EdgeEvent
+pushed (Some e) sorted = insert e sorted
+pushed None sorted = sorted
 
 -- events sorted into those that are sorted
 unfoldable pub sort_into : List EdgeEvent → List EdgeEvent → List EdgeEvent
@@ -199,6 +190,11 @@ unique (e ∷ es) = e ∷ unique_after e.lambda es
 unfoldable pub sorted_edge_events : Cells → Leg → List EdgeEvent
 sorted_edge_events k leg = unique (sort_into (candidates k leg) [])
 
+-- the lambda of the next event, or 1 where there is none
+abbrev pub next_lambda : List EdgeEvent → Float
+next_lambda [] = one64
+next_lambda (e ∷ es) = e.lambda
+
 -- ---- what holds of every event; for inner contracts
 
 -- an event's side is on the grid: U(u) up to M, V(v) up to N, a diagonal in a cell
@@ -208,9 +204,9 @@ Inside k («V» v) = v ≤ k.n
 Inside k (Diagonal u v) = (u < k.m) × (v < k.n)
 
 -- P, of a candidate that is an event
-abbrev pub IfEvent : (EdgeEvent → Type 0) → Candidate → Type 0
-IfEvent P (Event e) = P e
-IfEvent P NoEvent = Unit
+abbrev pub IfEvent : (EdgeEvent → Type 0) → Option EdgeEvent → Type 0
+IfEvent P (Some e) = P e
+IfEvent P None = Unit
 
 abbrev pub OnGrid : Cells → EdgeEvent → Type 0
 OnGrid k e = Inside k e.edge

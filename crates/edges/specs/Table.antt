@@ -19,8 +19,8 @@ unfoldable pub computed : Bool
 unfolding
     within param_in_bounds integer_step normalize_lambda index_of on_diagonal try_cell diagonal_cell_at edge_at_point
     line_crossing diagonal_crossing list_from ends lines diagonals candidates insert sort_into unique_after unique
-    sorted_edge_events eps negative absolute clamped total_order floor_z ceil_z rounded nat_float of_bits of_int neg lt le eq
-    add sub mul div round to_unsigned
+    sorted_edge_events eps negative absolute clamped total_order floor_z ceil_z rounded nat_float of_bits of_int neg
+    lt le eq add sub mul div round to_unsigned
 computed = true
 
 abbrev pub quarter : Float

@@ -3,6 +3,6 @@
 
 pub mod cell;
 pub mod event;
+pub mod events;
 pub mod point;
-pub mod scratch;
 pub mod sorted;

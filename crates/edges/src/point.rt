@@ -7,20 +7,15 @@ use float::consts::EPS;
 use float::sign::abs;
 use float::whole::round;
 
-// The whole step that a value is close to.
-#[derive(Clone, Copy)]
-pub enum WholeStep {
-    Step(usize),
-    Between,
-}
-
 // The whole number from 0 to `steps` that a value is less than EPS from (Rules 6.2).
-pub fn integer_step(value: f64, steps: usize) -> WholeStep
+#[tactic(auto, unfolding(crate::specs::Near::integer_step, float::specs::Consts::eps))]
+pub fn integer_step(value: f64, steps: usize) -> Option<usize>
     ensures { result ≡ integer_step value steps }
 {
     let step = round(value);
-    if (abs(value - step) < EPS) & ((0.0 <= step) & (step <= to_f64(steps))) {
-        return WholeStep::Step(to_usize(step));
+    if abs(value - step) < EPS && 0.0 <= step && step <= to_f64(steps) {
+        Some(to_usize(step))
+    } else {
+        None
     }
-    WholeStep::Between
 }

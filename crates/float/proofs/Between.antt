@@ -1,11 +1,13 @@
 -- The magnitude of x is below y, or at most y, exactly if x lies between -y and y, so that it is told by two
 -- comparisons of x. By the signs, down to the sizes a of x and b of y on one scale: what a sign adds is the test
 -- 0 < a + b, and it holds where a < b does.
-use Rattle.std.proofs.Common.{◌≡◌, ℕ, ◌+◌, ◌*◌, Bool, true, false, not, ◌&&◌, ◌||◌, ltb, sym, refl, ap, ◌∙◌, add_comm, arith, ltb-true, lt-ltb}
+use Rattle.std.proofs.Common.{◌≡◌, ℕ, ◌+◌, ◌*◌, Bool, true, false, not, ◌&&◌, ◌||◌, ltb, sym, refl, ap, ◌∙◌, true≢false, add_comm, arith, ltb-true, lt-ltb}
 use mathlib.Core.Bool.{and_comm, and-false, or_comm, or-false}
-use lib.Ieee.{Float, nan, inf, fin, up, down, below, level, lt, eq, le, neg}
+use lib.Ieee.{Float, nan, inf, fin, up, down, below, lt, le, neg, is_nan}
 use Rattle.float.specs.Sign.{absolute, at_most}
-use Rattle.float.proofs.Less.{le_signed}
+use Rattle.basics.proofs.Tests.{cannot}
+use Rattle.float.proofs.Less.{le_is, le_not_nan}
+use Rattle.float.proofs.Larger.{abs_nan}
 
 module _ (a b : ℕ) where
   some : ltb a b ≡ true → ltb 0 (a + b) ≡ true
@@ -55,30 +57,52 @@ above_either true false a b = sym (or-false (ltb b a))
 above_either false true a b = ap (ltb 0) (add_comm b a) ∙ less_or a b ∙ simp (add_comm a b)
 above_either false false a b = refl
 
-both_one : (s t : Bool) (a b : ℕ) →
-    (below (not t) b s a || level (not t) b s a) && (below s a t b || level s a t b) ≡ below false a t b
-    || level false a t b
-both_one s t a b =
-    rw (le_signed (not t) b s a, le_signed s a t b, le_signed false a t b)
-    (neither (below s a (not t) b) (below t b s a) ∙ ap not (sym (above_either s t a b)))
+abs_above : (x y : Float) → lt y (absolute x) ≡ lt x (neg y) || lt y x
+unfolding lt neg absolute
+abs_above nan nan = refl
+abs_above nan (inf t) = refl
+abs_above nan (fin t n d) = refl
+abs_above (inf s) nan = refl
+abs_above (inf true) (inf true) = refl
+abs_above (inf true) (inf false) = refl
+abs_above (inf false) (inf true) = refl
+abs_above (inf false) (inf false) = refl
+abs_above (inf true) (fin t n d) = refl
+abs_above (inf false) (fin t n d) = refl
+abs_above (fin s m e) nan = refl
+abs_above (fin s m e) (inf true) = refl
+abs_above (fin s m e) (inf false) = refl
+abs_above (fin s m e) (fin t n d) = above_either s t (m * up e * down d) (n * up d * down e)
+
+pub neg_nan : (x : Float) → is_nan (neg x) ≡ is_nan x
+unfolding neg is_nan
+neg_nan nan = refl
+neg_nan (inf s) = refl
+neg_nan (fin s m e) = refl
+
+-- no value is at most a NaN, nor a NaN at most a value
+pub not_le_nan : (x y : Float) → is_nan y ≡ true → (le x y ≡ false) × (le y x ≡ false)
+not_le_nan x y h = (
+  cannot (le x y) (λ e. true≢false (sym h ∙ (le_not_nan x y e).1)),
+  cannot (le y x) (λ e. true≢false (sym h ∙ (le_not_nan y x e).0)),
+)
+
+pub between_is : (x top : Float) → le (neg top) x && le x top ≡ at_most x top
+between_is x top = go (is_nan x) (is_nan top) refl refl
   where
     neither : (p q : Bool) → not p && not q ≡ not (p || q)
     neither true q = refl
     neither false q = refl
 
-pub between_is : (x top : Float) → le (neg top) x && le x top ≡ at_most x top
-unfolding le lt eq neg absolute
-between_is nan nan = refl
-between_is nan (inf t) = refl
-between_is nan (fin t n d) = refl
-between_is (inf s) nan = refl
-between_is (inf true) (inf true) = refl
-between_is (inf true) (inf false) = refl
-between_is (inf false) (inf true) = refl
-between_is (inf false) (inf false) = refl
-between_is (inf true) (fin t n d) = refl
-between_is (inf false) (fin t n d) = refl
-between_is (fin s m e) nan = refl
-between_is (fin s m e) (inf true) = refl
-between_is (fin s m e) (inf false) = refl
-between_is (fin s m e) (fin t n d) = both_one s t (m * up e * down d) (n * up d * down e)
+    go : (m n : Bool) → is_nan x ≡ m → is_nan top ≡ n → le (neg top) x && le x top ≡ at_most x top
+    go true n h k = simp ((not_le_nan (neg top) x h).0, (not_le_nan top (absolute x) (abs_nan x ∙ h)).1)
+    go false true h k =
+        simp ((not_le_nan x top k).0, (not_le_nan (absolute x) top k).0, and-false)
+    go false false h k =
+        simp (
+          le_is (neg top) x (neg_nan top ∙ k) h,
+          le_is x top h k,
+          le_is (absolute x) top (abs_nan x ∙ h) k,
+          abs_above x top,
+        )
+        (neither (lt x (neg top)) (lt top x))

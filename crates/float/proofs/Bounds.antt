@@ -21,7 +21,7 @@ use Rattle.float.proofs.Value.{lt_values, lt_whole, whole_lt, minus_below}
 use Rattle.float.proofs.Less.{lt_irreflexive, not_ltb, le_is, le_not_nan, le_of_not_lt, not_lt_of_le}
 use Rattle.float.proofs.Less.{finite_not_nan}
 use Rattle.float.proofs.Differences.{sub_level}
-use Rattle.float.proofs.Cut.{over_more, over_same, over_ge}
+use Rattle.float.proofs.Floors.{over_more, over_same, over_ge}
 
 -- ---- a count as a float
 

@@ -2,11 +2,11 @@
 -- are, a NaN left out, and a NaN only where both are.
 use Rattle.std.proofs.Common.{◌≡◌, Bool, true, false, cond, ◌&&◌, ◌||◌, sym, refl, ◌∙◌, true≢false}
 use mathlib.Core.Bool.{and-true, or-false}
-use lib.Ieee.{Float, nan, inf, fin, lt, le, ne, is_nan}
+use lib.Ieee.{Float, nan, inf, fin, lt, le, is_nan}
 use Rattle.float.specs.Sign.{absolute}
 use Rattle.float.specs.Order.{larger}
 use Rattle.basics.proofs.Tests.{cond_keeps, cond_case}
-use Rattle.float.proofs.Less.{lt_transitive, not_lt_trans, le_of_not_lt, le_reflexive, ne_self}
+use Rattle.float.proofs.Less.{lt_transitive, not_lt_trans, le_of_not_lt, le_reflexive}
 
 pub abs_nan : (x : Float) → is_nan (absolute x) ≡ is_nan x
 unfolding is_nan absolute
@@ -14,15 +14,12 @@ abs_nan nan = refl
 abs_nan (inf s) = refl
 abs_nan (fin s m e) = refl
 
--- by the two tests of `max`, the second of which tells a NaN
-larger_is : (x y : Float) → larger x y ≡ cond (lt x y) y (cond (is_nan x) y x)
+-- by the two tests of `max`
+pub larger_is : (x y : Float) → larger x y ≡ cond (lt x y) y (cond (is_nan x) y x)
 unfolding larger lt is_nan
 larger_is nan y = refl
 larger_is (inf s) y = refl
 larger_is (fin s m e) y = refl
-
-pub larger_tests : (x y : Float) → larger x y ≡ cond (lt x y) y (cond (ne x x) y x)
-larger_tests x y = rw (ne_self x) (larger_is x y)
 
 -- what holds of both holds of the larger
 pub larger_keeps : (P : Float → Type 0) (x y : Float) → P x → P y → P (larger x y)

@@ -7,9 +7,7 @@ pub mod Signs
 pub mod Orders
 pub mod Larger
 pub mod Differences
-pub mod Casts
-pub mod Cut
-pub mod Round
+pub mod Floors
 pub mod Bounds
 pub mod Range
 pub mod Between

@@ -11,8 +11,8 @@ use Rattle.float.specs.Consts.{zero64}
 use Rattle.float.specs.Sign.{negative}
 use Rattle.float.specs.Order.{sign_order, total_order}
 use Rattle.float.proofs.Less.{lt_irreflexive, lt_asymmetric, lt_transitive, not_lt_trans}
-use Rattle.float.specs.declared.order.Ordering.{Ordering}
-use Rattle.float.specs.declared.order.Ordering.TheVariants.{Less, Equal, Greater}
+use Rattle.std.specs.declared.cmp.Ordering.{Ordering}
+use Rattle.std.specs.declared.cmp.Ordering.TheVariants.{Less, Equal, Greater}
 
 -- ---- turned round, the answer is the other one
 abbrev pub flip : Ordering → Ordering

@@ -1,6 +1,6 @@
 -- A value between 0 and a count n can be cut to a whole number, which is at most n: it lies above -1 and below 2^64.
 -- And one that is at least a count is so when it is cut.
-use Rattle.std.proofs.Common.{◌≡◌, ℕ, zero, suc, ◌-◌, ◌*◌, ◌/◌, ◌^◌, ◌<◌, ◌≤◌, min, true, false, pos, neg_ℤ, sym, refl, ◌∙◌, true≢false, le_trans, le_of_eq, le_refl, mul_comm, arith, lit≤, lt-ltb}
+use Rattle.std.proofs.Common.{◌≡◌, ℕ, zero, suc, ◌-◌, ◌*◌, ◌/◌, ◌^◌, ◌<◌, ◌≤◌, min, true, false, T, pos, neg_ℤ, sym, refl, ◌∙◌, true≢false, le_trans, le_of_eq, le_refl, mul_comm, arith, lit≤, lt-ltb}
 use native.Mathlib.Nat.{div-le_of_le-mul, min-le_left}
 use lib.Ieee.{Float, nan, inf, fin, up, down, lt, le, of_bits, is_nan, to_unsigned}
 use Rattle.float.specs.Consts.{zero64}
@@ -8,10 +8,13 @@ use Rattle.float.specs.Whole.{over, floor_z}
 use Rattle.float.specs.Cast.{nat_float, count}
 use Rattle.float.proofs.Value.{whole_lt}
 use Rattle.float.proofs.Less.{le_of_not_lt, not_lt_of_le, le_transitive, lt_le_trans, le_lt_trans}
-use Rattle.float.proofs.Casts.{Asked, asked}
 use Rattle.float.proofs.Bounds.{nat_value, nat_finite, nat_not_nan, nat_nonneg, inside, most, floor_at_least}
 
--- what `std::num::truncating_f64_to_u64` asks of y, and a bound on what it gives
+-- what `std::num::truncating_f64_to_u64` asks of y
+abbrev pub Asked : Float → Type 0
+Asked y = T (lt (fin true 1 (pos 0)) y) × T (lt y (fin false 1 (pos 64)))
+
+-- and a bound on what it gives
 abbrev pub Counted : Float → ℕ → Type 0
 Counted y n = Asked y × (to_unsigned 64 y ≤ n)
 
@@ -32,7 +35,7 @@ counted y n h lo hi =
     lt_le_trans (fin true 1 (pos 0)) zero64 y (unfold lt of_bits in refl) lo in
     let few : lt (nat_float n) (fin false 1 (pos 64)) ≡ true =
     whole_lt 1 (pos 64) n (nat_float n) (nat_value n h) ∙ lt-ltb (n * 1) (1 * 2 ^ 64) (small n h) in (
-      asked y above (le_lt_trans y (nat_float n) (fin false 1 (pos 64)) hi few),
+      (rw above tt, rw (le_lt_trans y (nat_float n) (fin false 1 (pos 64)) hi few) tt),
       cut_at_most y n h (not_lt_of_le y (nat_float n) hi),
     )
   where

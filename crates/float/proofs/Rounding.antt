@@ -1,7 +1,7 @@
 -- What `round` of lib.Ieee gives has the sign it was handed and, with another sign, the same size:
 -- the sign is only passed on.
 use Rattle.std.proofs.Common.{◌≡◌, ℕ, zero, suc, ◌+◌, ◌*◌, ◌^◌, Bool, true, false, cond, ltb, ℤ, pos, refl}
-use lib.Ieee.{Float, inf, fin, Format, prec, emax, low, neg, odd, units, round, is_nan}
+use lib.Ieee.{Float, inf, fin, Format, prec, emax, low, odd, units, round, is_nan}
 use lib.Ieee.Fits.{round_is}
 use Rattle.float.specs.Sign.{absolute}
 
@@ -24,9 +24,6 @@ module _ (P : Float → Float → Type 0) (s t : Bool) (same : (m : ℕ) (e : �
 
   pub round_both : (f : Format) (n d : ℕ) → P (round f s n d) (round f t n d)
   round_both f n d = rw (round_is f s n d, round_is f t n d) (units_both f _ _)
-
-pub neg_round : (f : Format) (n d : ℕ) → neg (round f false n d) ≡ round f true n d
-neg_round = round_both (λ x y. neg x ≡ y) false true (λ m e. unfold neg in refl) (unfold neg in refl)
 
 pub abs_round : (f : Format) (s : Bool) (n d : ℕ) → absolute (round f s n d) ≡ round f false n d
 abs_round f s = round_both (λ x y. absolute x ≡ y) s false (λ m e. unfold absolute in refl) (unfold absolute in refl) f

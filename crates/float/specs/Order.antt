@@ -3,8 +3,8 @@ use Rattle.std.specs.Prelude.{Bool, true, false, cond, Float}
 use Rattle.std.specs.Float.{nan, inf, fin}
 use Rattle.std.specs.Float.Ieee.{lt}
 use Rattle.float.specs.Sign.{negative}
-use Rattle.float.specs.declared.order.Ordering.{Ordering}
-use Rattle.float.specs.declared.order.Ordering.TheVariants.{Less, Equal, Greater}
+use Rattle.std.specs.declared.cmp.Ordering.{Ordering}
+use Rattle.std.specs.declared.cmp.Ordering.TheVariants.{Less, Equal, Greater}
 
 -- `max`: the larger; where one is `nan` the other; the first of two that are equal, which fixes the sign of a zero
 unfoldable pub larger : Float → Float → Float

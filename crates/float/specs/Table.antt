@@ -8,7 +8,7 @@ use Rattle.float.specs.Sign.{negative, absolute}
 use Rattle.float.specs.Order.{larger, clamped, total_order}
 use Rattle.float.specs.Whole.{floor_z, ceil_z, rounded, ceiled}
 use Rattle.float.specs.Cast.{nat_float}
-use Rattle.float.specs.declared.order.Ordering.TheVariants.{Less, Equal, Greater}
+use Rattle.std.specs.declared.cmp.Ordering.TheVariants.{Less, Equal, Greater}
 
 -- `unfolding computed` opens every definition of this crate and of lib.Ieee that a closed result needs
 unfoldable pub computed : Bool

@@ -16,10 +16,9 @@ use borrow.Author.Tests.{leb-true, eqb-true}
 use Rattle.float.specs.Sign.{is_finite, at_most}
 use Rattle.basics.proofs.Tests.{held, failed, and_both}
 use Rattle.float.proofs.Bounds.{at_most_finite}
-use Rattle.refusal.specs.declared.Check.{Check}
-use Rattle.refusal.specs.declared.Check.TheVariants.{Passed, Failed}
+use Rattle.std.specs.Prelude.{Err}
 use Rattle.refusal.specs.declared.Refusal.TheVariants.{Steps, Length, Coordinate}
-use Rattle.refusal.specs.Refusals.{unless, and_then}
+use Rattle.refusal.specs.Refusals.{Check, passed, unless, and_then}
 use Rattle.refusal.proofs.Laws.{unless_passed, then_passed}
 use Rattle.grid.specs.Grid.{point_number, steps_fit, length_fits, max_coordinate, coordinates_fit, grid_check, Accepted}
 
@@ -61,29 +60,29 @@ steps_known m n h =
 -- what is known where 1, 2, the call's own test and 4 pass
 pub record Passing (g : List Float) (m n : ℕ) (between : Check) : Type 0 where
   pub shaped : Shaped g m n
-  pub own : between ≡ Passed
+  pub own : between ≡ passed
   pub coordinates : coordinates_fit g ≡ true
 
-pub grid_passed : (g : List Float) (m n : ℕ) (between : Check) → grid_check g m n between ≡ Passed →
+pub grid_passed : (g : List Float) (m n : ℕ) (between : Check) → grid_check g m n between ≡ passed →
     Passing g m n between
 unfolding grid_check
 grid_passed g m n between h =
-    let last = unless (coordinates_fit g) Coordinate Passed in
+    let last = unless (coordinates_fit g) Coordinate passed in
     let a = unless_passed (steps_fit m n) Steps (unless (length_fits g m n) Length (and_then between last)) h in
     let b = unless_passed (length_fits g m n) Length (and_then between last) a.1 in
     let c = then_passed between last b.1 in
     record {
       shaped = record { steps = steps_known m n a.0; size = eqb-true (length g) (3 * ((m + 1) * (n + 1))) b.0 };
       own = c.0;
-      coordinates = (unless_passed (coordinates_fit g) Coordinate Passed c.1).0;
+      coordinates = (unless_passed (coordinates_fit g) Coordinate passed c.1).0;
     }
 
 -- a grid that passes in a call is accepted
-pub grid_accepted : (g : List Float) (m n : ℕ) (between : Check) → grid_check g m n between ≡ Passed → Accepted g m n
+pub grid_accepted : (g : List Float) (m n : ℕ) (between : Check) → grid_check g m n between ≡ passed → Accepted g m n
 grid_accepted g m n between h = rw (grid_passed g m n between h).own at h
 
 pub accepted_known : (g : List Float) (m n : ℕ) → Accepted g m n → Shaped g m n
-accepted_known g m n h = (grid_passed g m n Passed h).shaped
+accepted_known g m n h = (grid_passed g m n passed h).shaped
 
 -- a call that tests 1 by itself, and the grid with a test of its own between: `fit` is whether M and N fit
 
@@ -93,7 +92,7 @@ steps_answered m n e h = steps_known m n (held e h)
 
 -- 1 comes first, whatever the call itself tests
 pub steps_refused : (g : List Float) (m n : ℕ) (between : Check) {fit : Bool} → fit ≡ steps_fit m n →
-    not fit ≡ true → Failed Steps ≡ grid_check g m n between
+    not fit ≡ true → Err Steps ≡ grid_check g m n between
 unfolding grid_check
 steps_refused g m n between e h = rw (failed e h)
 

@@ -1,15 +1,14 @@
 -- Rules 1.1 and 1.2, and of 11.1 what refuses a grid: point numbers, points, and the tests of steps, length and
 -- coordinates. m and n are the steps in u and in v.
-use Rattle.std.specs.Prelude.{ℕ, ◌+◌, ◌*◌, ◌≡◌, Bool, true, ◌&&◌, List, [], ◌∷◌, eqb, leb, length, get_or, Float}
+use Rattle.std.specs.Prelude.{ℕ, ◌+◌, ◌*◌, ◌≡◌, ◌≤◌, Bool, true, ◌&&◌, List, [], ◌∷◌, eqb, leb, length, get_or, Float}
 use Rattle.std.specs.Float.{nan, binary64}
 use Rattle.std.specs.Float.Ieee.{of_bits}
 use Rattle.float.specs.Sign.{at_most}
 use Rattle.vector.specs.declared.Vector.{Vector}
 use Rattle.vector.specs.Vectors.{vector}
-use Rattle.refusal.specs.declared.Check.{Check}
-use Rattle.refusal.specs.declared.Check.TheVariants.{Passed}
 use Rattle.refusal.specs.declared.Refusal.TheVariants.{Steps, Length, Coordinate}
-use Rattle.refusal.specs.Refusals.{unless, and_then}
+use Rattle.refusal.specs.Refusals.{Check, passed, unless, and_then}
+use Rattle.param.specs.declared.Cells.{Cells}
 
 -- the number of point (u, v)
 abbrev pub point_number : ℕ → ℕ → ℕ → ℕ
@@ -42,8 +41,12 @@ unfoldable pub grid_check : List Float → ℕ → ℕ → Check → Check
 grid_check g m n between =
     unless (steps_fit m n) Steps
     (unless (length_fits g m n) Length
-    (and_then between (unless (coordinates_fit g) Coordinate Passed)))
+    (and_then between (unless (coordinates_fit g) Coordinate passed)))
 
 -- Rules 5.2, accepted: the grid passes refusals 1, 2 and 4
 abbrev pub Accepted : List Float → ℕ → ℕ → Type 0
-Accepted g m n = grid_check g m n Passed ≡ Passed
+Accepted g m n = grid_check g m n passed ≡ passed
+
+-- what inner functions ask for: a grid of these cells, by its length
+abbrev pub GridFits : List Float → Cells → Type 0
+GridFits g k = (k.m ≤ 255) × (k.n ≤ 255) × (length g ≡ 3 * ((k.m + 1) * (k.n + 1)))

@@ -2,10 +2,13 @@
 // call that takes one.
 #![tactic(auto)]
 
-ghost use Rattle.std.specs.Prelude.{◌≡◌, length, ◌+◌, ◌*◌, ◌≤◌};
-ghost use Rattle.grid.specs.Grid.{point_number, point_at, steps_fit, coordinates_fit, grid_check};
+ghost use Rattle.std.specs.Prelude.{◌≡◌, IfOk, length, ◌+◌, ◌*◌, ◌≤◌};
+ghost use Rattle.param.specs.Param.{cells};
+ghost use Rattle.refusal.specs.Refusals.{tested};
+ghost use Rattle.grid.specs.Grid.{point_number, point_at, steps_fit, coordinates_fit, grid_check, GridFits};
 
-use refusal::{Check, Refusal};
+use param::Cells;
+use refusal::Refusal;
 use vector::Vector;
 
 // M and N are at most this.
@@ -14,7 +17,16 @@ pub const MAX_STEPS: usize = 255;
 // 2^40, the largest magnitude of a coordinate.
 const MAX_COORDINATE: f64 = 1099511627776.0;
 
+// A list that has three numbers for each point of so many cells.
+#[derive(Clone, Copy)]
+pub struct Grid<'a> {
+    pub points: &'a [f64],
+    pub cells: Cells,
+    pub ghost fits: { GridFits points.now cells },
+}
+
 // The number of grid point (u, v) where there are n steps in v.
+// A number and no type of its own: a project rule defines it, and C is handed it.
 pub fn point_number(n: usize, u: usize, v: usize) -> usize
     requires { (n ≤ 255) × (u ≤ 256) × (v ≤ 256) }
     ensures { result ≡ point_number n u v }
@@ -23,6 +35,8 @@ pub fn point_number(n: usize, u: usize, v: usize) -> usize
 }
 
 // Point number i of a list of coordinates.
+// The list is flat by a project rule. By index: a chunk would be taken apart into the same three.
+#[tactic(auto, unfolding(crate::specs::Grid::point_at))]
 pub fn point_at(points: &[f64], i: usize) -> Vector
     requires { 3 * i + 3 ≤ length points.now }
     ensures { result ≡ point_at points.now i }
@@ -35,14 +49,13 @@ pub fn point_at(points: &[f64], i: usize) -> Vector
 }
 
 // Whether every coordinate is a number within ±2^40. A grid rarely fails, so no test ends the loop early.
+#[tactic(auto, using(crate::proofs::Laws::coordinates_step), unfolding(crate::specs::Grid::coordinates_fit))]
 pub fn coordinates_fit(points: &[f64]) -> bool
     ensures { result ≡ coordinates_fit points.now }
 {
     let mut fit = true;
-    let mut i: usize = 0;
-    while i < points.len() {
-        fit = fit & float::sign::at_most(points[i], MAX_COORDINATE);
-        i += 1;
+    for x in points {
+        fit &= float::sign::at_most(*x, MAX_COORDINATE);
     }
     fit
 }
@@ -51,24 +64,32 @@ pub fn coordinates_fit(points: &[f64]) -> bool
 pub fn steps_fit(m: usize, n: usize) -> bool
     ensures { result ≡ steps_fit m n }
 {
-    ((1 <= m) & (m <= MAX_STEPS)) & ((1 <= n) & (n <= MAX_STEPS))
+    1 <= m && m <= MAX_STEPS && 1 <= n && n <= MAX_STEPS
 }
 
 // Refusals 1, 2 and 4 of a grid; `between` is what the call itself refuses after 2 and before 4.
-pub fn check_grid(grid: &[f64], m: usize, n: usize, between: Check) -> Check
-    ensures { result ≡ grid_check grid.now m n between }
+#[tactic(auto, unfolding(crate::specs::Grid::grid_check))]
+pub fn check_grid<'a>(
+    points: &'a [f64],
+    m: usize,
+    n: usize,
+    between: Result<(), Refusal>,
+) -> Result<Grid<'a>, Refusal>
+    ensures check { tested result ≡ grid_check points.now m n between }
+    ensures grid { IfOk result (λ g. (g.points.now ≡ points.now) × (g.cells ≡ cells m n)) }
 {
     if !steps_fit(m, n) {
-        return Check::Failed(Refusal::Steps);
+        return Err(Refusal::Steps);
     }
-    if grid.len() != 3 * ((m + 1) * (n + 1)) {
-        return Check::Failed(Refusal::Length);
+    if points.len() != 3 * ((m + 1) * (n + 1)) {
+        return Err(Refusal::Length);
     }
-    if let Check::Failed(refusal) = between {
-        return Check::Failed(refusal);
+    between?;
+    if !coordinates_fit(points) {
+        return Err(Refusal::Coordinate);
     }
-    if !coordinates_fit(grid) {
-        return Check::Failed(Refusal::Coordinate);
-    }
-    Check::Passed
+    Ok(Grid {
+        points,
+        cells: Cells { m, n },
+    })
 }

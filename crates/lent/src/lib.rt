@@ -1,41 +1,25 @@
-// Rules 8: lists that a caller lends for output. Whether they have room, and zero in every
-// place past what a call writes.
+// Rules 8: lists that a caller lends for output: whether they have room, and how much a call drew into them.
 #![tactic(auto)]
 
 ghost use Rattle.std.specs.Prelude.{◌≡◌};
-ghost use Rattle.float.specs.Consts.{zero64};
-ghost use Rattle.lent.specs.Lent.{zeroed_from, room_check};
+ghost use Rattle.lent.specs.Lent.{room_check};
 
-use refusal::{Check, Refusal};
+use refusal::Refusal;
+
+// How many points and lines a call drew into its lists.
+#[derive(Clone, Copy)]
+pub struct Counts {
+    pub points: usize,
+    pub lines: usize,
+}
 
 // Refusal 3 of two lists: either is shorter than what the call may write.
-pub fn check_room(need: usize, have: usize, need_too: usize, have_too: usize) -> Check
+pub fn check_room(need: usize, have: usize, need_too: usize, have_too: usize) -> Result<(), Refusal>
     ensures { result ≡ room_check need have need_too have_too }
 {
-    if !((need <= have) & (need_too <= have_too)) {
-        return Check::Failed(Refusal::Room);
-    }
-    Check::Passed
-}
-
-// Zero from place `from` on.
-pub fn zero_floats(list: &mut [f64], from: usize)
-    ensures { list.new ≡ zeroed_from zero64 from list.old }
-{
-    let mut i = from;
-    while i < list.len() {
-        list[i] = 0.0;
-        i += 1;
-    }
-}
-
-// Zero from place `from` on.
-pub fn zero_numbers(list: &mut [usize], from: usize)
-    ensures { list.new ≡ zeroed_from 0 from list.old }
-{
-    let mut i = from;
-    while i < list.len() {
-        list[i] = 0;
-        i += 1;
+    if need <= have && need_too <= have_too {
+        Ok(())
+    } else {
+        Err(Refusal::Room)
     }
 }

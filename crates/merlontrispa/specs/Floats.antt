@@ -1,7 +1,7 @@
 -- Rules 12.2 and 11.3, for C: the three answers of `total_cmp` as numbers.
 use Rattle.std.specs.Prelude.{ℤ, pos, negsuc}
-use Rattle.float.specs.declared.order.Ordering.{Ordering}
-use Rattle.float.specs.declared.order.Ordering.TheVariants.{Less, Equal, Greater}
+use Rattle.std.specs.declared.cmp.Ordering.{Ordering}
+use Rattle.std.specs.declared.cmp.Ordering.TheVariants.{Less, Equal, Greater}
 
 abbrev pub ordering_number : Ordering → ℤ
 ordering_number Less = negsuc 0

@@ -1,10 +1,11 @@
 -- Rules 4, for C: both seams and the counts of triangles and flipped pairs.
+use Rattle.std.specs.Prelude.{Some, None, Option, Ok, Err, Result}
+use Rattle.cyclic.specs.Mapping.{Seam}
 use Rattle.refusal.specs.Refusals.{Answer, ok, refused}
-use Rattle.cyclic.specs.declared.seam.Seam.TheVariants.{Unjoined}
 use Rattle.cyclic.specs.Search.{searched}
 use Rattle.grid_seams.specs.declared.Seams.{Seams}
 use Rattle.mesh.specs.declared.MeshCounts.{MeshCounts}
-use Rattle.mesh.specs.Mesh.{Meshed}
+use Rattle.mesh.specs.declared.Meshed.{Meshed}
 use Rattle.merlontrispa.specs.declared.found.SeamsAnswer.{SeamsAnswer}
 use Rattle.merlontrispa.specs.declared.given.CountsAnswer.{CountsAnswer}
 use Rattle.merlontrispa.specs.declared.meshes.MeshAnswer.{MeshAnswer}
@@ -17,8 +18,8 @@ mesh_answer (ok c) =
 mesh_answer (refused k) =
     record {
       refusal = k;
-      u = found_seam (searched Unjoined 0);
-      v = found_seam (searched Unjoined 0);
+      u = found_seam (searched None 0);
+      v = found_seam (searched None 0);
       triangles = 0;
       pairs = 0;
     }
@@ -27,7 +28,7 @@ mesh_answer (refused k) =
 abbrev pub seams_answer : Answer Seams → SeamsAnswer
 seams_answer (ok s) = record { refusal = 0; u = found_seam s.u; v = found_seam s.v }
 seams_answer (refused k) =
-    record { refusal = k; u = found_seam (searched Unjoined 0); v = found_seam (searched Unjoined 0) }
+    record { refusal = k; u = found_seam (searched None 0); v = found_seam (searched None 0) }
 
 -- and counts are 0
 abbrev pub counts_answer : Answer MeshCounts → CountsAnswer

@@ -5,7 +5,7 @@ use Rattle.refusal.specs.Refusals.{Answer, ok, refused}
 use Rattle.param.specs.declared.ParamPoint.{ParamPoint}
 use Rattle.texture.specs.declared.plan.ParametricSurfaceTexture.{ParametricSurfaceTexture}
 use Rattle.texture.specs.declared.plan.ParametricSurfaceTexture.TheVariants.{Grid, Swirl, Spiral}
-use Rattle.texture.specs.Plan.{Plan}
+use Rattle.texture.specs.declared.plan.PlanCounts.{PlanCounts}
 use Rattle.merlontrispa.specs.declared.textures.RayCounts.{RayCounts}
 use Rattle.merlontrispa.specs.declared.textures.RayAngle.{RayAngle}
 use Rattle.merlontrispa.specs.declared.textures.RayPoint.{RayPoint}
@@ -16,7 +16,7 @@ texture_of kind spacing twist arms =
     cond (eqb kind 0) Grid (cond (eqb kind 1) (Swirl spacing twist) (Spiral spacing arms))
 
 -- Rules 11.3: a refusal comes with its number alone, so counts, angle and point are 0
-abbrev pub ray_counts : Answer Plan → RayCounts
+abbrev pub ray_counts : Answer PlanCounts → RayCounts
 ray_counts (ok p) = record { refusal = 0; rays = p.rays; samples = p.samples }
 ray_counts (refused k) = record { refusal = k; rays = 0; samples = 0 }
 

@@ -1,4 +1,4 @@
-// The float helpers.
+// The float helpers, each a function of its own because C calls it by its name.
 ghost use Rattle.std.specs.Prelude.{◌≡◌};
 ghost use Rattle.std.specs.Float.Ieee.{to_unsigned};
 ghost use Rattle.float.specs.Cast.{nat_float};
@@ -6,8 +6,6 @@ ghost use Rattle.float.specs.Order.{clamped, larger, total_order};
 ghost use Rattle.float.specs.Sign.{absolute, at_most, is_finite};
 ghost use Rattle.float.specs.Whole.{ceil_z, ceiled, floor_z, rounded};
 ghost use Rattle.merlontrispa.specs.Floats.{ordering_number};
-
-use float::order::Ordering;
 
 #[unsafe(no_mangle)]
 pub extern "C" fn mt_abs(x: f64) -> f64
@@ -49,11 +47,7 @@ pub extern "C" fn mt_clamp(x: f64, lo: f64, hi: f64) -> f64
 pub extern "C" fn mt_total_cmp(x: f64, y: f64) -> i32
     ensures { result ≡ ordering_number (total_order x y) }
 {
-    match float::order::total_cmp(x, y) {
-        Ordering::Less => -1,
-        Ordering::Equal => 0,
-        Ordering::Greater => 1,
-    }
+    float::order::total_cmp(x, y) as i32
 }
 
 #[unsafe(no_mangle)]

@@ -1,13 +1,16 @@
 // The seams that are found in a grid.
+// C passes a grid as a list, M and N, and the tolerances as three numbers: they stay parameters side by side.
+// C has no enum with values: an answer is a struct with a refusal's number, and zeros beside one.
 ghost use Rattle.std.specs.Prelude.{◌≡◌};
 ghost use Rattle.tolerance.specs.Tolerance.{tolerances};
-ghost use Rattle.grid_seams.specs.Seams.{find_seams, stated_seams};
+ghost use Rattle.refusal.specs.Refusals.{stated};
+ghost use Rattle.grid_seams.specs.Seams.{find_seams};
 ghost use Rattle.merlontrispa.specs.Meshes.{seams_answer};
 
-use crate::meshes::seam_to_c;
-use crate::seams::{FoundSeam, unjoined};
+use crate::seams::{FoundSeam, no_seam};
 use crate::tolerances::tolerances_from_c;
-use grid_seams::GridSeams;
+use grid_seams::Seams;
+use refusal::Refusal;
 
 // Both seams, or the number of a refusal.
 #[repr(C)]
@@ -18,20 +21,22 @@ pub struct SeamsAnswer {
     pub v: FoundSeam,
 }
 
-fn seams_to_c(answer: GridSeams) -> SeamsAnswer
-    ensures { result ≡ seams_answer (stated_seams answer) }
-{
-    match answer {
-        GridSeams::Found(u, v) => SeamsAnswer {
-            refusal: 0,
-            u: seam_to_c(u),
-            v: seam_to_c(v),
-        },
-        GridSeams::Refused(refused) => SeamsAnswer {
-            refusal: refused.number(),
-            u: unjoined(0),
-            v: unjoined(0),
-        },
+impl From<Result<Seams, Refusal>> for SeamsAnswer {
+    fn from(answer: Result<Seams, Refusal>) -> SeamsAnswer
+        ensures { result ≡ seams_answer (stated answer) }
+    {
+        match answer {
+            Ok(seams) => SeamsAnswer {
+                refusal: 0,
+                u: FoundSeam::from(seams.u),
+                v: FoundSeam::from(seams.v),
+            },
+            Err(refusal) => SeamsAnswer {
+                refusal: u8::from(refusal),
+                u: no_seam(),
+                v: no_seam(),
+            },
+        }
     }
 }
 
@@ -48,5 +53,5 @@ pub extern "C" fn mt_find_seams(
         (tolerances u_tolerance v_tolerance line_tolerance)) }
 {
     let tolerances = tolerances_from_c(u_tolerance, v_tolerance, line_tolerance);
-    seams_to_c(grid_seams::find_seams(grid, m, n, tolerances))
+    SeamsAnswer::from(grid_seams::find_seams(grid, m, n, tolerances))
 }

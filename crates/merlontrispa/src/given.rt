@@ -1,17 +1,21 @@
 // Triangles and flipped pairs over seams that are given. A seam goes in as whether it was found, and its mapping.
+// C has no Option, and passes a grid, the tolerances and a mapping as numbers: all stay parameters side by side.
+// C has no enum with values: an answer is a struct with a refusal's number, and zeros beside one.
 ghost use Rattle.std.specs.Prelude.{◌≡◌};
 ghost use Rattle.lent.specs.Lent.{afterwards, answering};
 ghost use Rattle.tolerance.specs.Tolerance.{tolerances};
 ghost use Rattle.surface.specs.Given.{GivenMeets};
 ghost use Rattle.mesh.specs.Mesh.{mesh_lists};
-ghost use Rattle.triangulation.specs.Triangulation.{stated_counts, triangulate_seams};
+ghost use Rattle.refusal.specs.Refusals.{stated};
+ghost use Rattle.triangulation.specs.Triangulation.{triangulate_seams};
 ghost use Rattle.merlontrispa.specs.Seams.{seam_in};
 ghost use Rattle.merlontrispa.specs.Meshes.{counts_answer};
 
 use crate::seams::mapping;
 use crate::tolerances::tolerances_from_c;
-use cyclic::seam::Seam;
-use triangulation::GivenTriangulation;
+use cyclic::mapping::CyclicMapping;
+use mesh::MeshCounts;
+use refusal::Refusal;
 
 // The counts of triangles and flipped pairs, or the number of a refusal.
 #[repr(C)]
@@ -23,29 +27,28 @@ pub struct CountsAnswer {
 }
 
 // The mapping that goes in, or None.
-fn seam_from_c(found: bool, reverse: bool, offset: usize, steps: usize) -> Seam
+fn seam_from_c(found: bool, reverse: bool, offset: usize, steps: usize) -> Option<CyclicMapping>
     ensures { result ≡ seam_in found reverse offset steps }
 {
-    if found {
-        return Seam::Joined(mapping(reverse, offset, steps));
-    }
-    Seam::Unjoined
+    found.then_some(mapping(reverse, offset, steps))
 }
 
-fn counts_to_c(answer: GivenTriangulation) -> CountsAnswer
-    ensures { result ≡ counts_answer (stated_counts answer) }
-{
-    match answer {
-        GivenTriangulation::Triangulated(triangles, pairs) => CountsAnswer {
-            refusal: 0,
-            triangles,
-            pairs,
-        },
-        GivenTriangulation::Refused(refused) => CountsAnswer {
-            refusal: refused.number(),
-            triangles: 0,
-            pairs: 0,
-        },
+impl From<Result<MeshCounts, Refusal>> for CountsAnswer {
+    fn from(answer: Result<MeshCounts, Refusal>) -> CountsAnswer
+        ensures { result ≡ counts_answer (stated answer) }
+    {
+        match answer {
+            Ok(counts) => CountsAnswer {
+                refusal: 0,
+                triangles: counts.triangles,
+                pairs: counts.pairs,
+            },
+            Err(refusal) => CountsAnswer {
+                refusal: u8::from(refusal),
+                triangles: 0,
+                pairs: 0,
+            },
+        }
     }
 }
 
@@ -78,5 +81,7 @@ pub extern "C" fn mt_triangulate_seams(
     let tolerances = tolerances_from_c(u_tolerance, v_tolerance, line_tolerance);
     let u = seam_from_c(u_found, u_reverse, u_offset, u_steps);
     let v = seam_from_c(v_found, v_reverse, v_offset, v_steps);
-    counts_to_c(triangulation::triangulate_seams(grid, m, n, tolerances, u, v, triangles, flipped))
+    CountsAnswer::from(triangulation::triangulate_seams(
+        grid, m, n, tolerances, u, v, triangles, flipped,
+    ))
 }

@@ -1,11 +1,16 @@
 // Grid lines, and a line as a part of the points.
+// C passes a grid, and lines with their counts, one by one: they stay parameters side by side.
+// C has no enum with values: an answer is a struct with a refusal's number, and zeros beside one.
 ghost use Rattle.std.specs.Prelude.{◌≡◌};
 ghost use Rattle.lent.specs.Lent.{afterwards, answering};
-ghost use Rattle.path.specs.GridPaths.{grid_paths, path_lists, stated_paths};
-ghost use Rattle.path.specs.Line.{line_span, stated_line};
+ghost use Rattle.refusal.specs.Refusals.{stated};
+ghost use Rattle.path.specs.GridPaths.{grid_paths, path_lists};
+ghost use Rattle.path.specs.Line.{line_span};
 ghost use Rattle.merlontrispa.specs.Lines.{paths_answer, span_answer, Gets};
 
-use path::{GridPathsAnswer, LineAnswer};
+use lent::Counts;
+use path::Span;
+use refusal::Refusal;
 
 // The counts of points and lines, or the number of a refusal.
 #[repr(C)]
@@ -33,37 +38,41 @@ pub struct Part {
     pub length: usize,
 }
 
-fn paths_to_c(answer: GridPathsAnswer) -> PathsAnswer
-    ensures { result ≡ paths_answer (stated_paths answer) }
-{
-    match answer {
-        GridPathsAnswer::Drawn(points, lines) => PathsAnswer {
-            refusal: 0,
-            points,
-            lines,
-        },
-        GridPathsAnswer::Refused(refused) => PathsAnswer {
-            refusal: refused.number(),
-            points: 0,
-            lines: 0,
-        },
+impl From<Result<Counts, Refusal>> for PathsAnswer {
+    fn from(answer: Result<Counts, Refusal>) -> PathsAnswer
+        ensures { result ≡ paths_answer (stated answer) }
+    {
+        match answer {
+            Ok(counts) => PathsAnswer {
+                refusal: 0,
+                points: counts.points,
+                lines: counts.lines,
+            },
+            Err(refusal) => PathsAnswer {
+                refusal: u8::from(refusal),
+                points: 0,
+                lines: 0,
+            },
+        }
     }
 }
 
-fn span_to_c(answer: LineAnswer) -> SpanAnswer
-    ensures { result ≡ span_answer (stated_line answer) }
-{
-    match answer {
-        LineAnswer::Span(start, end) => SpanAnswer {
-            refusal: 0,
-            start,
-            end,
-        },
-        LineAnswer::Refused(refused) => SpanAnswer {
-            refusal: refused.number(),
-            start: 0,
-            end: 0,
-        },
+impl From<Result<Span, Refusal>> for SpanAnswer {
+    fn from(answer: Result<Span, Refusal>) -> SpanAnswer
+        ensures { result ≡ span_answer (stated answer) }
+    {
+        match answer {
+            Ok(span) => SpanAnswer {
+                refusal: 0,
+                start: span.start,
+                end: span.end,
+            },
+            Err(refusal) => SpanAnswer {
+                refusal: u8::from(refusal),
+                start: 0,
+                end: 0,
+            },
+        }
     }
 }
 
@@ -79,7 +88,7 @@ pub extern "C" fn mt_grid_paths(
         ≡ answering paths_answer (grid_paths grid.now m n
         (path_lists points.old starts.old)) }
 {
-    paths_to_c(path::grid_paths(grid, m, n, points, starts))
+    PathsAnswer::from(path::grid_paths(grid, m, n, points, starts))
 }
 
 #[unsafe(no_mangle)]
@@ -93,7 +102,7 @@ pub extern "C" fn mt_line_span(
     ensures { result
         ≡ span_answer (line_span points.now starts.now point_count line_count index) }
 {
-    span_to_c(path::line_span(points, starts, point_count, line_count, index))
+    SpanAnswer::from(path::line_span(points, starts, point_count, line_count, index))
 }
 
 // What `get` hands back, as a part of the points: a reference cannot be handed to C.
@@ -109,10 +118,10 @@ pub extern "C" fn mt_get(
 {
     let length = path::get(points, starts, point_count, line_count, index).len();
     match path::line_span(points, starts, point_count, line_count, index) {
-        LineAnswer::Span(start, _) => Part {
-            offset: 3 * start,
+        Ok(span) => Part {
+            offset: 3 * span.start,
             length,
         },
-        LineAnswer::Refused(_) => Part { offset: 0, length },
+        Err(_) => Part { offset: 0, length },
     }
 }

@@ -1,16 +1,18 @@
 // Triangles and flipped pairs.
+// C passes a grid as a list, M and N, and the tolerances as three numbers: they stay parameters side by side.
+// C has no enum with values: an answer is a struct with a refusal's number, and zeros beside one.
 ghost use Rattle.std.specs.Prelude.{◌≡◌};
 ghost use Rattle.lent.specs.Lent.{afterwards, answering};
 ghost use Rattle.tolerance.specs.Tolerance.{tolerances};
 ghost use Rattle.surface.specs.Found.{SurfaceMeets};
-ghost use Rattle.mesh.specs.Mesh.{mesh_lists, stated_triangulation, triangulate_grid};
-ghost use Rattle.merlontrispa.specs.Seams.{found_seam};
+ghost use Rattle.refusal.specs.Refusals.{stated};
+ghost use Rattle.mesh.specs.Mesh.{mesh_lists, triangulate_grid};
 ghost use Rattle.merlontrispa.specs.Meshes.{mesh_answer};
 
-use crate::seams::{FoundSeam, joined, unjoined};
+use crate::seams::{FoundSeam, no_seam};
 use crate::tolerances::tolerances_from_c;
-use cyclic::seam::{Seam, SeamSearch};
-use mesh::Triangulation;
+use mesh::Meshed;
+use refusal::Refusal;
 
 // Both seams and the counts of triangles and flipped pairs, or the number of a refusal.
 #[repr(C)]
@@ -23,34 +25,26 @@ pub struct MeshAnswer {
     pub pairs: usize,
 }
 
-pub fn seam_to_c(search: SeamSearch) -> FoundSeam
-    ensures { result ≡ found_seam search }
-{
-    let seam = search.seam;
-    match seam {
-        Seam::Joined(mapping) => joined(mapping, search.comparisons),
-        Seam::Unjoined => unjoined(search.comparisons),
-    }
-}
-
-fn mesh_to_c(answer: Triangulation) -> MeshAnswer
-    ensures { result ≡ mesh_answer (stated_triangulation answer) }
-{
-    match answer {
-        Triangulation::Triangulated(u, v, triangles, pairs) => MeshAnswer {
-            refusal: 0,
-            u: seam_to_c(u),
-            v: seam_to_c(v),
-            triangles,
-            pairs,
-        },
-        Triangulation::Refused(refused) => MeshAnswer {
-            refusal: refused.number(),
-            u: unjoined(0),
-            v: unjoined(0),
-            triangles: 0,
-            pairs: 0,
-        },
+impl From<Result<Meshed, Refusal>> for MeshAnswer {
+    fn from(answer: Result<Meshed, Refusal>) -> MeshAnswer
+        ensures { result ≡ mesh_answer (stated answer) }
+    {
+        match answer {
+            Ok(meshed) => MeshAnswer {
+                refusal: 0,
+                u: FoundSeam::from(meshed.u),
+                v: FoundSeam::from(meshed.v),
+                triangles: meshed.triangles,
+                pairs: meshed.pairs,
+            },
+            Err(refusal) => MeshAnswer {
+                refusal: u8::from(refusal),
+                u: no_seam(),
+                v: no_seam(),
+                triangles: 0,
+                pairs: 0,
+            },
+        }
     }
 }
 
@@ -72,5 +66,5 @@ pub extern "C" fn mt_triangulate_grid(
     ensures surface { SurfaceMeets grid.now m n }
 {
     let tolerances = tolerances_from_c(u_tolerance, v_tolerance, line_tolerance);
-    mesh_to_c(mesh::triangulate_grid(grid, m, n, tolerances, triangles, flipped))
+    MeshAnswer::from(mesh::triangulate_grid(grid, m, n, tolerances, triangles, flipped))
 }

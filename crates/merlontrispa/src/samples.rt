@@ -1,4 +1,5 @@
 // The trace of samples that are a list of records.
+// C passes a grid, the tolerances and the lent lists one by one: they stay parameters side by side.
 ghost use Rattle.trace.specs.Demand.{Demand3};
 ghost use Rattle.trace.specs.Numbers.{NumbersMet};
 ghost use Rattle.std.specs.Prelude.{◌≡◌};
@@ -11,9 +12,10 @@ ghost use Rattle.merlontrispa.specs.Lines.{paths_answer};
 
 use crate::lines::PathsAnswer;
 use crate::tolerances::tolerances_from_c;
-use crate::traces::trace_to_c;
+use page::{Pen, Sheet};
 use records::{Sample, trace_samples};
 
+// The clauses demand and numbers stand on each open call, as a project rule has it.
 #[unsafe(no_mangle)]
 pub extern "C" fn mt_trace_samples(
     grid: &[f64],
@@ -41,7 +43,14 @@ pub extern "C" fn mt_trace_samples(
     ensures numbers { NumbersMet grid.now m n }
 {
     let tolerances = tolerances_from_c(u_tolerance, v_tolerance, line_tolerance);
-    trace_to_c(trace_samples(
-        grid, m, n, tolerances, records, points, starts, sides, fractions, samples,
-    ))
+    // Written out, and not by `Sheet::new`: so the check sees that it is of the lists that are lent.
+    let mut sheet = Sheet {
+        points,
+        starts,
+        sides,
+        fractions,
+        samples,
+        pen: Pen::default(),
+    };
+    PathsAnswer::from(trace_samples(grid, m, n, tolerances, records, &mut sheet))
 }

@@ -1,11 +1,14 @@
 // CyclicMapping and the seam search. A mapping goes in as its direction, its offset and its steps.
-ghost use Rattle.std.specs.Prelude.{◌≡◌};
-ghost use Rattle.cyclic.specs.Mapping.{is_reverse, map_index, map_index_inv, stated_index};
-ghost use Rattle.cyclic.specs.Search.{new_vector, searched, stated_seam};
+// C has neither Option nor an enum with values: flags and the numbers of refusals stand beside the values.
+ghost use Rattle.std.specs.Prelude.{◌≡◌, None};
+ghost use Rattle.refusal.specs.Refusals.{stated};
+ghost use Rattle.cyclic.specs.Mapping.{is_reverse, map_index, map_index_inv};
+ghost use Rattle.cyclic.specs.Search.{new_vector, searched};
 ghost use Rattle.merlontrispa.specs.Seams.{mapping_of, index_answer, found_seam, rows_answer};
 
-use cyclic::mapping::{CyclicMapping, MappedIndex};
-use cyclic::seam::{Seam, SeamAnswer};
+use cyclic::mapping::CyclicMapping;
+use cyclic::seam::SeamSearch;
+use refusal::Refusal;
 
 // An index, or the number of a refusal.
 #[repr(C)]
@@ -38,73 +41,73 @@ pub fn mapping(reverse: bool, offset: usize, steps: usize) -> CyclicMapping
     ensures { result ≡ mapping_of reverse offset steps }
 {
     if reverse {
-        return CyclicMapping::Reverse(offset, steps);
-    }
-    CyclicMapping::Forward(offset, steps)
-}
-
-fn index_to_c(answer: MappedIndex) -> IndexAnswer
-    ensures { result ≡ index_answer (stated_index answer) }
-{
-    match answer {
-        MappedIndex::Index(index) => IndexAnswer { refusal: 0, index },
-        MappedIndex::Refused(refused) => IndexAnswer {
-            refusal: refused.number(),
-            index: 0,
-        },
+        CyclicMapping::Reverse(offset, steps)
+    } else {
+        CyclicMapping::Forward(offset, steps)
     }
 }
 
-pub fn joined(mapping: CyclicMapping, comparisons: u64) -> FoundSeam
-    ensures { result ≡ found_seam (searched (Seam.Joined mapping) comparisons) }
-{
-    match mapping {
-        CyclicMapping::Forward(offset, steps) => FoundSeam {
-            found: true,
-            reverse: false,
-            offset,
-            steps,
-            comparisons,
-        },
-        CyclicMapping::Reverse(offset, steps) => FoundSeam {
-            found: true,
-            reverse: true,
-            offset,
-            steps,
-            comparisons,
-        },
+impl From<Result<usize, Refusal>> for IndexAnswer {
+    fn from(answer: Result<usize, Refusal>) -> IndexAnswer
+        ensures { result ≡ index_answer (stated answer) }
+    {
+        match answer {
+            Ok(index) => IndexAnswer { refusal: 0, index },
+            Err(refusal) => IndexAnswer {
+                refusal: u8::from(refusal),
+                index: 0,
+            },
+        }
     }
 }
 
-// A seam that was not found, after so many comparisons.
-pub fn unjoined(comparisons: u64) -> FoundSeam
-    ensures { result ≡ found_seam (searched Seam.Unjoined comparisons) }
-{
-    FoundSeam {
-        found: false,
-        reverse: false,
-        offset: 0,
-        steps: 0,
-        comparisons,
+impl From<SeamSearch> for FoundSeam {
+    fn from(search: SeamSearch) -> FoundSeam
+        ensures { result ≡ found_seam search }
+    {
+        match search.seam {
+            Some(mapping) => FoundSeam {
+                found: true,
+                reverse: mapping.is_reverse(),
+                offset: mapping.offset(),
+                steps: mapping.steps(),
+                comparisons: search.comparisons,
+            },
+            None => FoundSeam {
+                found: false,
+                reverse: false,
+                offset: 0,
+                steps: 0,
+                comparisons: search.comparisons,
+            },
+        }
     }
 }
 
-fn rows_to_c(answer: SeamAnswer) -> RowsAnswer
-    ensures { result ≡ rows_answer (stated_seam answer) }
+// What stands beside a refusal: no seam, after no comparison.
+pub fn no_seam() -> FoundSeam
+    ensures { result ≡ found_seam (searched None 0) }
 {
-    match answer {
-        SeamAnswer::Found(mapping, comparisons) => RowsAnswer {
-            refusal: 0,
-            seam: joined(mapping, comparisons),
-        },
-        SeamAnswer::NotFound(comparisons) => RowsAnswer {
-            refusal: 0,
-            seam: unjoined(comparisons),
-        },
-        SeamAnswer::Refused(refused) => RowsAnswer {
-            refusal: refused.number(),
-            seam: unjoined(0),
-        },
+    FoundSeam::from(SeamSearch {
+        seam: None,
+        comparisons: 0,
+    })
+}
+
+impl From<Result<SeamSearch, Refusal>> for RowsAnswer {
+    fn from(answer: Result<SeamSearch, Refusal>) -> RowsAnswer
+        ensures { result ≡ rows_answer (stated answer) }
+    {
+        match answer {
+            Ok(search) => RowsAnswer {
+                refusal: 0,
+                seam: FoundSeam::from(search),
+            },
+            Err(refusal) => RowsAnswer {
+                refusal: u8::from(refusal),
+                seam: no_seam(),
+            },
+        }
     }
 }
 
@@ -124,7 +127,7 @@ pub extern "C" fn mt_map_index(
 ) -> IndexAnswer
     ensures { result ≡ index_answer (map_index (mapping_of reverse offset steps) a_idx) }
 {
-    index_to_c(mapping(reverse, offset, steps).map_index(a_idx))
+    IndexAnswer::from(mapping(reverse, offset, steps).map_index(a_idx))
 }
 
 #[unsafe(no_mangle)]
@@ -136,12 +139,12 @@ pub extern "C" fn mt_map_index_inv(
 ) -> IndexAnswer
     ensures { result ≡ index_answer (map_index_inv (mapping_of reverse offset steps) b_idx) }
 {
-    index_to_c(mapping(reverse, offset, steps).map_index_inv(b_idx))
+    IndexAnswer::from(mapping(reverse, offset, steps).map_index_inv(b_idx))
 }
 
 #[unsafe(no_mangle)]
 pub extern "C" fn mt_new_vector(a: &[f64], b: &[f64], tolerance: f64) -> RowsAnswer
     ensures { result ≡ rows_answer (new_vector a.now b.now tolerance) }
 {
-    rows_to_c(CyclicMapping::new_vector(a, b, tolerance))
+    RowsAnswer::from(CyclicMapping::new_vector(a, b, tolerance))
 }

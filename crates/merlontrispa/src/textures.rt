@@ -1,12 +1,17 @@
 // Plans, angles and sample points of textures. A texture goes in as its kind and its numbers: 0 Grid,
 // 1 Swirl with spacing and twist, any other Spiral with spacing and arms.
+// C has no enum with values: a number for the kind, and all that some kind takes, stay parameters side by side.
+// C has no enum with values: an answer is a struct with a refusal's number, and zeros beside one.
 ghost use Rattle.std.specs.Prelude.{◌≡◌};
-ghost use Rattle.texture.specs.Plan.{plan, stated_plan};
-ghost use Rattle.texture.specs.Sample.{angle, sample_point, stated_angle, stated_point};
+ghost use Rattle.refusal.specs.Refusals.{stated};
+ghost use Rattle.texture.specs.Plan.{plan};
+ghost use Rattle.texture.specs.Sample.{angle, sample_point};
 ghost use Rattle.merlontrispa.specs.Textures.{texture_of, ray_counts, ray_angle, ray_point};
 
-use texture::plan::{ParametricSurfaceTexture, PlanAnswer, plan};
-use texture::sample::{AngleAnswer, SampleAnswer, angle, sample_point};
+use param::ParamPoint;
+use refusal::Refusal;
+use texture::plan::{ParametricSurfaceTexture, PlanCounts, plan};
+use texture::sample::{angle, sample_point};
 
 // Rays and samples per ray, or the number of a refusal.
 #[repr(C)]
@@ -37,58 +42,62 @@ pub struct RayPoint {
 fn texture_of(kind: u8, spacing: f64, twist: f64, arms: usize) -> ParametricSurfaceTexture
     ensures { result ≡ texture_of kind spacing twist arms }
 {
-    if kind == 0 {
-        return ParametricSurfaceTexture::Grid;
-    }
-    if kind == 1 {
-        return ParametricSurfaceTexture::Swirl { spacing, twist };
-    }
-    ParametricSurfaceTexture::Spiral { spacing, arms }
-}
-
-fn plan_to_c(answer: PlanAnswer) -> RayCounts
-    ensures { result ≡ ray_counts (stated_plan answer) }
-{
-    match answer {
-        PlanAnswer::Plan(rays, samples) => RayCounts {
-            refusal: 0,
-            rays,
-            samples,
-        },
-        PlanAnswer::Refused(refused) => RayCounts {
-            refusal: refused.number(),
-            rays: 0,
-            samples: 0,
-        },
+    match kind {
+        0 => ParametricSurfaceTexture::Grid,
+        1 => ParametricSurfaceTexture::Swirl { spacing, twist },
+        _ => ParametricSurfaceTexture::Spiral { spacing, arms },
     }
 }
 
-fn angle_to_c(answer: AngleAnswer) -> RayAngle
-    ensures { result ≡ ray_angle (stated_angle answer) }
-{
-    match answer {
-        AngleAnswer::Angle(angle) => RayAngle { refusal: 0, angle },
-        AngleAnswer::Refused(refused) => RayAngle {
-            refusal: refused.number(),
-            angle: 0.0,
-        },
+impl From<Result<PlanCounts, Refusal>> for RayCounts {
+    fn from(answer: Result<PlanCounts, Refusal>) -> RayCounts
+        ensures { result ≡ ray_counts (stated answer) }
+    {
+        match answer {
+            Ok(counts) => RayCounts {
+                refusal: 0,
+                rays: counts.rays,
+                samples: counts.samples,
+            },
+            Err(refusal) => RayCounts {
+                refusal: u8::from(refusal),
+                rays: 0,
+                samples: 0,
+            },
+        }
     }
 }
 
-fn point_to_c(answer: SampleAnswer) -> RayPoint
-    ensures { result ≡ ray_point (stated_point answer) }
-{
-    match answer {
-        SampleAnswer::Point(point) => RayPoint {
-            refusal: 0,
-            u: point.u,
-            v: point.v,
-        },
-        SampleAnswer::Refused(refused) => RayPoint {
-            refusal: refused.number(),
-            u: 0.0,
-            v: 0.0,
-        },
+impl From<Result<f64, Refusal>> for RayAngle {
+    fn from(answer: Result<f64, Refusal>) -> RayAngle
+        ensures { result ≡ ray_angle (stated answer) }
+    {
+        match answer {
+            Ok(angle) => RayAngle { refusal: 0, angle },
+            Err(refusal) => RayAngle {
+                refusal: u8::from(refusal),
+                angle: 0.0,
+            },
+        }
+    }
+}
+
+impl From<Result<ParamPoint, Refusal>> for RayPoint {
+    fn from(answer: Result<ParamPoint, Refusal>) -> RayPoint
+        ensures { result ≡ ray_point (stated answer) }
+    {
+        match answer {
+            Ok(point) => RayPoint {
+                refusal: 0,
+                u: point.u,
+                v: point.v,
+            },
+            Err(refusal) => RayPoint {
+                refusal: u8::from(refusal),
+                u: 0.0,
+                v: 0.0,
+            },
+        }
     }
 }
 
@@ -103,7 +112,7 @@ pub extern "C" fn mt_plan(
 ) -> RayCounts
     ensures { result ≡ ray_counts (plan (texture_of kind spacing twist arms) m n) }
 {
-    plan_to_c(plan(texture_of(kind, spacing, twist, arms), m, n))
+    RayCounts::from(plan(texture_of(kind, spacing, twist, arms), m, n))
 }
 
 #[unsafe(no_mangle)]
@@ -119,7 +128,7 @@ pub extern "C" fn mt_angle(
 ) -> RayAngle
     ensures { result ≡ ray_angle (angle (texture_of kind spacing twist arms) m n ray sample) }
 {
-    angle_to_c(angle(texture_of(kind, spacing, twist, arms), m, n, ray, sample))
+    RayAngle::from(angle(texture_of(kind, spacing, twist, arms), m, n, ray, sample))
 }
 
 #[unsafe(no_mangle)]
@@ -138,5 +147,5 @@ pub extern "C" fn mt_sample_point(
     ensures { result ≡ ray_point (sample_point (texture_of kind spacing twist arms) m n ray sample cosine sine) }
 {
     let texture = texture_of(kind, spacing, twist, arms);
-    point_to_c(sample_point(texture, m, n, ray, sample, cosine, sine))
+    RayPoint::from(sample_point(texture, m, n, ray, sample, cosine, sine))
 }

@@ -1,4 +1,5 @@
 // The three tolerances, each of which C passes as a number.
+// No `From`: a trait of the library cannot be implemented here for a tuple and another crate's type.
 ghost use Rattle.std.specs.Prelude.{◌≡◌};
 ghost use Rattle.tolerance.specs.Tolerance.{tolerances};
 

@@ -1,34 +1,19 @@
 // The trace of flat samples.
+// C passes a grid, the tolerances and the lent lists one by one: they stay parameters side by side.
 ghost use Rattle.std.specs.Prelude.{◌≡◌};
 ghost use Rattle.trace.specs.Demand.{Demand3};
 ghost use Rattle.trace.specs.Numbers.{NumbersMet};
 ghost use Rattle.lent.specs.Lent.{afterwards, answering};
 ghost use Rattle.tolerance.specs.Tolerance.{tolerances};
 ghost use Rattle.page.specs.Page.{lists};
-ghost use Rattle.trace.specs.Trace.{stated_trace, trace_flat};
+ghost use Rattle.trace.specs.Trace.{trace_flat};
 ghost use Rattle.merlontrispa.specs.Lines.{paths_answer};
 
 use crate::lines::PathsAnswer;
 use crate::tolerances::tolerances_from_c;
-use trace::flat::Trace;
+use page::{Pen, Sheet};
 
-pub fn trace_to_c(answer: Trace) -> PathsAnswer
-    ensures { result ≡ paths_answer (stated_trace answer) }
-{
-    match answer {
-        Trace::Drawn(points, lines) => PathsAnswer {
-            refusal: 0,
-            points,
-            lines,
-        },
-        Trace::Refused(refused) => PathsAnswer {
-            refusal: refused.number(),
-            points: 0,
-            lines: 0,
-        },
-    }
-}
-
+// The clauses demand and numbers stand on each open call, as a project rule has it.
 #[unsafe(no_mangle)]
 pub extern "C" fn mt_trace_flat(
     grid: &[f64],
@@ -56,7 +41,14 @@ pub extern "C" fn mt_trace_flat(
     ensures numbers { NumbersMet grid.now m n }
 {
     let tolerances = tolerances_from_c(u_tolerance, v_tolerance, line_tolerance);
-    trace_to_c(trace::flat::trace_flat(
-        grid, m, n, tolerances, pairs, marks, points, starts, sides, fractions, samples,
-    ))
+    // Written out, and not by `Sheet::new`: so the check sees that it is of the lists that are lent.
+    let mut sheet = Sheet {
+        points,
+        starts,
+        sides,
+        fractions,
+        samples,
+        pen: Pen::default(),
+    };
+    PathsAnswer::from(trace::flat::trace_flat(grid, m, n, tolerances, pairs, marks, &mut sheet))
 }

@@ -1,14 +1,16 @@
 -- The open call's answer and lists: its refusals in order, what is known where none applies, and the lists that are
 -- handed over.
-use Prim.Native.Nat.{ℕ, ◌+◌, ◌*◌, ◌≤◌}
+use Rattle.std.specs.Prelude.{Ok, Err, Result}
+use Rattle.refusal.specs.Refusals.{passed, stated}
+use Prim.Native.Nat.{ℕ, ◌+◌, ◌-◌, ◌*◌, ◌≤◌}
 use mathlib.Core.Path.{◌≡◌, sym, ap, ◌∙◌}
 use mathlib.Core.List.{List}
-use native.Mathlib.Omega.{arith}
 use lib.Ieee.{Float}
-use lib.ListN.{length, take}
+use lib.ListN.{length, take, replicate}
 use lib.Seq.{length-take-le}
-use Rattle.refusal.specs.declared.Check.{Check}
-use Rattle.refusal.specs.declared.Check.TheVariants.{Passed, Failed}
+use native.Mathlib.Omega.{arith}
+use borrow.Rule.Slice.PartMut.{mid_of, put_mid}
+use Rattle.std.proofs.lemmas.Grind.{common_steps}
 use Rattle.refusal.specs.declared.Refusal.{Refusal}
 use Rattle.refusal.proofs.Laws.{then_passed}
 use Rattle.tolerance.specs.declared.Tolerances.{Tolerances}
@@ -17,53 +19,57 @@ use Rattle.lent.specs.Lent.{room_check, filled, zeroed_from, afterwards}
 use Rattle.lent.proofs.Laws.{zeroed_filled, answered_in, room_passed}
 use Rattle.grid.specs.Grid.{Accepted}
 use Rattle.grid.proofs.Laws.{grid_passed, grid_accepted, accepted_known}
-use Rattle.cyclic.specs.declared.seam.SeamSearch.{SeamSearch}
 use Rattle.surface.specs.Surface.{Shape, Triangle, kept, slots, triangles, flipped}
 use Rattle.surface.specs.Found.{u_search, v_search, surface_with}
-use Rattle.surface.proofs.Pairs.{flipped_at_most}
 use Rattle.surface.proofs.Joinings.{u_of_row, v_of_row}
+use Rattle.grid_seams.specs.declared.Seams.{Seams}
+use Rattle.grid_seams.specs.Seams.{seams_of}
 use Rattle.mesh.specs.declared.MeshCounts.{MeshCounts}
-use Rattle.mesh.specs.declared.Triangulation.{Triangulation}
-use Rattle.mesh.specs.declared.Triangulation.TheVariants.{Triangulated, Refused}
+use Rattle.mesh.specs.declared.Meshed.{Meshed}
 use Rattle.mesh.specs.Mesh.{triangle_numbers, pair_numbers, mesh_check, mesh_lists, meshed, written}
-use Rattle.mesh.specs.Mesh.{triangulate_grid, stated_triangulation}
-use Rattle.mesh.specs.Corners.{Bounded}
+use Rattle.mesh.specs.Mesh.{triangulate_grid}
+use Rattle.mesh.specs.Bounded.{Bounded}
 use Rattle.mesh.specs.Held.{triangles_in, pairs_in}
 use Rattle.mesh.proofs.Holding.{triangles_held, pairs_held}
-use Rattle.mesh.proofs.Cells.{held_most}
+use Rattle.mesh.proofs.Cells.{held_triangles}
 use Rattle.mesh.proofs.Flips.{held_pairs}
 
 -- Refusals
 
 -- what is known where no refusal applies
-pub record Admitted (g : List Float) (m n : ℕ) (t f : List ℕ) : Type 0 where
+pub record Admitted (g : List Float) (m n : ℕ) (tolerances : Tolerances) (t f : List ℕ) : Type 0 where
   pub accepted : Accepted g m n
+  pub tolerable : tolerances_check tolerances ≡ passed
   pub triangle_room : 6 * (m * n) ≤ length t
   pub pair_room : 2 * (m + n) ≤ length f
 
 pub admitted : (g : List Float) (m n : ℕ) (tolerances : Tolerances) (t f : List ℕ) →
-    mesh_check g m n tolerances t f ≡ Passed → Admitted g m n t f
+    mesh_check g m n tolerances t f ≡ passed → Admitted g m n tolerances t f
 unfolding mesh_check
 admitted g m n tolerances t f h =
     let own = then_passed (tolerances_check tolerances) (room_check (6 * (m * n)) (length t) (2 * (m + n)) (length f))
     (grid_passed g m n _ h).own in
     let room = room_passed (6 * (m * n)) (length t) (2 * (m + n)) (length f) own.1 in
-    record { accepted = grid_accepted g m n _ h; triangle_room = room.0; pair_room = room.1 }
+    record {
+      accepted = grid_accepted g m n _ h;
+      tolerable = own.0;
+      triangle_room = room.0;
+      pair_room = room.1;
+    }
 
 -- The seams that are found fit the grid
 
-pub found_bounded : (g : List Float) (m n : ℕ) (tolerances : Tolerances) {u v : SeamSearch} →
-    Accepted g m n → u ≡ u_search g m n tolerances.u → v ≡ v_search g m n tolerances.v →
-    Bounded (record { m = m; n = n; u = u.seam; v = v.seam })
-found_bounded g m n tolerances {u} {v} h p q =
-    let s = (accepted_known g m n h).steps in
+pub found_bounded : (g : List Float) (m n : ℕ) (tolerances : Tolerances) {s : Seams} →
+    Accepted g m n → s ≡ seams_of g m n tolerances → Bounded m n s.u.seam s.v.seam
+found_bounded g m n tolerances {s} h e =
+    let k = (accepted_known g m n h).steps in
     record {
-      m_least = s.m_least;
-      m_most = s.m_most;
-      n_least = s.n_least;
-      n_most = s.n_most;
-      u_maps = rw p (u_of_row g m n tolerances.u s.n_least);
-      v_maps = rw q (v_of_row g m n tolerances.v s.m_least);
+      m_least = k.m_least;
+      m_most = k.m_most;
+      n_least = k.n_least;
+      n_most = k.n_most;
+      u_maps = rw e (u_of_row g m n tolerances.u k.n_least);
+      v_maps = rw e (v_of_row g m n tolerances.v k.m_least);
     }
 
 -- Filled lists
@@ -75,24 +81,12 @@ list_filled k contents l lent h e q =
     let n : length contents ≡ k = ap length e ∙ length-take-le k l h in
     rw (← n) (zeroed_filled 0 contents l lent q (rw n (sym e)))
 
--- what all slots emit are the surface's triangles
-pub all_kept : (s : Shape) {ts : List Triangle} → ts ≡ kept s (2 * (s.M * s.N)) → ts ≡ triangles s
-unfolding triangles slots
-all_kept s e = e
-
-pub triangles_most : (s : Shape) (count : ℕ) (l : List ℕ) → triangles_in count l ≡ kept s (2 * (s.M * s.N)) →
-    3 * count ≤ 6 * (s.M * s.N)
-triangles_most s count l e = omega (arith, held_most s (2 * (s.M * s.N)) count l e)
-
 pub triangles_filled : (s : Shape) (count : ℕ) (l lent : List ℕ) →
     triangles_in count l ≡ triangles s → 3 * count ≤ length l → length l ≡ length lent →
     zeroed_from 0 (3 * count) l ≡ filled 0 (triangle_numbers (triangles s)) lent
 triangles_filled s count l lent e h q =
     list_filled (3 * count) (triangle_numbers (triangles s)) l lent h
     (ap triangle_numbers (sym e) ∙ triangles_held count l h) q
-
-pub pairs_most : (s : Shape) (count : ℕ) (l : List ℕ) → pairs_in count l ≡ flipped s → 2 * count ≤ 2 * (s.M + s.N)
-pairs_most s count l e = omega (arith, held_pairs count l e, flipped_at_most s)
 
 pub pairs_filled : (s : Shape) (count : ℕ) (l lent : List ℕ) →
     pairs_in count l ≡ flipped s → 2 * count ≤ length l → length l ≡ length lent →
@@ -103,30 +97,51 @@ pairs_filled s count l lent e h q =
 
 -- What is handed over
 
-pub lists_written : (s : Shape) (t f : List ℕ) {t' f' : List ℕ} {k p : ℕ} →
-    t' ≡ filled 0 (triangle_numbers (triangles s)) t → f' ≡ filled 0 (pair_numbers (flipped s)) f →
-    k ≡ length (triangles s) → p ≡ length (flipped s) →
-    afterwards (record { triangles = k; pairs = p }) (mesh_lists t' f') ≡ written s (mesh_lists t f)
-lists_written s t f ts ps k p = rw (ts, ps, k, p)
+-- what all slots emit are the surface's triangles
+all_kept : (s : Shape) {ts : List Triangle} → ts ≡ kept s (2 * (s.M * s.N)) → ts ≡ triangles s
+unfolding triangles slots
+all_kept s e = e
+
+-- a list whose part from place k on is written over with zeros
+rest_zeroed : (k : ℕ) (l rest : List ℕ) → k ≤ length l → rest ≡ replicate (length (mid_of k (length l - k) l)) 0 →
+    put_mid k (length l - k) l rest ≡ zeroed_from 0 k l
+rest_zeroed k l rest h e = grind (arith, common_steps)
+
+-- k triangles in front of the list t' and p pairs in front of f', each with zeros past them, where t and f were lent
+pub lists_written : (s : Shape) (t f t' f' : List ℕ) {rest rest' : List ℕ} (k p : ℕ) →
+    triangles_in k t' ≡ kept s (2 * (s.M * s.N)) → 3 * k ≤ length t' → length t' ≡ length t →
+    rest ≡ replicate (length (mid_of (3 * k) (length t' - 3 * k) t')) 0 →
+    pairs_in p f' ≡ flipped s → 2 * p ≤ length f' → length f' ≡ length f →
+    rest' ≡ replicate (length (mid_of (2 * p) (length f' - 2 * p) f')) 0 →
+    afterwards (record { triangles = k; pairs = p })
+    (mesh_lists (put_mid (3 * k) (length t' - 3 * k) t' rest) (put_mid (2 * p) (length f' - 2 * p) f' rest'))
+    ≡ written s (mesh_lists t f)
+lists_written s t f t' f' {rest} {rest'} k p ts tk tl tr ps pk pl pr =
+    let all = all_kept s ts in
+    rw (
+      rest_zeroed (3 * k) t' rest tk tr,
+      rest_zeroed (2 * p) f' rest' pk pr,
+      triangles_filled s k t' t all tk tl,
+      pairs_filled s p f' f ps pk pl,
+      held_triangles k t' all,
+      held_pairs p f' ps,
+    )
 
 module _ (g : List Float) (m n : ℕ) (tolerances : Tolerances) (t f : List ℕ) where
   -- the answer a, with the lists t' and f', where t and f were lent
-  abbrev Hands : Triangulation → List ℕ → List ℕ → Type 0
+  abbrev Hands : Result Meshed Refusal → List ℕ → List ℕ → Type 0
   Hands a t' f' =
-      afterwards (stated_triangulation a) (mesh_lists t' f') ≡ triangulate_grid g m n tolerances (mesh_lists t f)
+      afterwards (stated a) (mesh_lists t' f') ≡ triangulate_grid g m n tolerances (mesh_lists t f)
 
-  pub refused_hands : {c : Check} {k : Refusal} → c ≡ mesh_check g m n tolerances t f → c ≡ Failed k →
-      Hands (Refused k) t f
+  pub refused_hands : {k : Refusal} → Err k ≡ mesh_check g m n tolerances t f → Hands (Err k) t f
   unfolding triangulate_grid
-  refused_hands p e = rw (← p, e)
+  refused_hands e = rw (← e)
 
-  pub passed_hands : (t' f' : List ℕ) {c : Check} {u v : SeamSearch} {r : MeshCounts} →
-      c ≡ mesh_check g m n tolerances t f → c ≡ Passed →
-      u ≡ u_search g m n tolerances.u → v ≡ v_search g m n tolerances.v →
-      afterwards r (mesh_lists t' f') ≡ written (surface_with m n u.seam v.seam) (mesh_lists t f) →
-      Hands (Triangulated u v r.triangles r.pairs) t' f'
+  pub passed_hands : (t' f' : List ℕ) {s : Seams} {r : MeshCounts} → passed ≡ mesh_check g m n tolerances t f →
+      s ≡ seams_of g m n tolerances →
+      afterwards r (mesh_lists t' f') ≡ written (surface_with m n s.u.seam s.v.seam) (mesh_lists t f) →
+      Hands (Ok (record { u = s.u; v = s.v; triangles = r.triangles; pairs = r.pairs })) t' f'
   unfolding triangulate_grid
-  passed_hands t' f' p e a b w =
-      rw (← p, e)
-      (answered_in (meshed (u_search g m n tolerances.u) (v_search g m n tolerances.v)) (rw (a, b))
-      (rw (a, b) at w))
+  passed_hands t' f' e seams w =
+      rw (← e)
+      (answered_in (meshed (u_search g m n tolerances.u) (v_search g m n tolerances.v)) (rw seams) (rw seams at w))

@@ -1,43 +1,30 @@
 -- The triangles of a cell among all: which slots are its, and what is kept after them.
 use Prim.Native.Nat.{ℕ, ◌+◌, ◌*◌, ◌/◌, ◌%◌, ◌≤◌, ◌<◌}
 use mathlib.Core.Path.{◌≡◌, sym, ap, ◌∙◌}
-use mathlib.Core.Bool.{true, false, cond}
-use mathlib.Core.List.{List, [], ◌∷◌, ◌++◌, append-nil}
+use mathlib.Core.Bool.{true, cond}
+use mathlib.Core.List.{List, [], ◌∷◌, ◌++◌}
 use native.Mathlib.Omega.{arith}
 use native.Mathlib.Nat.{zero-mul}
 use native.Mathlib.Numerals.{add-one}
 use lib.Arith.{digits_div, digits_mod, digits_lt}
 use lib.ListN.{length}
-use Rattle.surface.specs.Surface.{Shape, Triangle, tri, proper, falling, half_of, slot, kept, triangle_number}
+use Rattle.surface.specs.Surface.{Shape, Triangle, proper, falling, half_of, slot, kept, triangle_number}
 use Rattle.surface.proofs.Triangles.{kept_at_most}
-use Rattle.mesh.specs.declared.corner.Cell.{Cell}
 use Rattle.mesh.specs.declared.corner.Surface.{Surface}
-use Rattle.mesh.specs.Corners.{shape_of, cell_corners}
+use Rattle.mesh.specs.declared.triangles.Triangles.{Triangles}
+use Rattle.mesh.specs.Corners.{shape_of}
 use Rattle.mesh.specs.Held.{firsts, triangle_at, triangles_in}
+use Rattle.mesh.specs.Writers.{triangles_of, HoldsSlots, same_triangles}
 use Rattle.mesh.proofs.Firsts.{length_firsts}
-
--- Rules 4.3: the triangles of a cell, by its corners
-abbrev pub first_of : Cell → Triangle
-first_of c = tri c.i00 c.i10 c.i01
-
-abbrev pub second_of : Cell → Triangle
-second_of c = tri c.i10 c.i11 c.i01
 
 -- the triangles that a slot adds
 abbrev pub added_by : Triangle → List Triangle
 added_by t = cond (proper t) (t ∷ []) []
 
-pub added_none : (ts : List Triangle) (t : Triangle) → proper t ≡ false → ts ≡ ts ++ added_by t
-added_none ts t e = rw e (sym (append-nil ts))
-
-pub added_one : (ts : List Triangle) (t : Triangle) → proper t ≡ true → ts ++ (t ∷ []) ≡ ts ++ added_by t
-added_one ts t e = rw e
-
 -- one slot more
-kept_more : (s : Shape) (k : ℕ) {t : Triangle} {before after : List Triangle} →
-    t ≡ slot s k → before ≡ kept s k → after ≡ before ++ added_by t → after ≡ kept s (k + 1)
+pub kept_more : (s : Shape) (k : ℕ) → kept s (k + 1) ≡ kept s k ++ added_by (slot s k)
 unfolding kept
-kept_more s k e b a = rw (add-one, a, b, e)
+kept_more s k = rw add-one
 
 -- the count is the number of triangles that the list holds
 pub held_triangles : (count : ℕ) (l : List ℕ) {ts : List Triangle} → triangles_in count l ≡ ts → count ≡ length ts
@@ -63,40 +50,35 @@ none_held s n l = rw (zero-mul n)
 pub cell_below : {m n u v : ℕ} → u < m → v < n → u * n + v + 1 ≤ m * n
 cell_below p q = omega (arith, digits_lt p q)
 
--- after the last cell of a row comes the next row
-pub row_next : (s : Shape) (n u v : ℕ) → v ≡ n → kept s (2 * (u * n + v)) ≡ kept s (2 * ((u + 1) * n))
-row_next s n u v e = ap (kept s) (omega arith)
+-- a half of the cell is one of its two slots
+slot_of : (s : Surface) (u v i x : ℕ) → v < s.n → i % 2 ≡ x → i / 2 ≡ u * s.n + v →
+    slot (shape_of s) i ≡ half_of (shape_of s) falling x u v
+unfolding slot
+slot_of s u v i x h e d = rw (e, d, digits_div u h, digits_mod u h)
 
-pub row_first : (s : Shape) (n u : ℕ) → kept s (2 * (u * n)) ≡ kept s (2 * (u * n + 0))
-row_first s n u = ap (kept s) (omega arith)
+pub slot_first : (s : Surface) (u v : ℕ) → v < s.n →
+    slot (shape_of s) (2 * (u * s.n + v)) ≡ half_of (shape_of s) falling 0 u v
+slot_first s u v h = slot_of s u v (2 * (u * s.n + v)) 0 h (omega arith) (omega arith)
 
-module _ (surface : Surface) (u v : ℕ) (h : v < surface.n) where
-  -- slot i, of half x of the cell
-  slot_of : (i x : ℕ) → i % 2 ≡ x → i / 2 ≡ u * surface.n + v →
-      slot (shape_of surface) i ≡ half_of (shape_of surface) falling x u v
-  unfolding slot
-  slot_of i x e d = rw (e, d, digits_div u h, digits_mod u h)
+pub slot_second : (s : Surface) (u v : ℕ) → v < s.n →
+    slot (shape_of s) (2 * (u * s.n + v) + 1) ≡ half_of (shape_of s) falling 1 u v
+slot_second s u v h = slot_of s u v (2 * (u * s.n + v) + 1) 1 h (omega arith) (omega arith)
 
-  -- the cell's triangles are those of its two slots
-  pub slot_first : {cell : Cell} → cell ≡ cell_corners (shape_of surface) u v →
-      first_of cell ≡ slot (shape_of surface) (2 * (u * surface.n + v))
-  unfolding half_of
-  slot_first c = ap first_of c ∙ sym (slot_of (2 * (u * surface.n + v)) 0 (omega arith) (omega arith))
+pub ruleset cell_slots = (slot_first, slot_second)
 
-  pub slot_second : {cell : Cell} → cell ≡ cell_corners (shape_of surface) u v →
-      second_of cell ≡ slot (shape_of surface) (2 * (u * surface.n + v) + 1)
-  unfolding half_of
-  slot_second c = ap second_of c ∙ sym (slot_of (2 * (u * surface.n + v) + 1) 1 (omega arith) (omega arith))
+-- One triangle more, written to the list t of surface s
 
-  -- what the cell's triangles are added to, and give
-  pub cell_first : {cell : Cell} {before after : List Triangle} →
-      cell ≡ cell_corners (shape_of surface) u v → before ≡ kept (shape_of surface) (2 * (u * surface.n + v)) →
-      after ≡ before ++ added_by (first_of cell) → after ≡ kept (shape_of surface) (2 * (u * surface.n + v) + 1)
-  cell_first c b a = kept_more (shape_of surface) (2 * (u * surface.n + v)) (slot_first c) b a
+module _ (s : Surface) (t t' : Triangles) (k : ℕ) {x : Triangle} (of : t.surface ≡ s) (held : HoldsSlots t k)
+    (same : same_triangles t t') (is : x ≡ slot (shape_of s) k) where
+  -- the slot's, if it is proper
+  pub slot_added : triangles_of t' ≡ triangles_of t ++ added_by x → HoldsSlots t' (k + 1)
+  slot_added a = rw (same.1, a, held, is, of) (sym (kept_more (shape_of s) k))
 
-  pub cell_second : {cell : Cell} {before after : List Triangle} →
-      cell ≡ cell_corners (shape_of surface) u v → before ≡ kept (shape_of surface) (2 * (u * surface.n + v) + 1) →
-      after ≡ before ++ added_by (second_of cell) → after ≡ kept (shape_of surface) (2 * (u * surface.n + (v + 1)))
-  cell_second c b a =
-      let e : 2 * (u * surface.n + v) + 1 + 1 ≡ 2 * (u * surface.n + (v + 1)) = omega arith in
-      kept_more (shape_of surface) (2 * (u * surface.n + v) + 1) (slot_second c) b a ∙ ap (kept (shape_of surface)) e
+  -- one that is
+  pub proper_added : proper x ≡ true → triangles_of t' ≡ triangles_of t ++ (x ∷ []) → HoldsSlots t' (k + 1)
+  proper_added p a = slot_added (rw p a)
+
+-- there is room for it
+pub slot_room : (t : Triangles) (k : ℕ) → HoldsSlots t k → k < 2 * (t.surface.m * t.surface.n) →
+    3 * t.count + 3 ≤ length t.list.now
+slot_room t k h p = omega (arith, held_most (shape_of t.surface) k t.count t.list.now h, t.room)

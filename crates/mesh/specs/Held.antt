@@ -1,9 +1,7 @@
 -- Rules 8.1: what a list of numbers holds: triangles, three numbers each, and flipped pairs, two each.
-use Rattle.std.specs.Prelude.{ℕ, zero, suc, ◌+◌, ◌*◌, ◌≤◌, ◌≡◌, List, [], ◌∷◌, ◌++◌, length, get_or}
+use Rattle.std.specs.Prelude.{ℕ, zero, suc, ◌+◌, ◌*◌, ◌≤◌, ◌≡◌, List, [], ◌∷◌, ◌++◌, length, get_or, Option, Some, None}
 use Rattle.basics.specs.Lists.{put_at}
 use Rattle.surface.specs.Surface.{Triangle, tri, Pair, pair, insert}
-use Rattle.mesh.specs.declared.pairs.Spot.{Spot}
-use Rattle.mesh.specs.declared.pairs.Spot.TheVariants.{Before, There}
 
 -- f 0 to f (k − 1)
 unfoldable pub firsts : {A : Type 0} → (ℕ → A) → ℕ → List A
@@ -24,7 +22,7 @@ pair_at l i = pair (get_or l (2 * i) 0) (get_or l (2 * i + 1) 0)
 abbrev pub pairs_in : ℕ → List ℕ → List Pair
 pairs_in k l = firsts (pair_at l) k
 
--- the spot is where p is to be put
-abbrev pub Spotted : Spot → Pair → List Pair → Type 0
-Spotted (Before i) p ps = (i ≤ length ps) × (insert p ps ≡ put_at i p ps)
-Spotted There p ps = insert p ps ≡ ps
+-- where p is to be put, or None where it is there already
+abbrev pub Spotted : Option ℕ → Pair → List Pair → Type 0
+Spotted (Some i) p ps = (i ≤ length ps) × (insert p ps ≡ put_at i p ps)
+Spotted None p ps = insert p ps ≡ ps

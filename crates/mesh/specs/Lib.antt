@@ -1,5 +1,7 @@
--- The contract of the open call cites Mesh. Corners, Held and Rims serve inner contracts only.
+-- The contract of the open call cites Mesh. Bounded, Corners, Held, Writers and Rims serve inner contracts only.
 pub mod Mesh
+pub mod Bounded
 pub mod Corners
 pub mod Held
+pub mod Writers
 pub mod Rims

@@ -1,7 +1,6 @@
 -- Rules 4, 8 and 11 of `triangulate_grid`: what it answers and leaves in the two lent lists, or which refusal it gives.
 use Rattle.std.specs.Prelude.{ℕ, ◌+◌, ◌*◌, List, [], ◌∷◌, length, Float}
-use Rattle.refusal.specs.declared.Check.{Check}
-use Rattle.refusal.specs.Refusals.{Answer, ok, refused, number_of, and_then}
+use Rattle.refusal.specs.Refusals.{Check, Answer, ok, and_then}
 use Rattle.tolerance.specs.declared.Tolerances.{Tolerances}
 use Rattle.tolerance.specs.Tolerance.{tolerances_check}
 use Rattle.lent.specs.Lent.{room_check, filled, Afterwards, afterwards, answering, if_passed}
@@ -10,8 +9,7 @@ use Rattle.cyclic.specs.declared.seam.SeamSearch.{SeamSearch}
 use Rattle.surface.specs.Surface.{Triangle, Pair, Shape, triangles, flipped}
 use Rattle.surface.specs.Found.{u_search, v_search, surface_of}
 use Rattle.mesh.specs.declared.MeshCounts.{MeshCounts}
-use Rattle.mesh.specs.declared.Triangulation.{Triangulation}
-use Rattle.mesh.specs.declared.Triangulation.TheVariants.{Triangulated, Refused}
+use Rattle.mesh.specs.declared.Meshed.{Meshed}
 
 -- the numbers of the points of each triangle in turn
 unfoldable pub triangle_numbers : List Triangle → List ℕ
@@ -22,18 +20,6 @@ triangle_numbers (t ∷ ts) = t.a ∷ t.b ∷ t.c ∷ triangle_numbers ts
 unfoldable pub pair_numbers : List Pair → List ℕ
 pair_numbers [] = []
 pair_numbers (p ∷ ps) = p.low ∷ p.high ∷ pair_numbers ps
-
--- the values of an answer: both seams with their comparisons, the count of triangles and the count of flipped pairs
-pub record Meshed : Type 0 where
-  pub u : SeamSearch
-  pub v : SeamSearch
-  pub triangles : ℕ
-  pub pairs : ℕ
-
--- the number and the values of each case
-abbrev pub stated_triangulation : Triangulation → Answer Meshed
-stated_triangulation (Triangulated u v t f) = ok (record { u = u; v = v; triangles = t; pairs = f })
-stated_triangulation (Refused k) = refused (number_of k)
 
 -- Rules 11.2: refusals 1, 2, 13, 3 and 4, in this order. What 3 asks for (11.1): both lists have room for whatever the
 -- grid may need

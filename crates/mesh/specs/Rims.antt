@@ -1,16 +1,29 @@
 -- Rules 4.4 as the code takes it: the low and high rim of a seam (`surface`, Rims.antt) and their triangles, for either
 -- seam.
-use Rattle.std.specs.Prelude.{ℕ, ◌+◌, ◌*◌, ◌≤◌, ◌<◌, ◌≡◌, Bool, true, false, cond, List, ltb, length, get_or}
+use Rattle.std.specs.Prelude.{ℕ, ◌+◌, ◌*◌, ◌≤◌, ◌<◌, ◌≡◌, cond, List, ltb, length, get_or, Option, Some, None}
 use Rattle.param.specs.declared.Axis.{Axis}
+use Rattle.param.specs.declared.Axis.TheVariants.{AxisU, AxisV}
+use Rattle.cyclic.specs.Mapping as cyclic
 use Rattle.surface.specs.Surface.{Seam, reversed, Shape, triangle_number, step_on, Pair, put_down, process}
 use Rattle.surface.specs.Rims.{rim_steps, low_of, high_of}
 use Rattle.mesh.specs.declared.corner.Surface.{Surface}
+use Rattle.mesh.specs.declared.triangles.Half.{Half}
+use Rattle.mesh.specs.declared.triangles.Half.TheVariants.{First, Second}
 use Rattle.mesh.specs.Corners.{shape_of}
 
--- one more, where it is so
-abbrev pub one_more : ℕ → Bool → ℕ
-one_more k true = k + 1
-one_more k false = k
+-- a surface's seam
+abbrev pub seam_at : Axis → Surface → cyclic.Seam
+seam_at AxisU s = s.u
+seam_at AxisV s = s.v
+
+-- the slot at each step of a rim: the low one is named by the first half of its cells, the high one by the second
+abbrev pub rim_slot : Half → Axis → Shape → ℕ → ℕ
+rim_slot First axis s i = low_of axis s i
+rim_slot Second axis s i = high_of axis s i
+
+-- a step, for none of which `steps` stands in `Surface.antt`
+abbrev pub step_if : ℕ → ℕ → Option ℕ
+step_if steps k = cond (ltb k steps) (Some k) None
 
 -- the number of triangles before each u, and of all
 pub record Starts (surface : Surface) (starts : List ℕ) : Type 0 where

@@ -1,17 +1,17 @@
 // The corner rule (Rules 4.2): which grid point a corner of a cell stands for once the seams are joined.
-ghost use Rattle.std.specs.Prelude.{◌+◌, ◌≤◌, ◌<◌, ◌≡◌};
-ghost use Rattle.surface.specs.Surface.{corner};
-ghost use Rattle.mesh.specs.Corners.{shape_of, Bounded, Joins, join_of, cell_corners};
+ghost use Rattle.std.proofs.Props.{props};
+ghost use Rattle.mesh.specs.Bounded.{Bounded, Maps-prop};
 
-use cyclic::seam::Seam;
+use cyclic::mapping::CyclicMapping;
 
-// A grid's steps and its two seams.
+// A grid's steps, and two seams of its own lines.
 #[derive(Clone, Copy)]
 pub struct Surface {
     pub m: usize,
     pub n: usize,
-    pub u: Seam,
-    pub v: Seam,
+    pub u: Option<CyclicMapping>,
+    pub v: Option<CyclicMapping>,
+    pub ghost bounded: { Bounded m n u v } by { Prim.hlevel (props, Maps-prop u n, Maps-prop v m) },
 }
 
 // A point by the lines that a seam joins: how many steps its line is from the first one, and the step along it.
@@ -30,50 +30,61 @@ pub struct Cell {
     pub i11: usize,
 }
 
-// The rule of one seam: where it was found, a step of the last line becomes its inverse image on line 0.
-fn join(seam: Seam, last: usize, line: usize, step: usize) -> Place
-    requires { Joins seam step }
-    ensures { result ≡ join_of seam last line step }
-{
-    match seam {
-        Seam::Unjoined => Place { line, step },
-        Seam::Joined(mapping) => {
-            if line == last {
-                return Place {
-                    line: 0,
-                    step: mapping.inverse(step),
-                };
-            }
-            Place { line, step }
+impl Place {
+    ghost use Rattle.std.specs.Prelude.{◌≡◌};
+    ghost use Rattle.mesh.specs.Corners.{Joins, join_of};
+
+    // The rule of one seam: where it was found, a step of the last line becomes its inverse image on line 0.
+    #[tactic(auto, unfolding(crate::specs::Corners::join_of))]
+    fn join(self, seam: Option<CyclicMapping>, last: usize) -> Place
+        requires { Joins seam self.step }
+        ensures { result ≡ join_of seam last self.line self.step }
+    {
+        match seam {
+            Some(mapping) if self.line == last => Place {
+                line: 0,
+                step: mapping.inverse(self.step),
+            },
+            _ => self,
         }
     }
 }
 
-// The number of corner (u, v) of a cell of row `row`: the u rule, then in the last row the v rule.
-pub fn corner(surface: Surface, row: usize, u: usize, v: usize) -> usize
-    requires { Bounded surface × (u ≤ surface.m) × (v ≤ surface.n) × (row < surface.n) }
-    ensures { result ≡ corner (shape_of surface) row u v }
-{
-    let n = surface.n;
-    let u_seam = surface.u;
-    let p = join(u_seam, surface.m, u, v);
-    if row + 1 == n {
-        let v_seam = surface.v;
-        let q = join(v_seam, n, p.step, p.line);
-        return grid::point_number(n, q.step, q.line);
-    }
-    grid::point_number(n, p.line, p.step)
-}
+// A cell stays two numbers: as a struct it would carry its surface along, to say that they are within it.
+impl Surface {
+    ghost use Rattle.std.specs.Prelude.{◌+◌, ◌≤◌, ◌<◌, ◌≡◌};
+    ghost use Rattle.surface.specs.Surface.{corner};
+    ghost use Rattle.mesh.specs.Corners.{shape_of, cell_corners};
 
-// The corners of cell (u, v).
-pub fn cell_corners(surface: Surface, u: usize, v: usize) -> Cell
-    requires { Bounded surface × (u < surface.m) × (v < surface.n) }
-    ensures { result ≡ cell_corners (shape_of surface) u v }
-{
-    Cell {
-        i00: corner(surface, v, u, v),
-        i10: corner(surface, v, u + 1, v),
-        i01: corner(surface, v, u, v + 1),
-        i11: corner(surface, v, u + 1, v + 1),
+    // The number of corner (u, v) of a cell of row `row`: the u rule, then in the last row the v rule.
+    #[tactic(auto, using(crate::proofs::Joins::rules_in_turn))]
+    fn corner(self, row: usize, u: usize, v: usize) -> usize
+        requires { (u ≤ self.m) × (v ≤ self.n) × (row < self.n) }
+        ensures { result ≡ corner (shape_of self) row u v }
+    {
+        let p = Place { line: u, step: v }.join(self.u, self.m);
+        if row + 1 == self.n {
+            let q = Place {
+                line: p.step,
+                step: p.line,
+            }
+            .join(self.v, self.n);
+            grid::point_number(self.n, q.step, q.line)
+        } else {
+            grid::point_number(self.n, p.line, p.step)
+        }
+    }
+
+    // The corners of cell (u, v).
+    pub(crate) fn cell_corners(self, u: usize, v: usize) -> Cell
+        requires { (u < self.m) × (v < self.n) }
+        ensures { result ≡ cell_corners (shape_of self) u v }
+    {
+        Cell {
+            i00: self.corner(v, u, v),
+            i10: self.corner(v, u + 1, v),
+            i01: self.corner(v, u, v + 1),
+            i11: self.corner(v, u + 1, v + 1),
+        }
     }
 }

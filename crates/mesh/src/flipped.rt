@@ -1,262 +1,186 @@
 // Flipped pairs (Rules 4.4): the triangles on both sides of a reversed seam. An axis stands for a seam: AxisU for the
 // one that joins u = 0 and u = M, AxisV for the one that joins v = 0 and v = N. Its low rim is the first of the two,
 // its high rim the other.
-ghost use Rattle.std.specs.Prelude.{ℕ, ◌+◌, ◌*◌, ◌≤◌, ◌<◌, ◌≡◌, length, get_or};
-ghost use Rattle.cyclic.specs.declared.seam.Seam.TheVariants.{Joined};
+ghost use Rattle.std.specs.Prelude.{ℕ, ◌+◌, ◌*◌, ◌≤◌, ◌<◌, ◌≡◌, length, get_or, Some};
+ghost use Rattle.cyclic.specs.Mapping.{steps_of, HasIndex};
 ghost use Rattle.surface.specs.Surface.{proper, slot, triangle_number, wrap_ends, step_on, flipped as allFlipped};
 ghost use Rattle.surface.specs.Found.{of_mapping, seam_of, Maps};
-ghost use Rattle.surface.specs.Rims.{rim_steps, low_of, high_of};
-ghost use Rattle.mesh.specs.Corners.{shape_of, Bounded};
+ghost use Rattle.surface.specs.Rims.{rim_steps};
+ghost use Rattle.mesh.specs.Corners.{shape_of};
 ghost use Rattle.mesh.specs.Held.{pairs_in};
-ghost use Rattle.mesh.specs.Rims.{Rims, Starts, one_more, flip_step, flip_steps, flips};
+ghost use Rattle.mesh.specs.Writers.{pairs_of, same_pairs};
+ghost use Rattle.mesh.specs.Rims.{seam_at, rim_slot, step_if, Starts, Rims, flip_step, flips};
 
-use crate::corner::{Surface, cell_corners};
-use crate::pairs::insert_pair;
-use crate::triangles::differ;
+use crate::corner::Surface;
+use crate::pairs::Pairs;
+use crate::triangles::Half;
 use cyclic::mapping::CyclicMapping;
-use cyclic::seam::Seam;
 use param::Axis;
 
-// Whether the numbers of the first triangle of cell (u, v) differ.
-fn first_differs(surface: Surface, u: usize, v: usize) -> bool
-    requires { Bounded surface × (u < surface.m) × (v < surface.n) }
-    ensures { result ≡ proper (slot (shape_of surface) (2 * (u * surface.n + v))) }
-{
-    let c = cell_corners(surface, u, v);
-    differ(c.i00, c.i10, c.i01)
+// The number of triangles before each u of a surface, and of all.
+#[derive(Clone, Copy)]
+pub struct RowStarts<'a> {
+    pub surface: Surface,
+    pub starts: &'a [usize],
+    pub ghost counted: { Starts surface starts.now },
 }
 
-// Whether those of the second do.
-fn second_differs(surface: Surface, u: usize, v: usize) -> bool
-    requires { Bounded surface × (u < surface.m) × (v < surface.n) }
-    ensures { result ≡ proper (slot (shape_of surface) (2 * (u * surface.n + v) + 1)) }
-{
-    let c = cell_corners(surface, u, v);
-    differ(c.i10, c.i11, c.i01)
-}
-
-// The count, and one more where `one` holds; 130050 is 2·255·255, the most triangles of a grid.
-fn one_more(count: usize, one: bool) -> usize
-    requires { count ≤ 130050 }
-    ensures { result ≡ one_more count one }
-{
-    if one { count + 1 } else { count }
-}
-
-// The number of triangles after cell (u, v), from that before it.
-fn count_cell(surface: Surface, u: usize, v: usize, count: usize) -> usize
-    requires bounded { Bounded surface × (u < surface.m) × (v < surface.n) }
-    requires count_value { count ≡ triangle_number (shape_of surface) (2 * (u * surface.n + v)) }
-    ensures { result ≡ triangle_number (shape_of surface) (2 * (u * surface.n + (v + 1))) }
-{
-    let first = one_more(count, first_differs(surface, u, v));
-    one_more(first, second_differs(surface, u, v))
-}
-
-// Counts the triangles before each cell (u, v), and before the next row.
-fn count_row(surface: Surface, u: usize, start: usize, counts: &mut [usize])
-    requires bounded { Bounded surface × (u < surface.m) × (surface.n < length counts.old) }
-    requires start_value { start ≡ triangle_number (shape_of surface) (2 * (u * surface.n)) }
-    ensures { (i : ℕ) → i ≤ surface.n → get_or counts.new i 0
-        ≡ triangle_number (shape_of surface) (2 * (u * surface.n + i)) }
-{
-    let n = surface.n;
-    let mut count = start;
-    let mut v: usize = 0;
-    counts[0] = start;
-    while v < n {
-        count = count_cell(surface, u, v, count);
-        v += 1;
-        counts[v] = count;
-    }
-}
-
-// Whether the triangle at step i of the low rim is there.
-fn low_differs(surface: Surface, axis: Axis, i: usize) -> bool
-    requires { Bounded surface × (i < rim_steps axis (shape_of surface)) }
-    ensures { result ≡ proper (slot (shape_of surface) (low_of axis (shape_of surface) i)) }
-{
-    match axis {
-        Axis::AxisU => first_differs(surface, 0, i),
-        Axis::AxisV => first_differs(surface, i, 0),
-    }
-}
-
-// Whether the triangle at step i of the high rim is there.
-fn high_differs(surface: Surface, axis: Axis, i: usize) -> bool
-    requires { Bounded surface × (i < rim_steps axis (shape_of surface)) }
-    ensures { result ≡ proper (slot (shape_of surface) (high_of axis (shape_of surface) i)) }
-{
-    match axis {
-        Axis::AxisU => second_differs(surface, surface.m - 1, i),
-        Axis::AxisV => second_differs(surface, i, surface.n - 1),
-    }
-}
-
-// The step between places p0 and p1 of a line whose last place is its first again, or `steps` where there is none.
-fn wrap_ends(steps: usize, p0: usize, p1: usize) -> usize
-    requires { (p0 ≤ 255) × (p1 ≤ 255) }
-    ensures { result ≡ wrap_ends steps p0 p1 }
-{
-    if (p0 + 1 == steps) & (p1 == 0) {
-        return p0;
-    }
-    if (p1 + 1 == steps) & (p0 == 0) {
-        return p1;
-    }
-    if p0 + 1 == p1 {
-        return p0;
-    }
-    if p1 + 1 == p0 {
-        return p1;
-    }
-    steps
-}
-
-// The step of the low rim that lies on step i of the high rim, or `steps` where there is none.
-fn step_on(mapping: CyclicMapping, steps: usize, i: usize) -> usize
-    requires { Maps (Joined mapping) steps × (steps ≤ 255) × (i < steps) }
-    ensures { result ≡ step_on (of_mapping mapping) steps i }
-{
-    wrap_ends(steps, mapping.inverse(i), mapping.inverse(i + 1))
-}
-
-// The steps along a seam's rims.
-fn rim_steps(surface: Surface, axis: Axis) -> usize
-    ensures { result ≡ rim_steps axis (shape_of surface) }
-{
-    match axis {
-        Axis::AxisU => surface.n,
-        Axis::AxisV => surface.m,
-    }
-}
-
-// Puts down the triangles that meet at step i of the high rim, if both are there. `low` counts the triangles before
-// each cell of the low rim, `high` those after each cell of the high rim, one place on.
-fn flip_step(
+// The triangles along the rims of a seam: `low` counts those before each cell of the low rim, `high` those after each
+// cell of the high rim, one place on.
+#[derive(Clone, Copy)]
+struct RimCounts<'a> {
     surface: Surface,
     axis: Axis,
-    mapping: CyclicMapping,
-    low: &[usize],
-    high: &[usize],
-    i: usize,
-    flipped: &mut [usize],
-    count: usize,
-) -> usize
-    requires bounded { Bounded surface × Maps (Joined mapping) (rim_steps axis (shape_of surface))
-        × (i < rim_steps axis (shape_of surface)) }
-    requires rims { Rims axis (shape_of surface) low.now high.now × (2 * count + 2 ≤ length flipped.old) }
-    ensures { pairs_in result flipped.new
-        ≡ flip_step axis (shape_of surface) (of_mapping mapping) i (pairs_in count flipped.old) }
-{
-    let steps = rim_steps(surface, axis);
-    let on = step_on(mapping, steps, i);
-    if steps <= on {
-        return count;
-    }
-    if !(low_differs(surface, axis, on) & high_differs(surface, axis, i)) {
-        return count;
-    }
-    let a = low[on];
-    let b = high[i + 1] - 1;
-    if a < b {
-        return insert_pair(flipped, count, a, b);
-    }
-    insert_pair(flipped, count, b, a)
+    low: &'a [usize],
+    high: &'a [usize],
+    ghost counted: { Rims axis (shape_of surface) low.now high.now },
 }
 
-// Each step of the high rim with the step of the low rim that lies on it.
-fn process_flipped(
-    surface: Surface,
-    axis: Axis,
-    mapping: CyclicMapping,
-    low: &[usize],
-    high: &[usize],
-    flipped: &mut [usize],
-    start: usize,
-) -> usize
-    requires bounded { Bounded surface × Maps (Joined mapping) (rim_steps axis (shape_of surface)) }
-    requires rims { Rims axis (shape_of surface) low.now high.now
-        × (2 * (start + rim_steps axis (shape_of surface)) ≤ length flipped.old) }
-    ensures { pairs_in result flipped.new
-        ≡ flip_steps axis (shape_of surface) (of_mapping mapping) (rim_steps axis (shape_of surface))
-        (pairs_in start flipped.old) }
-{
-    let steps = rim_steps(surface, axis);
-    let mut count = start;
-    let mut i: usize = 0;
-    while i < steps {
-        count = flip_step(surface, axis, mapping, low, high, i, flipped, count);
-        i += 1;
+impl Surface {
+    // The seam of an axis.
+    fn seam(self, axis: Axis) -> Option<CyclicMapping>
+        ensures { result ≡ seam_at axis self }
+    {
+        match axis {
+            Axis::AxisU => self.u,
+            Axis::AxisV => self.v,
+        }
     }
-    count
+
+    // Whether the triangle at step i of a rim is there: its cell's first on the low rim, its second on the high one.
+    fn rim_has(self, axis: Axis, half: Half, i: usize) -> bool
+        requires { i < rim_steps axis (shape_of self) }
+        ensures { result ≡ proper (slot (shape_of self) (rim_slot half axis (shape_of self) i)) }
+    {
+        let (u, v) = match (axis, half) {
+            (Axis::AxisU, Half::First) => (0, i),
+            (Axis::AxisU, Half::Second) => (self.m - 1, i),
+            (Axis::AxisV, Half::First) => (i, 0),
+            (Axis::AxisV, Half::Second) => (i, self.n - 1),
+        };
+        self.triangle(u, v, half).is_proper()
+    }
+
+    // The number of triangles after cell (u, v), from that before it.
+    #[tactic(auto, using(crate::proofs::Numbers::counted))]
+    fn count_cell(self, u: usize, v: usize, before: usize) -> usize
+        requires cell { (u < self.m) × (v < self.n) }
+        requires before { before ≡ triangle_number (shape_of self) (2 * (u * self.n + v)) }
+        ensures { result ≡ triangle_number (shape_of self) (2 * (u * self.n + (v + 1))) }
+    {
+        let first = self.triangle(u, v, Half::First).is_proper();
+        let second = self.triangle(u, v, Half::Second).is_proper();
+        before + usize::from(first) + usize::from(second)
+    }
 }
 
-// The flipped pairs of a seam, if it was found and is reversed.
-fn flip_seam(
-    surface: Surface,
-    axis: Axis,
-    seam: Seam,
-    low: &[usize],
-    high: &[usize],
-    flipped: &mut [usize],
-    count: usize,
-) -> usize
-    requires bounded { Bounded surface × Maps seam (rim_steps axis (shape_of surface)) }
-    requires rims { Rims axis (shape_of surface) low.now high.now
-        × (2 * (count + rim_steps axis (shape_of surface)) ≤ length flipped.old) }
-    ensures { pairs_in result flipped.new
-        ≡ flips axis (shape_of surface) (seam_of seam) (pairs_in count flipped.old) }
+// The step between places p0 and p1 of a line whose last place is its first again, if they are neighbours.
+fn wrap_ends(steps: usize, p0: usize, p1: usize) -> Option<usize>
+    requires { (p0 ≤ steps) × (p1 ≤ steps) × (steps ≤ 65535) }
+    ensures { result ≡ step_if steps (wrap_ends steps p0 p1) }
 {
-    match seam {
-        Seam::Unjoined => count,
-        Seam::Joined(mapping) => {
-            if mapping.is_reverse() {
-                return process_flipped(surface, axis, mapping, low, high, flipped, count);
+    if p0 + 1 == steps && p1 == 0 {
+        Some(p0)
+    } else if p1 + 1 == steps && p0 == 0 {
+        Some(p1)
+    } else if p0 + 1 == p1 {
+        Some(p0)
+    } else if p1 + 1 == p0 {
+        Some(p1)
+    } else {
+        None
+    }
+}
+
+// The step of the low rim that lies on step i of the high rim, if there is one.
+#[tactic(auto, using(crate::proofs::Numbers::step_ends), unfolding(surface::specs::Surface::step_on))]
+fn step_on(mapping: CyclicMapping, i: usize) -> Option<usize>
+    requires { HasIndex mapping (i + 1) }
+    ensures { result ≡ step_if (steps_of mapping) (step_on (of_mapping mapping) (steps_of mapping) i) }
+{
+    wrap_ends(mapping.steps(), mapping.inverse(i), mapping.inverse(i + 1))
+}
+
+impl RimCounts<'_> {
+    // Puts down the triangles that meet at step i of the high rim, if both are there.
+    #[tactic(auto, using(crate::proofs::Numbers::counted))]
+    fn flip_step(&self, mapping: CyclicMapping, i: usize, pairs: &mut Pairs<'_>)
+        requires maps { Maps (Some mapping) (rim_steps self.now.axis (shape_of self.now.surface)) }
+        requires step { i < rim_steps self.now.axis (shape_of self.now.surface) }
+        requires room { 2 * pairs.old.count + 2 ≤ length pairs.old.list.now }
+        ensures same { same_pairs pairs.old pairs.new }
+        ensures pairs { pairs_of pairs.new
+            ≡ flip_step self.now.axis (shape_of self.now.surface) (of_mapping mapping) i (pairs_of pairs.old) }
+    {
+        let Some(on) = step_on(mapping, i) else {
+            return;
+        };
+        let RimCounts { surface, axis, .. } = *self;
+        if surface.rim_has(axis, Half::First, on) && surface.rim_has(axis, Half::Second, i) {
+            let a = self.low[on];
+            let b = self.high[i + 1] - 1;
+            pairs.insert(a.min(b), a.max(b));
+        }
+    }
+
+    // The flipped pairs of the seam, if it is there and is reversed.
+    #[tactic(auto, using(crate::proofs::Flips::flips_known))]
+    fn flip_seam(&self, pairs: &mut Pairs<'_>)
+        requires { 2 * (pairs.old.count + rim_steps self.now.axis (shape_of self.now.surface))
+            ≤ length pairs.old.list.now }
+        ensures same { same_pairs pairs.old pairs.new }
+        ensures pairs { pairs_of pairs.new ≡ flips self.now.axis (shape_of self.now.surface)
+            (seam_of (seam_at self.now.axis self.now.surface)) (pairs_of pairs.old) }
+    {
+        if let Some(mapping) = self.surface.seam(self.axis)
+            && mapping.is_reverse()
+        {
+            for i in 0..mapping.steps() {
+                self.flip_step(mapping, i, pairs);
             }
-            count
         }
     }
 }
 
-// The counts along the rims of the u seam: before each cell with u = 0, and before each with u = M−1.
-fn count_rims(surface: Surface, starts: &[usize], low: &mut [usize], high: &mut [usize])
-    requires bounded { Bounded surface × (surface.n < length low.old) × (surface.n < length high.old) }
-    requires starts { Starts surface starts.now }
-    ensures { Rims Axis.AxisU (shape_of surface) low.new high.new }
-{
-    let last = surface.m - 1;
-    count_row(surface, 0, starts[0], low);
-    count_row(surface, last, starts[last], high);
-}
+impl RowStarts<'_> {
+    // Counts the triangles before each cell (u, v), and before the next row.
+    fn count_row(&self, u: usize, counts: &mut [usize])
+        requires { (u < self.now.surface.m) × (self.now.surface.n < length counts.old) }
+        ensures { (i : ℕ) → i ≤ self.now.surface.n → get_or counts.new i 0
+            ≡ triangle_number (shape_of self.now.surface) (2 * (u * self.now.surface.n + i)) }
+    {
+        counts[0] = self.starts[u];
+        for v in 0..self.surface.n {
+            counts[v + 1] = self.surface.count_cell(u, v, counts[v]);
+        }
+    }
 
-// The flipped pairs of the u seam, then those of the v seam.
-fn flip_seams(
-    surface: Surface,
-    low: &[usize],
-    high: &[usize],
-    starts: &[usize],
-    flipped: &mut [usize],
-) -> usize
-    requires bounded { Bounded surface × Rims Axis.AxisU (shape_of surface) low.now high.now
-        × Starts surface starts.now }
-    requires n_in_bounds { 2 * (surface.m + surface.n) ≤ length flipped.old }
-    ensures { pairs_in result flipped.new ≡ allFlipped (shape_of surface) }
-{
-    let u_seam = surface.u;
-    let v_seam = surface.v;
-    let count = flip_seam(surface, Axis::AxisU, u_seam, low, high, flipped, 0);
-    flip_seam(surface, Axis::AxisV, v_seam, starts, starts, flipped, count)
-}
-
-// All flipped pairs. `starts` has the number of triangles before each u, and of all.
-pub fn find_flipped(surface: Surface, starts: &[usize], flipped: &mut [usize]) -> usize
-    requires bounded { Bounded surface × Starts surface starts.now }
-    requires n_in_bounds { 2 * (surface.m + surface.n) ≤ length flipped.old }
-    ensures { pairs_in result flipped.new ≡ allFlipped (shape_of surface) }
-{
-    let mut low = [0usize; 256];
-    let mut high = [0usize; 256];
-    count_rims(surface, starts, &mut low, &mut high);
-    flip_seams(surface, &low, &high, starts, flipped)
+    // All flipped pairs, into the front of a list: those of the u seam, then those of the v seam.
+    pub fn find_flipped(&self, list: &mut [usize]) -> usize
+        requires { 2 * (self.now.surface.m + self.now.surface.n) ≤ length list.old }
+        ensures pairs { pairs_in result list.new ≡ allFlipped (shape_of self.now.surface) }
+        ensures held { 2 * result ≤ length list.new }
+    {
+        let surface = self.surface;
+        let mut low = [0usize; 256];
+        let mut high = [0usize; 256];
+        self.count_row(0, &mut low);
+        self.count_row(surface.m - 1, &mut high);
+        let mut pairs = Pairs { list, count: 0 };
+        RimCounts {
+            surface,
+            axis: Axis::AxisU,
+            low: &low,
+            high: &high,
+        }
+        .flip_seam(&mut pairs);
+        RimCounts {
+            surface,
+            axis: Axis::AxisV,
+            low: self.starts,
+            high: self.starts,
+        }
+        .flip_seam(&mut pairs);
+        pairs.count
+    }
 }

@@ -1,35 +1,33 @@
 // Triangles and flipped pairs of a grid, from the seams that are found in it (Rules 4).
 #![tactic(auto)]
 
-ghost use Rattle.std.specs.Prelude.{◌+◌, ◌*◌, ◌≤◌, ◌≡◌, length};
+ghost use Rattle.std.specs.Prelude.{◌+◌, ◌*◌, ◌≤◌, ◌≡◌, IfOk, length};
+ghost use Rattle.param.specs.Param.{cells};
+ghost use Rattle.refusal.specs.Refusals.{tested, stated};
 ghost use Rattle.lent.specs.Lent.{afterwards};
-ghost use Rattle.surface.specs.Found.{u_search, v_search, SurfaceMeets};
-ghost use Rattle.grid.specs.Grid.{Accepted};
-ghost use Rattle.mesh.specs.Corners.{shape_of, Bounded};
-ghost use Rattle.mesh.specs.Mesh.{mesh_check, mesh_lists, written, triangulate_grid, stated_triangulation};
+ghost use Rattle.surface.specs.Found.{SurfaceMeets};
+ghost use Rattle.mesh.specs.Corners.{shape_of};
+ghost use Rattle.mesh.specs.Mesh.{mesh_check, mesh_lists, written, triangulate_grid};
 
 use corner::Surface;
 use cyclic::seam::SeamSearch;
-use refusal::{Check, Refusal};
+use flipped::RowStarts;
+use grid::Grid;
+use refusal::Refusal;
 use tolerance::Tolerances;
 
 pub mod corner;
-pub mod flipped;
-pub mod pairs;
-pub mod triangles;
+mod flipped;
+mod pairs;
+mod triangles;
 
 // Both seams with their comparisons, the count of triangles and the count of flipped pairs.
 #[derive(Clone, Copy)]
-pub enum Triangulation {
-    Triangulated(SeamSearch, SeamSearch, usize, usize),
-    Refused(Refusal),
-}
-
-// What a search finds for the u seam and for the v seam.
-#[derive(Clone, Copy)]
-pub struct Seams {
+pub struct Meshed {
     pub u: SeamSearch,
     pub v: SeamSearch,
+    pub triangles: usize,
+    pub pairs: usize,
 }
 
 // The count of triangles and the count of flipped pairs.
@@ -40,48 +38,42 @@ pub struct MeshCounts {
 }
 
 // Refusals 1, 2, 13, 3 and 4 (Rules 11.2). The room is that of an M and N that pass 1.
-pub fn check_mesh(
-    grid: &[f64],
+// 1 is tested here too, as in `path`: a closure in `check_grid` would need clauses of its own.
+#[tactic(auto, unfolding(crate::specs::Mesh::mesh_check, grid::specs::Grid::grid_check))]
+pub fn check_mesh<'a>(
+    points: &'a [f64],
     m: usize,
     n: usize,
     tolerances: Tolerances,
     triangles: &[usize],
     flipped: &[usize],
-) -> Check
-    ensures { result
-        ≡ mesh_check grid.now m n tolerances triangles.now flipped.now }
+) -> Result<Grid<'a>, Refusal>
+    ensures check { tested result ≡ mesh_check points.now m n tolerances triangles.now flipped.now }
+    ensures grid { IfOk result (λ g. (g.points.now ≡ points.now) × (g.cells ≡ cells m n)) }
 {
     if !grid::steps_fit(m, n) {
-        return Check::Failed(Refusal::Steps);
+        return Err(Refusal::Steps);
     }
     let room = lent::check_room(6 * (m * n), triangles.len(), 2 * (m + n), flipped.len());
-    grid::check_grid(grid, m, n, tolerances.check().and_then(room))
+    grid::check_grid(points, m, n, tolerances.check().and(room))
 }
 
-// The seam of columns 0 and M, and that of rows 0 and N (Rules 4.1), each at its tolerance.
-fn find_seams(grid: &[f64], m: usize, n: usize, tolerances: Tolerances) -> Seams
-    requires { Accepted grid.now m n }
-    ensures { (result.u ≡ u_search grid.now m n tolerances.u)
-        × (result.v ≡ v_search grid.now m n tolerances.v) }
-{
-    let u = cyclic::seam::search_rows(grid, 0, grid, m * (n + 1), 1, n, tolerances.u);
-    let v = cyclic::seam::search_rows(grid, 0, grid, n, n + 1, m, tolerances.v);
-    Seams { u, v }
-}
-
-// The triangles and flipped pairs that two seams make, and zero past them.
+// The triangles and flipped pairs of a surface, and zero past them. The lists are two, as the open calls have them.
 pub fn triangulate(surface: Surface, triangles: &mut [usize], flipped: &mut [usize]) -> MeshCounts
-    requires bounded { Bounded surface }
-    requires n_in_bounds { (6 * (surface.m * surface.n) ≤ length triangles.old)
-        × (2 * (surface.m + surface.n) ≤ length flipped.old) }
+    requires triangle_room { 6 * (surface.m * surface.n) ≤ length triangles.old }
+    requires pair_room { 2 * (surface.m + surface.n) ≤ length flipped.old }
     ensures { afterwards result (mesh_lists triangles.new flipped.new)
         ≡ written (shape_of surface) (mesh_lists triangles.old flipped.old) }
 {
     let mut starts = [0usize; 256];
-    let count = triangles::build_triangles(surface, triangles, &mut starts);
-    let pairs = flipped::find_flipped(surface, &starts, flipped);
-    lent::zero_numbers(triangles, 3 * count);
-    lent::zero_numbers(flipped, 2 * pairs);
+    let count = surface.build_triangles(triangles, &mut starts);
+    let rows = RowStarts {
+        surface,
+        starts: &starts,
+    };
+    let pairs = rows.find_flipped(flipped);
+    triangles[3 * count..].fill(0);
+    flipped[2 * pairs..].fill(0);
     MeshCounts {
         triangles: count,
         pairs,
@@ -89,39 +81,36 @@ pub fn triangulate(surface: Surface, triangles: &mut [usize], flipped: &mut [usi
 }
 
 // The triangles and flipped pairs of a grid of m by n steps into the two lists, for the seams that are found in it at
-// the tolerances. That of lines is tested and not used.
+// the tolerances. That of lines is tested and not used. It is not the two calls in turn, since these go through the
+// coordinates twice (docs/DECISIONS.md).
+// The clause surface stands on each open call, as a project rule has it.
+#[tactic(auto, unfolding(crate::specs::Mesh::triangulate_grid))]
 pub fn triangulate_grid(
-    grid: &[f64],
+    points: &[f64],
     m: usize,
     n: usize,
     tolerances: Tolerances,
     triangles: &mut [usize],
     flipped: &mut [usize],
-) -> Triangulation
-    ensures handed { afterwards (stated_triangulation result) (mesh_lists triangles.new flipped.new)
-        ≡ triangulate_grid grid.now m n tolerances
+) -> Result<Meshed, Refusal>
+    ensures handed { afterwards (stated result) (mesh_lists triangles.new flipped.new)
+        ≡ triangulate_grid points.now m n tolerances
         (mesh_lists triangles.old flipped.old) }
-    ensures surface { SurfaceMeets grid.now m n }
+    ensures surface { SurfaceMeets points.now m n }
 {
-    match check_mesh(grid, m, n, tolerances, triangles, flipped) {
-        Check::Failed(k) => Triangulation::Refused(k),
-        Check::Passed => {
-            let seams = find_seams(grid, m, n, tolerances);
-            let u = seams.u;
-            let v = seams.v;
-            let u_seam = u.seam;
-            let v_seam = v.seam;
-            let counts = triangulate(
-                Surface {
-                    m,
-                    n,
-                    u: u_seam,
-                    v: v_seam,
-                },
-                triangles,
-                flipped,
-            );
-            Triangulation::Triangulated(u, v, counts.triangles, counts.pairs)
-        }
-    }
+    let grid = check_mesh(points, m, n, tolerances, triangles, flipped)?;
+    let seams = grid_seams::search_grid(&grid, tolerances);
+    let surface = Surface {
+        m,
+        n,
+        u: seams.u.seam,
+        v: seams.v.seam,
+    };
+    let counts = triangulate(surface, triangles, flipped);
+    Ok(Meshed {
+        u: seams.u,
+        v: seams.v,
+        triangles: counts.triangles,
+        pairs: counts.pairs,
+    })
 }

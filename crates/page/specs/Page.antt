@@ -2,16 +2,16 @@
 -- only, pushes and flushes as the code does them: points are written in place, pending ones after the kept ones, and a
 -- flush moves a count. Drawing.antt and Trace.antt of `trace` say the same without lists, for the open call;
 -- proofs/Agree.antt there shows that they agree.
-use Rattle.std.specs.Prelude.{Bool, ◌&&◌, cond, List, map, ℕ, ◌+◌, ◌-◌, ◌*◌, ◌/◌, ◌≤◌, min, ltb, leb, length, set, Float}
+use Rattle.std.specs.Prelude.{Bool, ◌&&◌, cond, List, map}
+use Rattle.std.specs.Prelude.{ℕ, ◌+◌, ◌-◌, ◌*◌, ◌/◌, ◌≤◌, min, ltb, leb, length, set, Float}
 use Rattle.refusal.specs.declared.Refusal.TheVariants.{Full}
-use Rattle.lent.specs.Lent.{Afterwards, afterwards}
+use Rattle.float.specs.Consts.{zero64}
+use Rattle.lent.specs.Lent.{zeroed_from}
 use Rattle.vector.specs.Vectors.{all_close}
 use Rattle.grid.specs.Grid.{point_at}
 use Rattle.crossing.specs.declared.Crossing.{Crossing}
 use Rattle.page.specs.declared.TracedPoint.{TracedPoint}
 use Rattle.page.specs.declared.Pen.{Pen}
-use Rattle.page.specs.declared.Penned.{Penned}
-use Rattle.page.specs.declared.Penned.TheVariants.{Down, Stop}
 use Rattle.page.specs.Moves.{Move, map_move, Outcome, on, off, run}
 
 -- ---- Rules 8.1: the lent lists of a trace
@@ -95,7 +95,8 @@ written c g = page (write_at g.pen.count c g.lists) (pen_at (g.pen.count + 1) g.
 
 -- Rules 7.3, 7.4, `push_segment_point`: a point that is close to the last pending one is left out; 12 if a list is full
 unfoldable pub push_page : Float → TracedPoint → Page → Outcome Page
-push_page tolerance c g = cond (close_to_pending tolerance c g) (on g) (cond (has_room g) (on (written c g)) (off Full g))
+push_page tolerance c g =
+    cond (close_to_pending tolerance c g) (on g) (cond (has_room g) (on (written c g)) (off Full g))
 
 -- the pending line is kept
 unfoldable pub kept : Page → Page
@@ -122,12 +123,19 @@ flush_unless inside g = cond inside (on g) (flush_page g)
 abbrev pub on_page : Float → List (Move TracedPoint) → Page → Outcome Page
 on_page tolerance = run (push_page tolerance) flush_page
 
--- ---- what a function says of it: its answer, and the lists afterwards
+-- ---- what a sheet keeps, and what it is left to do after the walk
 
-abbrev pub page_after : Outcome Page → Afterwards Penned Lists
-page_after (on g) = afterwards (Down g.pen) g.lists
-page_after (off k g) = afterwards (Stop k) g.lists
+-- the points written so far stand in their lists, the pending ones last, and the kept lines in theirs
+abbrev pub PenFits : Lists → Pen → Type 0
+PenFits l pen =
+    (pen.start ≤ pen.count) × (3 * pen.count ≤ length l.points) × (pen.lines ≤ length l.starts)
+    × (2 * pen.count ≤ length l.sides) × (pen.count ≤ length l.fractions) × (pen.count ≤ length l.samples)
 
--- the points written so far stand in their list, the pending ones last: so much every move keeps
-abbrev pub PenFits : List Float → Pen → Type 0
-PenFits points pen = (pen.start ≤ pen.count) × (3 * pen.count ≤ length points)
+-- every place past those points and lines is made zero
+abbrev pub zeroed_past : Page → Page
+zeroed_past g =
+    page
+    (lists (zeroed_from zero64 (3 * g.pen.count) g.lists.points) (zeroed_from 0 g.pen.lines g.lists.starts)
+    (zeroed_from 0 (2 * g.pen.count) g.lists.sides) (zeroed_from zero64 g.pen.count g.lists.fractions)
+    (zeroed_from 0 g.pen.count g.lists.samples))
+    g.pen

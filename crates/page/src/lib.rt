@@ -1,10 +1,8 @@
 // The lent lists as the walk fills them (Rules 7.3 to 7.5): points in place, pending ones after the kept ones.
 #![tactic(auto)]
 
-ghost use Rattle.std.specs.Prelude.{◌≡◌, List, ℕ, ◌+◌, ◌*◌, ◌≤◌, length};
-ghost use Rattle.lent.specs.Lent.{afterwards};
-ghost use Rattle.page.specs.Page.{Lists, lists, write_at, with_starts, page, push_page, flush_page, flush_unless};
-ghost use Rattle.page.specs.Page.{page_after, PenFits};
+ghost use Rattle.std.specs.Prelude.{◌≡◌, IsTrue};
+ghost use Rattle.page.specs.Page.{lists, PenFits};
 
 use crossing::Crossing;
 use refusal::Refusal;
@@ -17,125 +15,163 @@ pub struct TracedPoint {
 }
 
 // The points written so far, where the pending line starts among them, and the lines kept.
-#[derive(Clone, Copy)]
+#[derive(Clone, Copy, Default)]
 pub struct Pen {
     pub count: usize,
     pub start: usize,
     pub lines: usize,
 }
 
-// The walk goes on, or a refusal ends it.
-#[derive(Clone, Copy)]
-pub enum Penned {
-    Down(Pen),
-    Stop(Refusal),
+// The lent lists of a trace, and where the pen stands in them.
+#[derive(Drop)]
+pub struct Sheet<'a> {
+    pub points: &'a mut [f64],
+    pub starts: &'a mut [usize],
+    pub sides: &'a mut [usize],
+    pub fractions: &'a mut [f64],
+    pub samples: &'a mut [usize],
+    pub pen: Pen,
+    pub ghost pen_fits: { PenFits (lists points.now starts.now sides.now fractions.now samples.now) pen },
 }
 
-// A point at place i of each list.
-fn write_at(
-    points: &mut [f64],
-    sides: &mut [usize],
-    fractions: &mut [f64],
-    samples: &mut [usize],
-    i: usize,
-    c: TracedPoint,
-)
-    requires { (3 * i + 3 ≤ length points.old) × (2 * i + 2 ≤ length sides.old)
-        × (i + 1 ≤ length fractions.old) × (i + 1 ≤ length samples.old) }
-    ensures { (starts : List ℕ) →
-        lists points.new starts sides.new fractions.new samples.new
-        ≡ write_at i c
-        (lists points.old starts sides.old fractions.old samples.old) }
-{
-    let crossing = c.crossing;
-    points[3 * i] = crossing.point.x;
-    points[3 * i + 1] = crossing.point.y;
-    points[3 * i + 2] = crossing.point.z;
-    sides[2 * i] = crossing.p;
-    sides[2 * i + 1] = crossing.q;
-    fractions[i] = crossing.t;
-    samples[i] = c.sample;
-}
+// Each method says `same_lists`: its contract is all that tells a caller that the lists are the same.
+impl<'a> Sheet<'a> {
+    ghost use Rattle.page.specs.Page.{pen_at, page, has_room, close_to_pending, written, push_page, flush_page};
+    ghost use Rattle.page.specs.Page.{flush_unless, zeroed_past};
+    ghost use Rattle.page.specs.Sheets.{page_of, outcome_of, same_lists};
 
-// One more pending point, unless it is close to the last one by the tolerance. The starts, which it leaves alone, are
-// any.
-pub fn push_segment_point(
-    points: &mut [f64],
-    sides: &mut [usize],
-    fractions: &mut [f64],
-    samples: &mut [usize],
-    pen: Pen,
-    c: TracedPoint,
-    tolerance: f64,
-) -> Penned
-    requires { PenFits points.old pen }
-    ensures { (starts : List ℕ) → afterwards result
-        (lists points.new starts sides.new fractions.new samples.new)
-        ≡ page_after (push_page tolerance c (page
-        (lists points.old starts sides.old fractions.old samples.old)
-        pen)) }
-{
-    let count = pen.count;
-    if pen.start < count {
-        if grid::point_at(points, count - 1).all_close(c.crossing.point, tolerance) {
-            return Penned::Down(pen);
+    // The pen at the start of the lists.
+    pub fn new(
+        points: &'a mut [f64],
+        starts: &'a mut [usize],
+        sides: &'a mut [usize],
+        fractions: &'a mut [f64],
+        samples: &'a mut [usize],
+    ) -> Sheet<'a>
+        ensures same { (result.points.ghost_name ≡ points.entry.ghost_name)
+            × (result.starts.ghost_name ≡ starts.entry.ghost_name)
+            × (result.sides.ghost_name ≡ sides.entry.ghost_name)
+            × (result.fractions.ghost_name ≡ fractions.entry.ghost_name)
+            × (result.samples.ghost_name ≡ samples.entry.ghost_name) }
+        ensures page { page_of result
+            ≡ page (lists points.old starts.old sides.old fractions.old samples.old) (pen_at 0 0 0) }
+    {
+        Sheet {
+            points,
+            starts,
+            sides,
+            fractions,
+            samples,
+            pen: Pen::default(),
         }
     }
-    if points.len() / 3 <= count {
-        return Penned::Stop(Refusal::Full);
-    }
-    if sides.len() / 2 <= count {
-        return Penned::Stop(Refusal::Full);
-    }
-    if fractions.len() <= count {
-        return Penned::Stop(Refusal::Full);
-    }
-    if samples.len() <= count {
-        return Penned::Stop(Refusal::Full);
-    }
-    write_at(points, sides, fractions, samples, count, c);
-    Penned::Down(Pen {
-        count: count + 1,
-        start: pen.start,
-        lines: pen.lines,
-    })
-}
 
-// The pending line is kept, or goes if it has fewer than two points. The lists that it leaves alone are any.
-pub fn flush_segment(starts: &mut [usize], pen: Pen) -> Penned
-    requires { pen.start ≤ pen.count }
-    ensures { (l : Lists) → afterwards result (with_starts starts.new l)
-        ≡ page_after (flush_page (page (with_starts starts.old l) pen)) }
-{
-    let count = pen.count;
-    let start = pen.start;
-    let lines = pen.lines;
-    if count - start < 2 {
-        return Penned::Down(Pen {
-            count: start,
+    // The pen at the start of the lists again.
+    pub fn restart(&mut self)
+        ensures same { same_lists self.old self.new }
+        ensures page { page_of self.new ≡ page (page_of self.old).lists (pen_at 0 0 0) }
+    {
+        self.pen = Pen::default();
+    }
+
+    // Whether each list has a place for one point more.
+    fn has_room(&self) -> bool
+        ensures { result ≡ has_room (page_of self.now) }
+    {
+        let count = self.pen.count;
+        count < self.points.len() / 3
+            && count < self.sides.len() / 2
+            && count < self.fractions.len()
+            && count < self.samples.len()
+    }
+
+    // Whether there is a pending point, and the last one is close to c by the tolerance.
+    fn close_to_pending(&self, c: TracedPoint, tolerance: f64) -> bool
+        ensures { result ≡ close_to_pending tolerance c (page_of self.now) }
+    {
+        let Pen { count, start, .. } = self.pen;
+        start < count
+            && grid::point_at(self.points, count - 1).all_close(c.crossing.point, tolerance)
+    }
+
+    // One more pending point.
+    #[tactic(auto, unfolding(crate::specs::Page::written))]
+    fn write(&mut self, c: TracedPoint)
+        requires { IsTrue (has_room (page_of self.old)) }
+        ensures same { same_lists self.old self.new }
+        ensures page { page_of self.new ≡ written c (page_of self.old) }
+    {
+        let i = self.pen.count;
+        let Crossing { p, q, t, point } = c.crossing;
+        self.points[3 * i] = point.x;
+        self.points[3 * i + 1] = point.y;
+        self.points[3 * i + 2] = point.z;
+        self.sides[2 * i] = p;
+        self.sides[2 * i + 1] = q;
+        self.fractions[i] = t;
+        self.samples[i] = c.sample;
+        self.pen.count += 1;
+    }
+
+    // One more pending point, unless it is close to the last one by the tolerance.
+    #[tactic(auto, unfolding(crate::specs::Page::push_page))]
+    pub fn push_segment_point(&mut self, c: TracedPoint, tolerance: f64) -> Result<(), Refusal>
+        ensures same { same_lists self.old self.new }
+        ensures page { outcome_of result self.new ≡ push_page tolerance c (page_of self.old) }
+    {
+        if self.close_to_pending(c, tolerance) {
+            return Ok(());
+        }
+        if !self.has_room() {
+            return Err(Refusal::Full);
+        }
+        self.write(c);
+        Ok(())
+    }
+
+    // The pending line is kept, or goes if it has fewer than two points.
+    #[tactic(auto, unfolding(crate::specs::Page::flush_page, crate::specs::Page::kept, crate::specs::Page::dropped))]
+    pub fn flush_segment(&mut self) -> Result<(), Refusal>
+        ensures same { same_lists self.old self.new }
+        ensures page { outcome_of result self.new ≡ flush_page (page_of self.old) }
+    {
+        let Pen {
+            count,
             start,
             lines,
-        });
+        } = self.pen;
+        if count - start < 2 {
+            self.pen.count = start;
+            return Ok(());
+        }
+        if self.starts.len() <= lines {
+            return Err(Refusal::Full);
+        }
+        self.starts[lines] = start;
+        self.pen.start = count;
+        self.pen.lines += 1;
+        Ok(())
     }
-    if starts.len() <= lines {
-        return Penned::Stop(Refusal::Full);
-    }
-    starts[lines] = start;
-    Penned::Down(Pen {
-        count,
-        start: count,
-        lines: lines + 1,
-    })
-}
 
-// The same, unless the leg is inside the grid: there the line goes on.
-pub fn flush_unless(inside: bool, starts: &mut [usize], pen: Pen) -> Penned
-    requires { pen.start ≤ pen.count }
-    ensures { (l : Lists) → afterwards result (with_starts starts.new l)
-        ≡ page_after (flush_unless inside (page (with_starts starts.old l) pen)) }
-{
-    if inside {
-        return Penned::Down(pen);
+    // The same, unless the leg is inside the grid: there the line goes on.
+    // With the flag, as both its callers have it: else each of them would make the same test.
+    pub fn flush_unless(&mut self, inside: bool) -> Result<(), Refusal>
+        ensures same { same_lists self.old self.new }
+        ensures page { outcome_of result self.new ≡ flush_unless inside (page_of self.old) }
+    {
+        if inside { Ok(()) } else { self.flush_segment() }
     }
-    flush_segment(starts, pen)
+
+    // Every place past the points and the lines so far is made zero.
+    pub fn zero_rest(&mut self)
+        ensures same { same_lists self.old self.new }
+        ensures page { page_of self.new ≡ zeroed_past (page_of self.old) }
+    {
+        let Pen { count, lines, .. } = self.pen;
+        self.points[3 * count..].fill(0.0);
+        self.starts[lines..].fill(0);
+        self.sides[2 * count..].fill(0);
+        self.fractions[count..].fill(0.0);
+        self.samples[count..].fill(0);
+    }
 }

@@ -35,6 +35,10 @@ lerp a b t = param (towards a.u b.u t) (towards a.v b.v t)
 abbrev pub leg_at : Leg → Float → ParamPoint
 leg_at l t = lerp l.a l.b t
 
+abbrev pub other : Axis → Axis
+other AxisU = AxisV
+other AxisV = AxisU
+
 -- the coordinate on an axis, and the one on the other axis
 abbrev pub along : Axis → ParamPoint → Float
 along AxisU p = p.u

@@ -2,7 +2,7 @@
 #![tactic(auto)]
 
 ghost use Rattle.std.specs.Prelude.{◌≡◌};
-ghost use Rattle.param.specs.Param.{lerp, along, across, leg_at, steps_on, steps_off, within, param_in_bounds};
+ghost use Rattle.param.specs.Param.{lerp, other, along, across, leg_at, steps_on, steps_off, within, param_in_bounds};
 
 use float::cast::to_f64;
 use float::consts::EPS;
@@ -16,6 +16,7 @@ pub struct ParamPoint {
 }
 
 // What lies between two points that follow each other in the samples, straight from a to b (Rules 6.1).
+// Cells and a leg go side by side: of a struct of both each use would be a name longer.
 #[derive(Clone, Copy)]
 pub struct Leg {
     pub a: ParamPoint,
@@ -23,6 +24,7 @@ pub struct Leg {
 }
 
 // The cells that a leg runs across: m steps in u, n in v.
+// No bound in them: all that make cells would have to show it, where three functions of `edges` ask for it.
 #[derive(Clone, Copy)]
 pub struct Cells {
     pub m: usize,
@@ -36,6 +38,17 @@ pub enum Axis {
     AxisV,
 }
 
+impl Axis {
+    pub fn other(self) -> Axis
+        ensures { result ≡ other self }
+    {
+        match self {
+            Axis::AxisU => Axis::AxisV,
+            Axis::AxisV => Axis::AxisU,
+        }
+    }
+}
+
 impl ParamPoint {
     pub fn lerp(self, other: ParamPoint, t: f64) -> ParamPoint
         ensures { result ≡ lerp self other t }
@@ -47,6 +60,7 @@ impl ParamPoint {
     }
 
     // The coordinate on an axis.
+    // Here and in `steps_on`: as one generic pair the fields would lose their names.
     pub fn along(self, axis: Axis) -> f64
         ensures { result ≡ along axis self }
     {
@@ -60,10 +74,7 @@ impl ParamPoint {
     pub fn across(self, axis: Axis) -> f64
         ensures { result ≡ across axis self }
     {
-        match axis {
-            Axis::AxisU => self.v,
-            Axis::AxisV => self.u,
-        }
+        self.along(axis.other())
     }
 }
 
@@ -72,8 +83,7 @@ impl Leg {
     pub fn at(self, lambda: f64) -> ParamPoint
         ensures { result ≡ leg_at self lambda }
     {
-        let a = self.a;
-        a.lerp(self.b, lambda)
+        self.a.lerp(self.b, lambda)
     }
 }
 
@@ -92,14 +102,12 @@ impl Cells {
     pub fn steps_off(self, axis: Axis) -> usize
         ensures { result ≡ steps_off axis self }
     {
-        match axis {
-            Axis::AxisU => self.n,
-            Axis::AxisV => self.m,
-        }
+        self.steps_on(axis.other())
     }
 }
 
 // From -EPS to top + EPS: never so for a NaN.
+#[tactic(auto, unfolding(crate::specs::Param::within, float::specs::Consts::eps))]
 pub fn within(x: f64, top: f64) -> bool
     ensures { result ≡ within x top }
 {
@@ -107,6 +115,8 @@ pub fn within(x: f64, top: f64) -> bool
 }
 
 // Within EPS of the grid (Rules 6.2).
+// Of cells and a point, each a value of its own: a method of either would say the same.
+#[tactic(auto, unfolding(crate::specs::Param::param_in_bounds))]
 pub fn param_in_bounds(cells: Cells, point: ParamPoint) -> bool
     ensures { result ≡ param_in_bounds cells point }
 {

@@ -1,87 +1,84 @@
--- The lines of a grid are runs, since grid points that follow each other along u have numbers N+1 apart and along v one
--- apart; so what the loops store is what `grid_paths` says.
-use Prim.Native.Nat.{ℕ, zero, suc, ◌+◌, ◌*◌, ◌≤◌}
-use native.Mathlib.Nat.{suc-mul, zero-add}
+-- The lines of a grid, as the loops write them: how long they are, where they start, and what their points are in the
+-- grid's list.
+use Prim.Native.Nat.{ℕ, zero, suc, ◌+◌, ◌-◌, ◌*◌, ◌≤◌, ◌<◌}
+use native.Mathlib.Nat.{suc-mul}
 use native.Mathlib.Omega.{arith}
-use mathlib.Core.Path.{◌≡◌, refl, ◌∙◌}
-use mathlib.Core.List.{List, [], ◌∷◌, ◌++◌, map, flatten}
-use lib.Ieee.{Float}
-use lib.ListN.{length, length-append}
-use lib.Seq.{sets, length-sets}
-use Rattle.basics.proofs.Lists.{take_sets}
+use native.Mathlib.Numerals.{add-one}
+use mathlib.Core.Path.{◌≡◌, refl, sym, ap, ◌∙◌}
+use mathlib.Core.List.{List, [], ◌∷◌, ◌++◌, map, flatten, append_assoc, append-nil}
+use lib.Ieee.{Float, nan}
+use lib.ListN.{length, take, drop, replicate, length-append}
+use lib.Seq.{take-add, take_all}
+use Rattle.std.specs.List.{range_with_len}
+use Rattle.std.proofs.lemmas.List.{drop_more, drop-drop}
+use Rattle.std.proofs.lemmas.List.FromFn.{length-map-range_with_len, map-range_with_len_more}
 use Rattle.float.specs.Consts.{zero64}
-use Rattle.lent.specs.Lent.{filled, zeroed_from}
-use Rattle.lent.proofs.Laws.{zeroed_filled}
+use Rattle.lent.specs.Lent.{filled}
 use Rattle.vector.specs.declared.Vector.{Vector}
-use Rattle.grid.specs.Grid.{point_number, point_at}
-use Rattle.path.specs.GridPaths.{counting, along_u, along_v, grid_lines, coordinates, starts_from}
-use Rattle.path.specs.Runs.{run, runs, spaced}
-use Rattle.path.proofs.Stores.{sets_append, length_coordinates, coordinates_append, flatten_append}
-use Rattle.path.proofs.Stores.{length_flatten_runs, length_run, length_spaced}
+use Rattle.grid.specs.Grid.{point_at}
+use Rattle.path.specs.GridPaths.{up_to, along_u, along_v, grid_lines, coordinates, starts_from}
 
--- A line is a run
+-- Joined lists
 
--- points whose numbers are a stride apart are a run
-module _ (g : List Float) (number : ℕ → ℕ) (stride : ℕ) (next : (k : ℕ) → number (suc k) ≡ number k + stride) where
-  points_run : (k c : ℕ) → map (λ (i : ℕ). point_at g (number i)) (counting k c) ≡ run g (number k) stride c
-  unfolding counting run
-  points_run k zero = refl
-  points_run k (suc c) = rw (points_run (suc k) c, next k)
+pub flatten_append : {A : Type 0} (xs ys : List (List A)) → flatten (xs ++ ys) ≡ flatten xs ++ flatten ys
+unfolding flatten
+flatten_append [] ys = refl
+flatten_append (x ∷ xs) ys = rw (flatten_append xs ys) (sym (append_assoc x (flatten xs) (flatten ys)))
 
--- lines that are runs, and whose first numbers are apart from each other, are runs one after the other
-module _ (g : List Float) (line : ℕ → List Vector) (number : ℕ → ℕ) (apart stride count : ℕ)
-    (each : (k : ℕ) → line k ≡ run g (number k) stride count) (next : (k : ℕ) → number (suc k) ≡ number k + apart) where
-  lines_runs : (k c : ℕ) → map line (counting k c) ≡ runs g (number k) apart stride count c
-  unfolding counting runs
-  lines_runs k zero = refl
-  lines_runs k (suc c) = rw (lines_runs (suc k) c, each k, next k)
+flatten_one : {A : Type 0} (x : List A) → flatten (x ∷ []) ≡ x
+unfolding flatten
+flatten_one x = append-nil x
 
-along_u_lem : (g : List Float) (m n v : ℕ) → along_u g m n v ≡ run g v (n + 1) (m + 1)
+pub coordinates_append : (ps qs : List Vector) → coordinates (ps ++ qs) ≡ coordinates ps ++ coordinates qs
+unfolding coordinates
+coordinates_append [] qs = refl
+coordinates_append (p ∷ ps) qs = rw (coordinates_append ps qs)
+
+-- one point more, and one line more
+pub point_more : (f : ℕ → Vector) (c : ℕ) →
+    coordinates (map f (range_with_len 0 (c + 1)))
+    ≡ coordinates (map f (range_with_len 0 c)) ++ coordinates (f c ∷ [])
+point_more f c =
+    ap coordinates (map-range_with_len_more f 0 c c (omega arith)) ∙ coordinates_append _ (f c ∷ [])
+
+pub line_more : (f : ℕ → List Vector) (c : ℕ) →
+    coordinates (flatten (map f (range_with_len 0 (c + 1))))
+    ≡ coordinates (flatten (map f (range_with_len 0 c))) ++ coordinates (f c)
+line_more f c =
+    ap (λ (ls : List (List Vector)). coordinates (flatten ls)) (map-range_with_len_more f 0 c c (omega arith))
+    ∙ rw (flatten_append, coordinates_append, flatten_one)
+
+-- Lengths
+
+pub length_coordinates : (ps : List Vector) → length (coordinates ps) ≡ 3 * length ps
+unfolding coordinates
+length_coordinates [] = refl
+length_coordinates (p ∷ ps) = omega (arith, length_coordinates ps)
+
+pub length_along_u : (g : List Float) (m n v : ℕ) → length (along_u g m n v) ≡ m + 1
 unfolding along_u
-along_u_lem g m n v =
-    let first : point_number n 0 v ≡ v = omega arith in
-    let count : suc m ≡ m + 1 = omega arith in
-    rw (
-      points_run g (λ (u : ℕ). point_number n u v) (n + 1) (λ k. omega (arith, suc-mul k (n + 1))) 0
-          (suc m),
-      first,
-      count,
-    )
+length_along_u g m n v = length-map-range_with_len _ 0 (m + 1)
 
-along_v_lem : (g : List Float) (m n u : ℕ) → along_v g m n u ≡ run g (u * (n + 1)) 1 (n + 1)
+pub length_along_v : (g : List Float) (m n u : ℕ) → length (along_v g m n u) ≡ n + 1
 unfolding along_v
-along_v_lem g m n u =
-    let first : point_number n u 0 ≡ u * (n + 1) = omega arith in
-    let count : suc n ≡ n + 1 = omega arith in
-    rw (points_run g (point_number n u) 1 (λ k. omega arith) 0 (suc n), first, count)
+length_along_v g m n u = length-map-range_with_len _ 0 (n + 1)
 
-pub grid_lines_lem : (g : List Float) (m n : ℕ) →
-    grid_lines g m n ≡ runs g 0 1 (n + 1) (m + 1) (n + 1) ++ runs g 0 (n + 1) 1 (n + 1) (m + 1)
-unfolding grid_lines
-grid_lines_lem g m n =
-    let m_one : suc m ≡ m + 1 = omega arith in
-    let n_one : suc n ≡ n + 1 = omega arith in
-    let z : 0 * (n + 1) ≡ 0 = omega arith in
-    let us =
-    lines_runs g (along_u g m n) (λ (v : ℕ). v) 1 (n + 1) (m + 1) (along_u_lem g m n) (λ k. omega arith) 0 (suc n) in
-    let vs =
-    lines_runs g (along_v g m n) (λ (u : ℕ). u * (n + 1)) (n + 1) 1 (n + 1) (along_v_lem g m n)
-    (λ k. suc-mul k (n + 1)) 0 (suc m) in
-    rw (us, vs, m_one, n_one, z)
+-- lines that are all as long
+module _ (line : ℕ → List Vector) (w : ℕ) (each : (k : ℕ) → length (line k) ≡ w) where
+  pub length_lines : (k c : ℕ) → length (flatten (map line (range_with_len k c))) ≡ c * w
+  unfolding flatten
+  length_lines k zero = omega arith
+  length_lines k (suc c) =
+      length-append (line k) (flatten (map line (range_with_len (k + 1) c)))
+      ∙ omega (arith, each k, length_lines (k + 1) c, suc-mul c w)
 
--- Lists that are drawn one after the other
-
--- two lists stored one after the other, and zero past them
-two_filled : {A : Type 0} (z : A) (l vs ws : List A) (j k : ℕ) → length vs ≡ j →
-    length vs + length ws ≡ k → k ≤ length l →
-    {p q r : List A} → p ≡ sets l 0 vs → q ≡ sets p j ws → r ≡ zeroed_from z k q → r ≡ filled z (vs ++ ws) l
-two_filled z l vs ws j k a b h ep eq er =
-    let n : length (vs ++ ws) ≡ k = length-append vs ws ∙ b in
-    let i : 0 + length vs ≡ j = omega arith in
-    let s : sets (sets l 0 vs) j ws ≡ sets l 0 (vs ++ ws) = rw (sets_append, i) in
-    let front = rw (zero-add (length (vs ++ ws))) at (take_sets (vs ++ ws) l 0 (omega arith)) in
-    rw (er, eq, ep, s, ← n)
-    (zeroed_filled z (vs ++ ws) (sets l 0 (vs ++ ws)) l (length-sets l 0 (vs ++ ws)) front)
+  pub starts_lines : (first at k c : ℕ) → at ≡ first + k * w →
+      starts_from at (map line (range_with_len k c)) ≡ map (λ (j : ℕ). first + j * w) (range_with_len k c)
+  unfolding starts_from
+  starts_lines first at k zero e = refl
+  starts_lines first at k (suc c) e =
+      let next : at + length (line k) ≡ first + (k + 1) * w = omega (arith, each k) in
+      rw (starts_lines first (at + length (line k)) (k + 1) c next, e)
 
 -- Starts
 
@@ -94,42 +91,92 @@ starts_append at (x ∷ xs) ys =
     omega (arith, length-append x (flatten xs)) in
     rw (starts_append (at + length x) xs ys, e)
 
-starts_runs : (g : List Float) (at first apart stride count lines : ℕ) →
-    starts_from at (runs g first apart stride count lines) ≡ spaced at count lines
-unfolding starts_from runs spaced
-starts_runs g at first apart stride count zero = refl
-starts_runs g at first apart stride count (suc l) =
-    rw (length_run g first stride count, starts_runs g (at + count) (first + apart) apart stride count l)
-
 pub grid_starts : (g : List Float) (m n : ℕ) →
-    starts_from 0 (grid_lines g m n) ≡ spaced 0 (m + 1) (n + 1) ++ spaced ((m + 1) * (n + 1)) (n + 1) (m + 1)
+    starts_from 0 (grid_lines g m n)
+    ≡ map (λ (k : ℕ). 0 + k * (m + 1)) (up_to n) ++ map (λ (k : ℕ). (m + 1) * (n + 1) + k * (n + 1)) (up_to m)
+unfolding grid_lines
 grid_starts g m n =
-    let e : 0 + length (flatten (runs g 0 1 (n + 1) (m + 1) (n + 1))) ≡ (m + 1) * (n + 1) =
-    omega (arith, length_flatten_runs g 0 1 (n + 1) (m + 1) (n + 1)) in
-    rw (grid_lines_lem, starts_append, e) (simp starts_runs)
+    let e : 0 + length (flatten (map (along_u g m n) (up_to n))) ≡ (m + 1) * (n + 1) + 0 * (n + 1) =
+    omega (arith, length_lines (along_u g m n) (m + 1) (length_along_u g m n) 0 (n + 1)) in
+    starts_append 0 (map (along_u g m n) (up_to n)) (map (along_v g m n) (up_to m))
+    ∙ rw (
+      starts_lines (along_u g m n) (m + 1) (length_along_u g m n) 0 0 0 (n + 1) (omega arith),
+      starts_lines (along_v g m n) (n + 1) (length_along_v g m n) ((m + 1) * (n + 1)) _ 0 (m + 1) e,
+    )
+
+-- Points, as they stand in the grid's list
+
+-- point number i is the three numbers there
+pub point_part : (g : List Float) (i : ℕ) → 3 * i + 3 ≤ length g →
+    take 3 (drop (3 * i) g) ≡ coordinates (point_at g i ∷ [])
+unfolding coordinates point_at
+point_part g i h =
+    let x : 3 * i < length g = omega arith in
+    let y : 3 * i + 1 < length g = omega arith in
+    let z : 3 * i + 2 < length g = omega arith in
+    let two : 3 * i + 1 + 1 ≡ 3 * i + 2 = omega arith in
+    rw (drop_more g (3 * i) nan, drop_more g (3 * i + 1) nan, two, drop_more g (3 * i + 2) nan)
+
+-- points that follow each other
+points_part : (g : List Float) (k c : ℕ) → 3 * (k + c) ≤ length g →
+    coordinates (map (λ (v : ℕ). point_at g (k + v)) (range_with_len 0 c)) ≡ take (3 * c) (drop (3 * k) g)
+unfolding coordinates
+points_part g k zero h = refl
+points_part g k (suc c) h =
+    let f : ℕ → Vector = λ (v : ℕ). point_at g (k + v) in
+    let a : 3 * k + 3 * c ≡ 3 * (k + c) = omega arith in
+    let b : 3 * suc c ≡ 3 * c + 3 = omega arith in
+    (rw add-one at (point_more f c))
+    ∙ rw (
+      points_part g k c (omega arith),
+      ← point_part g (k + c) (omega arith),
+      b,
+      take-add (3 * c) 3 (drop (3 * k) g),
+      drop-drop (3 * c) (3 * k) g,
+      a,
+    )
+
+line_part : (g : List Float) (m n u : ℕ) → 3 * (u * (n + 1) + (n + 1)) ≤ length g →
+    coordinates (along_v g m n u) ≡ take (3 * (n + 1)) (drop (3 * (u * (n + 1))) g)
+unfolding along_v
+line_part g m n u h = points_part g (u * (n + 1)) (n + 1) h
+
+-- the lines along v, u by u, are the points in their order
+lines_part : (g : List Float) (m n c : ℕ) → 3 * (c * (n + 1)) ≤ length g →
+    coordinates (flatten (map (along_v g m n) (range_with_len 0 c))) ≡ take (3 * (c * (n + 1))) g
+unfolding coordinates flatten
+lines_part g m n zero h = let none : 3 * (0 * (n + 1)) ≡ 0 = omega arith in rw none
+lines_part g m n (suc c) h =
+    let next : 3 * (suc c * (n + 1)) ≡ 3 * (c * (n + 1)) + 3 * (n + 1) = omega (arith, suc-mul c (n + 1)) in
+    (rw add-one at (line_more (along_v g m n) c))
+    ∙ rw (lines_part g m n c (omega arith), line_part g m n c (omega arith), next, take-add)
+
+pub along_v_all : (g : List Float) (m n : ℕ) → length g ≡ 3 * ((m + 1) * (n + 1)) →
+    coordinates (flatten (map (along_v g m n) (up_to m))) ≡ g
+along_v_all g m n h = lines_part g m n (m + 1) (omega arith) ∙ take_all (3 * ((m + 1) * (n + 1))) g (omega arith)
 
 -- What the two drawing functions leave
 
-pub starts_drawn : (m n : ℕ) (l : List ℕ) → m + n + 2 ≤ length l →
-    {p q r : List ℕ} → p ≡ sets l 0 (spaced 0 (m + 1) (n + 1)) → q
-    ≡ sets p (n + 1) (spaced ((m + 1) * (n + 1)) (n + 1) (m + 1)) → r ≡ zeroed_from 0 (m + 1 + (n + 1)) q →
-    r ≡ filled 0 (spaced 0 (m + 1) (n + 1) ++ spaced ((m + 1) * (n + 1)) (n + 1) (m + 1)) l
-starts_drawn m n l h =
-    let us : List ℕ = spaced 0 (m + 1) (n + 1) in
-    let vs : List ℕ = spaced ((m + 1) * (n + 1)) (n + 1) (m + 1) in
-    two_filled 0 l us vs (n + 1) (m + 1 + (n + 1)) (length_spaced 0 (m + 1) (n + 1))
-    (simp length_spaced (omega arith)) (omega arith)
+-- two lists one after the other, and zero past them
+filled_by : {A : Type 0} (z : A) (xs ys zs l : List A) (k : ℕ) → length xs + (length ys + k) ≡ length l →
+    zs ≡ replicate k z → xs ++ (ys ++ zs) ≡ filled z (xs ++ ys) l
+filled_by z xs ys zs l k e h =
+    let left : length l - length (xs ++ ys) ≡ k = omega (arith, length-append xs ys) in
+    rw (h, left, append_assoc)
 
-pub points_drawn : (g : List Float) (m n : ℕ) (l : List Float) → 6 * ((m + 1) * (n + 1)) ≤ length l →
-    {p q r : List Float} → p ≡ sets l 0 (coordinates (flatten (runs g 0 1 (n + 1) (m + 1) (n + 1)))) →
-    q ≡ sets p (3 * ((m + 1) * (n + 1))) (coordinates (flatten (runs g 0 (n + 1) 1 (n + 1) (m + 1)))) →
-    r ≡ zeroed_from zero64 (2 * (3 * ((m + 1) * (n + 1)))) q → r
-    ≡ filled zero64 (coordinates (flatten (grid_lines g m n))) l
-points_drawn g m n l h ep eq er =
-    let us : List Float = coordinates (flatten (runs g 0 1 (n + 1) (m + 1) (n + 1))) in
-    let vs : List Float = coordinates (flatten (runs g 0 (n + 1) 1 (n + 1) (m + 1))) in
-    let half : ℕ = 3 * ((m + 1) * (n + 1)) in
-    let a : length us ≡ half = simp (length_coordinates, length_flatten_runs) (omega arith) in
-    let b : length vs ≡ half = simp (length_coordinates, length_flatten_runs) (omega arith) in
-    rw (grid_lines_lem, flatten_append, coordinates_append)
-    (two_filled zero64 l us vs half (2 * half) a (omega arith) (omega arith) ep eq er)
+pub points_drawn : (g : List Float) (m n : ℕ) (l us vs rest : List Float) (k : ℕ) →
+    us ≡ coordinates (flatten (map (along_u g m n) (up_to n))) → vs ≡ g → length g ≡ 3 * ((m + 1) * (n + 1)) →
+    rest ≡ replicate k zero64 → length us + (length vs + k) ≡ length l →
+    us ++ (vs ++ rest) ≡ filled zero64 (coordinates (flatten (grid_lines g m n))) l
+unfolding grid_lines
+points_drawn g m n l us vs rest k eu ev size er e =
+    filled_by zero64 us vs rest l k e er
+    ∙ rw (flatten_append, coordinates_append, along_v_all g m n size, eu, ev)
+
+pub starts_drawn : (g : List Float) (m n : ℕ) (l us vs rest : List ℕ) (i j k : ℕ) →
+    us ≡ map (λ (i : ℕ). 0 + i * (m + 1)) (range_with_len 0 i) → i ≡ n + 1 →
+    vs ≡ map (λ (i : ℕ). (m + 1) * (n + 1) + i * (n + 1)) (range_with_len 0 j) → j ≡ m + 1 →
+    rest ≡ replicate k 0 → length us + (length vs + k) ≡ length l →
+    us ++ (vs ++ rest) ≡ filled 0 (starts_from 0 (grid_lines g m n)) l
+starts_drawn g m n l us vs rest i j k eu ei ev ej er e =
+    filled_by 0 us vs rest l k e er ∙ rw (grid_starts, eu, ev, ei, ej)

@@ -11,15 +11,16 @@ use lib.Ieee.{Float}
 use lib.ListN.{length, get_or, take, drop, replicate, length-append, length-replicate, take-append-drop, get_or-append}
 use lib.Seq.{take-suc, take_all, take_at, drop-append-add, get_or-append-add}
 use borrow.Author.Tests.{ltb-true, ltb-false}
+use Rattle.std.proofs.lemmas.List.FromFn.{length-map-range_with_len, get_or-map-range_with_len}
 use Rattle.float.specs.Consts.{zero64}
-use Rattle.refusal.specs.declared.Check.TheVariants.{Passed}
+use Rattle.refusal.specs.Refusals.{passed}
 use Rattle.lent.specs.Lent.{filled}
 use Rattle.vector.specs.declared.Vector.{Vector}
-use Rattle.path.specs.GridPaths.{counting, along_u, along_v, grid_lines, coordinates, starts_from, point_count}
+use Rattle.path.specs.GridPaths.{up_to, along_u, along_v, grid_lines, coordinates, starts_from, point_count}
 use Rattle.path.specs.GridPaths.{line_count, paths_check, PathLists, grid_paths}
 use Rattle.path.specs.Line.{line_start, line_end, part_of, line_at}
-use Rattle.path.proofs.Stores.{length_coordinates, coordinates_append, flatten_append, length_flatten_runs}
-use Rattle.path.proofs.Lines.{grid_lines_lem}
+use Rattle.path.proofs.Lines.{coordinates_append, flatten_append, length_coordinates}
+use Rattle.path.proofs.Lines.{length_along_u, length_along_v, length_lines}
 use Rattle.path.proofs.Checks.{passed_room}
 use Rattle.path.proofs.There.{There, span_there}
 
@@ -42,7 +43,8 @@ unfolding starts_from
 length_starts at [] = refl
 length_starts at (l ∷ ls) = ap suc (length_starts (at + length l) ls)
 
-start_is : (at : ℕ) (ls : List (List Vector)) (k : ℕ) → k < length ls → get_or (starts_from at ls) k 0 ≡ at + before ls k
+start_is : (at : ℕ) (ls : List (List Vector)) (k : ℕ) → k < length ls →
+    get_or (starts_from at ls) k 0 ≡ at + before ls k
 unfolding starts_from flatten
 start_is at [] k h = absurd (omega arith)
 start_is at (l ∷ ls) zero h = omega arith
@@ -112,52 +114,45 @@ module _ (ls : List (List Vector)) (points : List Float) (starts : List ℕ)
 
   -- line k read back
   pub line_read : (k : ℕ) → k < length ls →
-      line_at (filled zero64 (coordinates (flatten ls)) points) (filled 0 (starts_from 0 ls) starts) (length (flatten ls))
-      (length ls) k ≡ coordinates (get_or ls k [])
+      line_at (filled zero64 (coordinates (flatten ls)) points) (filled 0 (starts_from 0 ls) starts)
+      (length (flatten ls)) (length ls) k ≡ coordinates (get_or ls k [])
   unfolding line_at drawn_points drawn_starts
   line_read k h =
-      let w : 3 * (before ls k + length (get_or ls k [])) - 3 * before ls k ≡ 3 * length (get_or ls k []) = omega arith in
+      let w : 3 * (before ls k + length (get_or ls k [])) - 3 * before ls k ≡ 3 * length (get_or ls k []) =
+      omega arith in
       ap (part_of drawn_points) (span_there drawn_points drawn_starts (length (flatten ls)) (length ls) k (there k h))
       ∙ rw (start_at k h, end_at k h, w)
       (part_is_line ls k (replicate (length points - length (coordinates (flatten ls))) zero64) h)
 
 -- The lines of a grid
 
-get_d_counting : {A : Type 0} (f : ℕ → A) (d : A) (a c k : ℕ) → k < c → get_or (map f (counting a c)) k d ≡ f (a + k)
-unfolding counting
-get_d_counting f d a zero k h = absurd (omega arith)
-get_d_counting f d a (suc c) zero h = let e : a + 0 ≡ a = omega arith in rw e
-get_d_counting f d a (suc c) (suc k) h =
-    let e : suc a + k ≡ a + suc k = omega arith in get_d_counting f d (suc a) c k (omega arith) ∙ ap f e
-
-length_counting : {A : Type 0} (f : ℕ → A) (a c : ℕ) → length (map f (counting a c)) ≡ c
-unfolding counting
-length_counting f a zero = refl
-length_counting f a (suc c) = ap suc (length_counting f (suc a) c)
-
 pub line_count_lem : (g : List Float) (m n : ℕ) → length (grid_lines g m n) ≡ line_count m n
 unfolding grid_lines
-line_count_lem g m n = simp (length-append, length_counting) (omega arith)
+line_count_lem g m n = simp (length-append, length-map-range_with_len) (omega arith)
 
 pub point_count_lem : (g : List Float) (m n : ℕ) → length (flatten (grid_lines g m n)) ≡ point_count m n
-point_count_lem g m n = simp (grid_lines_lem, flatten_append, length-append, length_flatten_runs) (omega arith)
+unfolding grid_lines
+point_count_lem g m n =
+    simp (flatten_append, length-append)
+    (omega (
+      arith,
+      length_lines (along_u g m n) (m + 1) (length_along_u g m n) 0 (n + 1),
+      length_lines (along_v g m n) (n + 1) (length_along_v g m n) 0 (m + 1),
+    ))
 
 line_u : (g : List Float) (m n v : ℕ) → v ≤ n → get_or (grid_lines g m n) v [] ≡ along_u g m n v
 unfolding grid_lines
 line_u g m n v h =
-    let below : v < suc n = omega arith in
-    let first : v < length (map (along_u g m n) (counting 0 (suc n))) = simp length_counting below in
-    let z : 0 + v ≡ v = omega arith in
-    rw (get_or-append, get_d_counting, z)
+    let below : v < n + 1 = omega arith in
+    let first : v < length (map (along_u g m n) (up_to n)) = simp length-map-range_with_len below in
+    rw get_or-append (get_or-map-range_with_len (along_u g m n) 0 (n + 1) v v [] below (omega arith))
 
 line_v : (g : List Float) (m n u : ℕ) → u ≤ m → get_or (grid_lines g m n) (n + 1 + u) [] ≡ along_v g m n u
 unfolding grid_lines
 line_v g m n u h =
-    let below : u < suc m = omega arith in
-    let e : n + 1 + u ≡ length (map (along_u g m n) (counting 0 (suc n))) + u =
-    omega (arith, length_counting (along_u g m n) 0 (suc n)) in
-    let z : 0 + u ≡ u = omega arith in
-    rw (e, get_or-append-add, get_d_counting, z)
+    let e : n + 1 + u ≡ length (map (along_u g m n) (up_to n)) + u =
+    omega (arith, length-map-range_with_len (along_u g m n) 0 (n + 1)) in
+    rw (e, get_or-append-add) (get_or-map-range_with_len (along_v g m n) 0 (m + 1) u u [] (omega arith) (omega arith))
 
 -- line number k of what a call leaves in its lists
 abbrev pub line_of : List Float → ℕ → ℕ → PathLists → ℕ → List Float
@@ -171,14 +166,14 @@ pub record ReadBack (g : List Float) (m n : ℕ) (lent : PathLists) : Type 0 whe
   pub along_v_lem : (u : ℕ) → u ≤ m → line_of g m n lent (n + 1 + u) ≡ coordinates (along_v g m n u)
 
 module _ (g : List Float) (m n : ℕ) (lent : PathLists)
-    (passed : paths_check g m n lent.points lent.starts ≡ Passed) where
+    (passes : paths_check g m n lent.points lent.starts ≡ passed) where
   line_of_lem : (k : ℕ) → k < line_count m n → line_of g m n lent k ≡ coordinates (get_or (grid_lines g m n) k [])
   unfolding grid_paths
   line_of_lem k h =
-      let r = passed_room g m n lent.points lent.starts passed in
+      let r = passed_room g m n lent.points lent.starts passes in
       let p = point_count_lem g m n in
       let l = line_count_lem g m n in
-      rw (passed, ← p, ← l)
+      rw (passes, ← p, ← l)
       (line_read (grid_lines g m n) lent.points lent.starts (omega arith) (omega arith) k (omega arith))
 
   pub read_back : ReadBack g m n lent

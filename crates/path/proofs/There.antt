@@ -1,4 +1,5 @@
--- When a line is there, as facts: `line_span` answers by the test, and these turn the test into its five facts and back.
+-- When a line is there, as facts: `line_span` answers by the test, and these turn the test into its five facts and
+-- back.
 use Prim.Native.Nat.{ℕ, ◌*◌, ◌≤◌, ◌<◌}
 use native.Mathlib.Omega.{arith}
 use mathlib.Core.Path.{◌≡◌, refl, sym, ap, ◌∙◌}
@@ -9,10 +10,11 @@ use lib.Ieee.{Float}
 use lib.ListN.{length}
 use borrow.Author.Tests.{ltb-true, leb-true, lt-ltb, le-leb}
 use Rattle.basics.proofs.Tests.{and_both}
-use Rattle.refusal.specs.Refusals.{ok, refused}
-use Rattle.path.specs.declared.LineAnswer.{LineAnswer}
-use Rattle.path.specs.declared.LineAnswer.TheVariants.{Span}
-use Rattle.path.specs.Line.{Ends, line_start, line_end, is_there, line_span, part_of, line_at, stated_line}
+use Rattle.std.specs.Prelude.{Result, Ok}
+use Rattle.refusal.specs.declared.Refusal.{Refusal}
+use Rattle.refusal.specs.Refusals.{ok, refused, stated}
+use Rattle.path.specs.declared.Span.{Span}
+use Rattle.path.specs.Line.{line_start, line_end, is_there, line_span, part_of, line_at}
 
 pub record There (points : List Float) (starts : List ℕ) (point_count line_count index : ℕ) : Type 0 where
   pub below : index < line_count
@@ -22,10 +24,11 @@ pub record There (points : List Float) (starts : List ℕ) (point_count line_cou
   pub within : line_end starts point_count line_count index ≤ point_count
 
 module _ (points : List Float) (starts : List ℕ) (point_count line_count index : ℕ) where
-  abbrev ends : Ends
+  abbrev ends : Span
   ends = record { start = line_start starts index; end = line_end starts point_count line_count index }
 
-  is_there_lem : There points starts point_count line_count index → is_there points starts point_count line_count index ≡ true
+  is_there_lem : There points starts point_count line_count index →
+      is_there points starts point_count line_count index ≡ true
   unfolding is_there
   is_there_lem t =
       rw (
@@ -55,23 +58,14 @@ module _ (points : List Float) (starts : List ℕ) (point_count line_count index
         within = leb-true _ _ o.1;
       }
 
-  -- the span of a line that is there, and 8 for one that is not
+  -- the span of a line that is there
   pub span_there : There points starts point_count line_count index →
       line_span points starts point_count line_count index ≡ ok ends
   unfolding line_span
   span_there t = rw (is_there_lem t)
 
-  pub span_not : (There points starts point_count line_count index → ⊥) →
-      line_span points starts point_count line_count index ≡ refused 8
-  unfolding line_span
-  span_not f = go (is_there points starts point_count line_count index) refl
-    where
-      go : (t : Bool) → is_there points starts point_count line_count index ≡ t → cond t (ok ends) (refused 8) ≡ refused 8
-      go true e = absurd (f (there e))
-      go false e = refl
-
   -- an answer that is no refusal is of a line that is there
-  pub span_ok : {e : Ends} → ok e ≡ line_span points starts point_count line_count index →
+  pub span_ok : {e : Span} → ok e ≡ line_span points starts point_count line_count index →
       There points starts point_count line_count index
   unfolding line_span
   span_ok {e} h = go (is_there points starts point_count line_count index) refl h
@@ -82,19 +76,18 @@ module _ (points : List Float) (starts : List ℕ) (point_count line_count index
       go false q h = let z : ◌≡◌ {A = ℕ} 0 1 = cc in absurd (omega arith)
 
   -- where a line lies whose ends were answered
-  pub span_bounds : {r : LineAnswer} {s e : ℕ} → r ≡ Span s e →
-      stated_line r ≡ line_span points starts point_count line_count index → (s ≤ e) × (3 * e ≤ length points)
-  span_bounds {r} {s} {e} i h =
-      let answered : ok (record { start = s; end = e }) ≡ line_span points starts point_count line_count index =
-      ap stated_line (sym i) ∙ h in
+  pub span_bounds : {r : Result Span Refusal} {e : Span} → r ≡ Ok e →
+      stated r ≡ line_span points starts point_count line_count index → (e.start ≤ e.end) × (3 * e.end ≤ length points)
+  span_bounds {r} {e} i h =
+      let answered : ok e ≡ line_span points starts point_count line_count index = ap stated (sym i) ∙ h in
       let t = span_ok answered in
-      let same : record { start = s; end = e } ≡ ends = cc (span_there t) in
-      let a : s ≡ line_start starts index = ap (λ (x : Ends). x.start) same in
-      let b : e ≡ line_end starts point_count line_count index = ap (λ (x : Ends). x.end) same in
+      let same : e ≡ ends = cc (span_there t) in
+      let a : e.start ≡ line_start starts index = ap (λ (x : Span). x.start) same in
+      let b : e.end ≡ line_end starts point_count line_count index = ap (λ (x : Span). x.end) same in
       (omega arith, omega arith)
 
   -- the part that an answer gives
-  pub part_is : {r q : LineAnswer} → r ≡ q → stated_line r ≡ line_span points starts point_count line_count index →
-      part_of points (stated_line q) ≡ line_at points starts point_count line_count index
+  pub part_is : {r q : Result Span Refusal} → r ≡ q → stated r ≡ line_span points starts point_count line_count index →
+      part_of points (stated q) ≡ line_at points starts point_count line_count index
   unfolding line_at
   part_is i h = rw (← i, h)

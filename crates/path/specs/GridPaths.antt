@@ -1,22 +1,17 @@
 -- Rules 9.1: the grid lines, the lists and counts that `grid_paths` leaves, and its refusals.
-use Rattle.std.specs.Prelude.{ℕ, zero, suc, ◌+◌, ◌*◌, length, Float}
+use Rattle.std.specs.Prelude.{ℕ, ◌+◌, ◌*◌, length, Float}
+use Rattle.std.specs.List.{range_with_len}
 use mathlib.Core.List.{List, [], ◌∷◌, ◌++◌, map, flatten}
 use Rattle.float.specs.Consts.{zero64}
-use Rattle.refusal.specs.declared.Check.{Check}
-use Rattle.refusal.specs.Refusals.{Answer, ok, refused, number_of}
-use Rattle.lent.specs.Lent.{room_check, filled, Afterwards, afterwards, if_passed, Counts, counts}
+use Rattle.refusal.specs.Refusals.{Check, Answer, ok}
+use Rattle.lent.specs.declared.Counts.{Counts}
+use Rattle.lent.specs.Lent.{room_check, filled, Afterwards, afterwards, if_passed, counts}
 use Rattle.vector.specs.declared.Vector.{Vector}
 use Rattle.grid.specs.Grid.{point_number, point_at, grid_check}
-use Rattle.path.specs.declared.GridPathsAnswer.{GridPathsAnswer}
-use Rattle.path.specs.declared.GridPathsAnswer.TheVariants.{Drawn, Refused}
 
--- numbers one after the other: a count of them from k on, and those from 0 to n
-unfoldable pub counting : ℕ → ℕ → List ℕ
-counting k zero = []
-counting k (suc c) = k ∷ counting (suc k) c
-
+-- the numbers from 0 to n
 abbrev pub up_to : ℕ → List ℕ
-up_to n = counting 0 (suc n)
+up_to n = range_with_len 0 (n + 1)
 
 -- the line along u at v: grid points (0, v) to (M, v)
 unfoldable pub along_u : List Float → ℕ → ℕ → ℕ → List Vector
@@ -72,8 +67,3 @@ unfoldable pub grid_paths : List Float → ℕ → ℕ → PathLists → Afterwa
 grid_paths g m n lent =
     if_passed (paths_check g m n lent.points lent.starts) lent
     (afterwards (ok (counts (point_count m n) (line_count m n))) (drawn_into lent g m n))
-
--- the values or the number that each answer of the code stands for
-abbrev pub stated_paths : GridPathsAnswer → Answer Counts
-stated_paths (Drawn p l) = ok (counts p l)
-stated_paths (Refused k) = refused (number_of k)

@@ -1,4 +1,3 @@
--- Open calls cite GridPaths (`grid_paths`) and Line (`line_span`, `get`). Runs serves inner contracts only.
+-- Open calls cite GridPaths (`grid_paths`) and Line (`line_span`, `get`).
 pub mod GridPaths
 pub mod Line
-pub mod Runs

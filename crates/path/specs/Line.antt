@@ -2,8 +2,7 @@
 use Rattle.std.specs.Prelude.{ℕ, ◌+◌, ◌-◌, ◌*◌, Bool, ◌&&◌, cond, List, [], leb, ltb, length, get_or, take, drop, Float}
 use Rattle.refusal.specs.declared.Refusal.TheVariants.{NotThere}
 use Rattle.refusal.specs.Refusals.{Answer, ok, refused, number_of}
-use Rattle.path.specs.declared.LineAnswer.{LineAnswer}
-use Rattle.path.specs.declared.LineAnswer.TheVariants.{Span, Refused}
+use Rattle.path.specs.declared.Span.{Span}
 
 -- where it starts
 abbrev pub line_start : List ℕ → ℕ → ℕ
@@ -11,7 +10,8 @@ line_start starts index = get_or starts index 0
 
 -- where it ends: at the start of the one after it, and the last at the point count
 unfoldable pub line_end : List ℕ → ℕ → ℕ → ℕ → ℕ
-line_end starts point_count line_count index = cond (ltb (index + 1) line_count) (line_start starts (index + 1)) point_count
+line_end starts point_count line_count index =
+    cond (ltb (index + 1) line_count) (line_start starts (index + 1)) point_count
 
 -- there is such a line: it is among those counted, each list holds what is counted in it, and start ≤ end ≤ point count
 unfoldable pub is_there : List Float → List ℕ → ℕ → ℕ → ℕ → Bool
@@ -21,28 +21,19 @@ is_there points starts point_count line_count index =
     && (leb (line_start starts index) (line_end starts point_count line_count index)
     && leb (line_end starts point_count line_count index) point_count))
 
--- the point numbers at which a line starts and ends
-pub record Ends : Type 0 where
-  pub start : ℕ
-  pub end : ℕ
-
 -- the open call `line_span`: start and end, or 8 where there is no such line
-unfoldable pub line_span : List Float → List ℕ → ℕ → ℕ → ℕ → Answer Ends
+unfoldable pub line_span : List Float → List ℕ → ℕ → ℕ → ℕ → Answer Span
 line_span points starts point_count line_count index =
     cond (is_there points starts point_count line_count index)
     (ok (record { start = line_start starts index; end = line_end starts point_count line_count index }))
     (refused (number_of NotThere))
 
 -- the part of the points from start to end, three numbers to a point; the empty part for a refusal
-abbrev pub part_of : List Float → Answer Ends → List Float
+abbrev pub part_of : List Float → Answer Span → List Float
 part_of points (ok e) = take (3 * e.end - 3 * e.start) (drop (3 * e.start) points)
 part_of points (refused k) = []
 
 -- the open call `get`: the line's part of the points
 unfoldable pub line_at : List Float → List ℕ → ℕ → ℕ → ℕ → List Float
-line_at points starts point_count line_count index = part_of points (line_span points starts point_count line_count index)
-
--- the values or the number that each answer of the code stands for
-abbrev pub stated_line : LineAnswer → Answer Ends
-stated_line (Span s e) = ok (record { start = s; end = e })
-stated_line (Refused k) = refused (number_of k)
+line_at points starts point_count line_count index =
+    part_of points (line_span points starts point_count line_count index)

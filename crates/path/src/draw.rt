@@ -1,152 +1,75 @@
-// Rules 9.1: what `grid_paths` writes. A grid line is a run: points whose numbers are `stride` apart. The lines of one
-// kind are runs of `count` points each whose first numbers are `apart` apart, so that u and v share the loops.
-ghost use Rattle.std.specs.Prelude.{◌≡◌, ◌+◌, ◌*◌, ◌≤◌, length};
-ghost use mathlib.Core.List.{[], ◌∷◌, ◌++◌, flatten};
-ghost use Rattle.std.proofs.lemmas.List.Edits.{sets};
+// Rules 9.1: what `grid_paths` writes.
+#![tactic(auto)]
+
+ghost use Rattle.std.specs.Prelude.{◌≡◌, ◌+◌, ◌*◌, ◌≤◌, length, map};
+ghost use Rattle.std.specs.List.{range_with_len};
+ghost use mathlib.Core.List.{flatten};
 ghost use Rattle.float.specs.Consts.{zero64};
 ghost use Rattle.lent.specs.Lent.{filled};
-ghost use Rattle.path.specs.GridPaths.{grid_lines, coordinates};
-ghost use Rattle.path.specs.Runs.{run, runs, spaced};
+ghost use Rattle.path.specs.GridPaths.{up_to, along_u, grid_lines, coordinates, starts_from};
 
-use vector::Vector;
+use grid::{Grid, point_number};
 
-// A point's coordinates, into `points` from place `at` on.
-fn put(points: &mut [f64], at: usize, p: Vector)
-    requires { at + 3 ≤ length points.old }
-    ensures { points.new ≡ sets points.old at (coordinates (p ∷ [])) }
+// The line along u at v.
+#[tactic(auto, unfolding(crate::specs::GridPaths::coordinates, crate::specs::GridPaths::along_u))]
+fn line_along_u(grid: &Grid<'_>, v: usize, line: &mut [f64])
+    requires { (v ≤ grid.now.cells.n) × (length line.old ≡ 3 * (grid.now.cells.m + 1)) }
+    ensures { line.new ≡ coordinates (along_u grid.now.points.now grid.now.cells.m grid.now.cells.n v) }
 {
-    points[at] = p.x;
-    points[at + 1] = p.y;
-    points[at + 2] = p.z;
-}
-
-// One run, into `points` from place `at` on.
-fn draw_run(grid: &[f64], first: usize, stride: usize, count: usize, points: &mut [f64], at: usize)
-    requires { (3 * (first + count * stride) + 3 ≤ length grid.now + 3 * stride) × (stride ≤ 256)
-        × (at + 3 * count ≤ length points.old) }
-    ensures { points.new ≡ sets points.old at
-        (coordinates (run grid.now first stride count)) }
-{
-    let mut number = first;
-    let mut place = at;
-    let mut left = count;
-    while 0 < left {
-        put(points, place, grid::point_at(grid, number));
-        number += stride;
-        place += 3;
-        left -= 1;
+    for u in 0..grid.cells.m + 1 {
+        let at = 3 * point_number(grid.cells.n, u, v);
+        line[3 * u..3 * u + 3].copy_from_slice(&grid.points[at..at + 3]);
     }
 }
 
-// Four runs side by side, into `points` from place `at` on: neighbouring points are read while they are in the cache.
-fn draw_four(
-    grid: &[f64],
-    first: usize,
-    apart: usize,
-    stride: usize,
-    count: usize,
-    points: &mut [f64],
-    at: usize,
-)
-    requires { (3 * (first + 3 * apart + count * stride) + 3 ≤ length grid.now + 3 * stride)
-        × (stride ≤ 256) × (apart ≤ 256) × (at + 4 * (3 * count) ≤ length points.old) }
-    ensures { points.new ≡ sets points.old at
-        (coordinates (flatten (runs grid.now first apart stride count 4))) }
+// The lines along u, v by v.
+fn lines_along_u(grid: &Grid<'_>, points: &mut [f64])
+    requires { length points.old ≡ 3 * ((grid.now.cells.m + 1) * (grid.now.cells.n + 1)) }
+    ensures { points.new ≡ coordinates (flatten
+        (map (along_u grid.now.points.now grid.now.cells.m grid.now.cells.n) (up_to grid.now.cells.n))) }
 {
-    let width = 3 * count;
-    let mut number = first;
-    let mut place = at;
-    let mut left = count;
-    while 0 < left {
-        let number1 = number + apart;
-        let number2 = number1 + apart;
-        let number3 = number2 + apart;
-        let place1 = place + width;
-        let place2 = place1 + width;
-        let place3 = place2 + width;
-        put(points, place, grid::point_at(grid, number));
-        put(points, place1, grid::point_at(grid, number1));
-        put(points, place2, grid::point_at(grid, number2));
-        put(points, place3, grid::point_at(grid, number3));
-        number += stride;
-        place += 3;
-        left -= 1;
+    let width = 3 * (grid.cells.m + 1);
+    for v in 0..grid.cells.n + 1 {
+        line_along_u(grid, v, &mut points[v * width..(v + 1) * width]);
     }
 }
 
-// Runs one after the other, into `points` from place `at` on; the first starts at point number 0.
-fn draw_runs(
-    grid: &[f64],
-    lines: usize,
-    apart: usize,
-    stride: usize,
-    count: usize,
-    points: &mut [f64],
-    at: usize,
-)
-    requires { (3 * (lines * apart + count * stride) + 3 ≤ length grid.now + 3 * stride + 3 * apart)
-        × (stride ≤ 256) × (apart ≤ 256) × (count ≤ 256) × (at + lines * (3 * count) ≤ length points.old) }
-    ensures { points.new ≡ sets points.old at
-        (coordinates (flatten (runs grid.now 0 apart stride count lines))) }
-{
-    let width = 3 * count;
-    let mut first: usize = 0;
-    let mut place = at;
-    let mut left = lines;
-    while 4 <= left {
-        draw_four(grid, first, apart, stride, count, points, place);
-        first += 4 * apart;
-        place += 4 * width;
-        left -= 4;
-    }
-    while 0 < left {
-        draw_run(grid, first, stride, count, points, place);
-        first += apart;
-        place += width;
-        left -= 1;
-    }
-}
-
-// Numbers `stride` apart, `lines` of them from `first` on, into `starts` from place `at` on.
-fn put_spaced(starts: &mut [usize], at: usize, first: usize, stride: usize, lines: usize)
-    requires { (first + lines * stride ≤ 1048576) × (at + lines ≤ length starts.old) }
-    ensures { starts.new ≡ sets starts.old at (spaced first stride lines) }
-{
-    let mut number = first;
-    let mut place = at;
-    let mut left = lines;
-    while 0 < left {
-        starts[place] = number;
-        number += stride;
-        place += 1;
-        left -= 1;
-    }
-}
-
-// The points of all lines, and zero past them.
-pub fn points(grid: &[f64], m: usize, n: usize, points: &mut [f64])
-    requires { (m ≤ 255) × (n ≤ 255) × (length grid.now ≡ 3 * ((m + 1) * (n + 1)))
-        × (6 * ((m + 1) * (n + 1)) ≤ length points.old) }
-    ensures { points.new ≡ filled zero64 (coordinates (flatten (grid_lines grid.now m n)))
+// The points of all lines, and zero past them. Those of the lines along v, u by u, are all points in their order.
+#[tactic(auto, using(crate::proofs::Lines::points_drawn))]
+pub fn points(grid: &Grid<'_>, points: &mut [f64])
+    requires { 6 * ((grid.now.cells.m + 1) * (grid.now.cells.n + 1)) ≤ length points.old }
+    ensures { points.new
+        ≡ filled zero64 (coordinates (flatten (grid_lines grid.now.points.now grid.now.cells.m grid.now.cells.n)))
         points.old }
 {
-    let us = m + 1;
-    let vs = n + 1;
-    let half = 3 * (us * vs);
-    draw_runs(grid, vs, 1, vs, us, points, 0);
-    draw_runs(grid, us, vs, 1, vs, points, half);
-    lent::zero_floats(points, 2 * half);
+    let (along_u, rest) = points.split_at_mut(grid.points.len());
+    let (along_v, rest) = rest.split_at_mut(grid.points.len());
+    lines_along_u(grid, along_u);
+    along_v.copy_from_slice(grid.points);
+    rest.fill(0.0);
+}
+
+// Numbers `stride` apart, from `first` on.
+fn put_spaced(starts: &mut [usize], first: usize, stride: usize)
+    requires { first + length starts.old * stride ≤ 1048576 }
+    ensures { starts.new ≡ map (λ k. first + k * stride) (range_with_len 0 (length starts.old)) }
+{
+    for (k, start) in starts.iter_mut().enumerate() {
+        *start = first + k * stride;
+    }
 }
 
 // The starts of all lines, and zero past them.
-pub fn starts(m: usize, n: usize, starts: &mut [usize])
-    requires { (m ≤ 255) × (n ≤ 255) × (m + n + 2 ≤ length starts.old) }
-    ensures { starts.new ≡ filled 0
-        (spaced 0 (m + 1) (n + 1) ++ spaced ((m + 1) * (n + 1)) (n + 1) (m + 1)) starts.old }
+pub fn starts(grid: &Grid<'_>, starts: &mut [usize])
+    requires { grid.now.cells.m + grid.now.cells.n + 2 ≤ length starts.old }
+    ensures { starts.new
+        ≡ filled 0 (starts_from 0 (grid_lines grid.now.points.now grid.now.cells.m grid.now.cells.n)) starts.old }
 {
-    let us = m + 1;
-    let vs = n + 1;
-    put_spaced(starts, 0, 0, us, vs);
-    put_spaced(starts, vs, us * vs, vs, us);
-    lent::zero_numbers(starts, us + vs);
+    let us = grid.cells.m + 1;
+    let vs = grid.cells.n + 1;
+    let (along_u, rest) = starts.split_at_mut(vs);
+    let (along_v, rest) = rest.split_at_mut(us);
+    put_spaced(along_u, 0, us);
+    put_spaced(along_v, us * vs, vs);
+    rest.fill(0);
 }

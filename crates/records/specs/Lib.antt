@@ -1,4 +1,2 @@
--- Records says what the contract of the open call, `trace_samples`, cites: Rules 6.1. Flattened serves inner contracts
--- only.
+-- Records says what the contract of the open call, `trace_samples`, cites: Rules 6.1.
 pub mod Records
-pub mod Flattened

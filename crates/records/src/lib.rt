@@ -2,26 +2,28 @@
 // flat trace.
 #![tactic(auto)]
 
-ghost use Rattle.std.specs.Prelude.{◌≡◌, List, length};
+ghost use Rattle.std.specs.Prelude.{◌≡◌, ◌*◌, ◌≤◌, length, take};
+ghost use Rattle.refusal.specs.Refusals.{stated};
+ghost use Rattle.lent.specs.Lent.{afterwards};
+ghost use Rattle.page.specs.Sheets.{lists_of, same_lists};
+ghost use Rattle.trace.specs.Trace.{trace_flat};
 ghost use Rattle.trace.specs.Demand.{Demand3};
 ghost use Rattle.trace.specs.Numbers.{NumbersMet};
-ghost use Rattle.lent.specs.Lent.{afterwards};
-ghost use Rattle.page.specs.Page.{lists};
-ghost use Rattle.trace.specs.Trace.{stated_trace, trace_flat};
-ghost use Rattle.records.specs.declared.Sample.{Sample as Record};
 ghost use Rattle.records.specs.Records.{pairs_of, marks_of};
-ghost use Rattle.records.specs.Flattened.{put_pair, put_mark, pairs_up_to, marks_up_to, Flattened};
 
+use lent::Counts;
+use page::Sheet;
 use param::ParamPoint;
 use refusal::Refusal;
 use tolerance::Tolerances;
-use trace::flat::{Trace, trace_flat};
+use trace::flat::trace_flat;
 use trace::samples::MAX_MARKS;
 
 // Two for each of MAX_MARKS.
 const MAX_NUMBERS: usize = 131074;
 
 // A record: the mark 1 and a point, or the mark 0 of a break, whose point is not looked at.
+// A mark beside the point and no Option: C passes it so, and a project rule names it so.
 #[repr(C)]
 #[derive(Clone, Copy)]
 pub struct Sample {
@@ -29,113 +31,56 @@ pub struct Sample {
     pub point: ParamPoint,
 }
 
-// Sample i goes to its places, if they are there.
-fn put_sample(pairs: &mut [f64; MAX_NUMBERS], marks: &mut [u8; MAX_MARKS], i: usize, sample: Sample)
-    ensures { (pairs.new ≡ put_pair pairs.old i sample)
-        × (marks.new ≡ put_mark marks.old i sample) }
+// Puts the pairs and the marks of the records at the start of two lists. A slice of structs is read here alone.
+fn flatten(records: &[Sample], pairs: &mut [f64; MAX_NUMBERS], marks: &mut [u8; MAX_MARKS])
+    requires { length records.now ≤ 65537 }
+    ensures pairs { take (2 * length records.now) pairs.new ≡ pairs_of records.now }
+    ensures marks { take (length records.now) marks.new ≡ marks_of records.now }
 {
-    if i < MAX_MARKS {
-        let point = sample.point;
-        pairs[2 * i] = point.u;
-        pairs[2 * i + 1] = point.v;
+    for (i, sample) in records.iter().enumerate() {
+        pairs[2 * i] = sample.point.u;
+        pairs[2 * i + 1] = sample.point.v;
         marks[i] = sample.mark;
     }
 }
 
-// A slice of structs is read here alone.
-fn flatten(records: &[Sample], pairs: &mut [f64; MAX_NUMBERS], marks: &mut [u8; MAX_MARKS])
-    ensures { (pairs.new
-        ≡ pairs_up_to records.now pairs.old (length records.now))
-        × (marks.new
-        ≡ marks_up_to records.now marks.old (length records.now)) }
-{
-    let mut i: usize = 0;
-    while i < records.len() {
-        let sample = records[i];
-        put_sample(pairs, marks, i, sample);
-        i += 1;
-    }
-}
-
-// The trace of `count` samples that are flattened. More of them than the lists hold are refused, as a
-// flat trace of so many marks is.
-fn trace_flattened(
-    grid: &[f64],
-    m: usize,
-    n: usize,
-    tolerances: Tolerances,
-    pairs: &[f64; MAX_NUMBERS],
-    marks: &[u8; MAX_MARKS],
-    count: usize,
-    points: &mut [f64],
-    starts: &mut [usize],
-    sides: &mut [usize],
-    fractions: &mut [f64],
-    samples: &mut [usize],
-) -> Trace
-    ensures { (ss : List Record) → length ss ≡ count → Flattened ss pairs.now marks.now →
-        afterwards (stated_trace result)
-        (lists points.new starts.new sides.new fractions.new
-        samples.new)
-        ≡ trace_flat grid.now m n tolerances (pairs_of ss) (marks_of ss)
-        (lists points.old starts.old sides.old fractions.old
-        samples.old) }
-{
-    if MAX_MARKS < count {
-        if grid::steps_fit(m, n) {
-            return Trace::Refused(Refusal::Length);
-        }
-        return Trace::Refused(Refusal::Steps);
-    }
-    let all_pairs: &[f64] = pairs;
-    let all_marks: &[u8] = marks;
-    let end = 2 * count;
-    let used_pairs = &all_pairs[..end];
-    let used_marks = &all_marks[..count];
-    trace_flat(
-        grid, m, n, tolerances, used_pairs, used_marks, points, starts, sides, fractions, samples,
-    )
-}
-
-// Traces a curve, given as records, across the cells of a grid, as `trace_flat` does with their pairs
-// and marks; the number of a sample is the index of its record.
+// Traces a curve, given as records, across the cells of a grid, as `trace_flat` does with their pairs and marks; the
+// number of a sample is the index of its record. More records than the flattened lists hold are refused, as a flat
+// trace of so many marks is.
+// The clauses demand and numbers stand on each open call, as a project rule has it.
 pub fn trace_samples(
-    grid: &[f64],
+    points: &[f64],
     m: usize,
     n: usize,
     tolerances: Tolerances,
     records: &[Sample],
-    points: &mut [f64],
-    starts: &mut [usize],
-    sides: &mut [usize],
-    fractions: &mut [f64],
-    samples: &mut [usize],
-) -> Trace
-    ensures answer { afterwards (stated_trace result)
-        (lists points.new starts.new sides.new fractions.new
-        samples.new)
-        ≡ trace_flat grid.now m n tolerances (pairs_of records.now)
-        (marks_of records.now)
-        (lists points.old starts.old sides.old fractions.old
-        samples.old) }
-    ensures demand { Demand3 grid.now m n }
-    ensures numbers { NumbersMet grid.now m n }
+    sheet: &mut Sheet<'_>,
+) -> Result<Counts, Refusal>
+    ensures same { same_lists sheet.old sheet.new }
+    ensures answer { afterwards (stated result) (lists_of sheet.new)
+        ≡ trace_flat points.now m n tolerances (pairs_of records.now) (marks_of records.now) (lists_of sheet.old) }
+    ensures demand { Demand3 points.now m n }
+    ensures numbers { NumbersMet points.now m n }
 {
+    let count = records.len();
+    if count > MAX_MARKS {
+        return if grid::steps_fit(m, n) {
+            Err(Refusal::Length)
+        } else {
+            Err(Refusal::Steps)
+        };
+    }
+    // Arrays, since there is no heap; and copied, since a project rule asks for a thin entry.
     let mut pairs = [0.0; MAX_NUMBERS];
     let mut marks = [0; MAX_MARKS];
     flatten(records, &mut pairs, &mut marks);
-    trace_flattened(
-        grid,
+    trace_flat(
+        points,
         m,
         n,
         tolerances,
-        &pairs,
-        &marks,
-        records.len(),
-        points,
-        starts,
-        sides,
-        fractions,
-        samples,
+        &pairs[..2 * count],
+        &marks[..count],
+        sheet,
     )
 }

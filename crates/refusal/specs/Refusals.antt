@@ -1,12 +1,10 @@
 -- Rules 11: the number of each refusal (11.1), what an answer is, and tests in the order of their numbers (11.2). What
 -- each refusal tests is defined with the calls that give it.
-use Rattle.std.specs.Prelude.{ℕ, Bool, true, false}
+use Rattle.std.specs.Prelude.{ℕ, Bool, true, false, Result, Ok, Err}
 use Rattle.refusal.specs.declared.Refusal.{Refusal}
 use Rattle.refusal.specs.declared.Refusal.TheVariants.{Steps, Length, Room, Coordinate, Texture, Count}
 use Rattle.refusal.specs.declared.Refusal.TheVariants.{Direction}
 use Rattle.refusal.specs.declared.Refusal.TheVariants.{NotThere, Mark, Sample, NoStep, Full, Tolerance, Mapping}
-use Rattle.refusal.specs.declared.Check.{Check}
-use Rattle.refusal.specs.declared.Check.TheVariants.{Passed, Failed}
 
 -- the number of each refusal
 abbrev pub number_of : Refusal → ℕ
@@ -54,18 +52,35 @@ abbrev pub values_or : {A : Type 0} → A → Answer A → A
 values_or z (ok a) = a
 values_or z (refused k) = z
 
+-- what a test of the input says: it passes, or a refusal applies
+abbrev pub Check : Type 0
+Check = Result Unit Refusal
+
+abbrev pub passed : Check
+passed = Ok tt
+
+-- the tests of a call that hands on what passed them
+abbrev pub tested : {A : Type 0} → Result A Refusal → Check
+tested (Ok x) = passed
+tested (Err k) = Err k
+
+-- the values or the number that each answer of the code stands for
+abbrev pub stated : {A : Type 0} → Result A Refusal → Answer A
+stated (Ok a) = ok a
+stated (Err k) = refused (number_of k)
+
 -- Rules 11.2. Tests stand in the order of the call, so the first that fails is the one given.
 -- One test: k where it does not hold, and what comes after it where it does
 abbrev pub unless : Bool → Refusal → Check → Check
 unless true k after = after
-unless false k after = Failed k
+unless false k after = Err k
 
 -- tests after each other: those that come after are due only where the first pass
 abbrev pub and_then : Check → Check → Check
-and_then Passed after = after
-and_then (Failed k) after = Failed k
+and_then (Ok u) after = after
+and_then (Err k) after = Err k
 
 -- an answer that is due only where the tests before it pass
 abbrev pub passing : {A : Type 0} → Check → Answer A → Answer A
-passing Passed a = a
-passing (Failed k) a = refused (number_of k)
+passing (Ok u) a = a
+passing (Err k) a = refused (number_of k)

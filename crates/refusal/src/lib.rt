@@ -1,10 +1,10 @@
-// Rules 11: the refusals and their numbers, once for every call.
+// Rules 11: the refusals and their numbers, once for every call. A test of the input is a `Result<(), Refusal>`.
 #![tactic(auto)]
 
 ghost use Rattle.std.specs.Prelude.{◌≡◌};
-ghost use Rattle.refusal.specs.Refusals.{number_of, and_then};
+ghost use Rattle.refusal.specs.Refusals.{number_of};
 
-#[derive(Clone, Copy)]
+#[derive(Clone, Copy, Debug, PartialEq, Eq)]
 pub enum Refusal {
     Steps,
     Length,
@@ -22,11 +22,14 @@ pub enum Refusal {
     Mapping,
 }
 
-impl Refusal {
-    pub fn number(self) -> u8
-        ensures { result ≡ number_of self }
+// Its number.
+impl From<Refusal> for u8 {
+    ghost from_gives = { λ refusal number. number ≡ number_of refusal };
+
+    fn from(refusal: Refusal) -> u8
+        ensures { result ≡ number_of refusal }
     {
-        match self {
+        match refusal {
             Refusal::Steps => 1,
             Refusal::Length => 2,
             Refusal::Room => 3,
@@ -41,25 +44,6 @@ impl Refusal {
             Refusal::Full => 12,
             Refusal::Tolerance => 13,
             Refusal::Mapping => 14,
-        }
-    }
-}
-
-// What a test of the input says: it passes, or a refusal applies.
-#[derive(Clone, Copy)]
-pub enum Check {
-    Passed,
-    Failed(Refusal),
-}
-
-impl Check {
-    // This test, and where it passes the one after it.
-    pub fn and_then(self, after: Check) -> Check
-        ensures { result ≡ and_then self after }
-    {
-        match self {
-            Check::Passed => after,
-            Check::Failed(refusal) => Check::Failed(refusal),
         }
     }
 }

@@ -16,9 +16,12 @@ const TEXT_ROOM: usize = 524288;
 // How many words they may be.
 const WORD_ROOM: usize = 65536;
 
-// Whether the library does what is recorded of a case. A case of a kind that is not there differs.
-fn agrees(case: &[u64]) -> bool {
-    match words::word(words::field(case, 0), 0) {
+// Whether the library does what is recorded of a case: not where the case, or a field of it, is not there, and not where
+// its kind is none of these. The record numbers the kinds, and they are named by the functions alone: an enum of them
+// would say each once more.
+fn agrees(words: &[u64], index: usize) -> Option<bool> {
+    let case = words::field(words, index)?;
+    match words::word(words::field(case, 0)?, 0) {
         1 => seams::new_vector(case),
         2 => seams::map_index(case),
         3 => seams::map_index_inv(case),
@@ -32,25 +35,26 @@ fn agrees(case: &[u64]) -> bool {
         11 => vectors::vector(case),
         12 => seams::find_seams(case),
         13 => meshes::triangulate_seams(case),
-        _ => false,
+        _ => None,
     }
 }
 
-// 1 where a case differs, after its number is written, and 0 where it does not.
+// 1 where a case differs, after its number is written, and 0 where it does not: a number, since these are summed.
 fn difference(rt: &impl Print, words: &[u64], index: usize) -> io::Result<usize>
     ensures { IfOk result (λ count. count ≤ 1) }
 {
-    if agrees(words::field(words, index)) {
+    if agrees(words, index) == Some(true) {
         return Ok(0);
     }
     println!(rt; "replay: differs in case {index}")?;
     Ok(1)
 }
 
-// Field 0 says how many cases there are; they follow it.
+// Field 0 says how many cases there are; they follow it. They are held to the room, not to the words that there are: a
+// case that is missing differs.
 fn replay(rt: &impl Print, words: &[u64]) -> io::Result<()> {
-    let cases = words::number(words::field(words, 0), 0);
-    if cases > words.len() {
+    let cases = words::field(words, 0).map_or(0, |said| words::number(said, 0));
+    if cases > WORD_ROOM {
         return println!(rt; "replay: the record is shorter than it says");
     }
     let mut differ = 0;
@@ -60,7 +64,8 @@ fn replay(rt: &impl Print, words: &[u64]) -> io::Result<()> {
     println!(rt; "replay: {cases} cases, {differ} differ")
 }
 
-// As much of the input as `text` has room for, and how much that is.
+// As much of the input as `text` has room for, and how much that is. std reads a list whole or a text to its end alone,
+// so that a loop goes on from what was read.
 fn read_full(reader: &mut impl Read, text: &mut [u8]) -> io::Result<usize>
     ensures { IfOk result (λ count. count ≤ length text.new) }
 {
@@ -75,22 +80,22 @@ fn read_full(reader: &mut impl Read, text: &mut [u8]) -> io::Result<usize>
     Ok(count)
 }
 
-// The record that is read into the two rooms is replayed.
+// The record that is read into the two rooms is replayed. It is given the arrays whole: where `main` cuts a slice of one
+// itself, the check goes over its places one by one, and runs out of stack.
 fn replay_input<R: Input + Print>(
     rt: &R,
     text: &mut [u8; TEXT_ROOM],
-    list: &mut [u64; WORD_ROOM],
+    words: &mut [u64; WORD_ROOM],
 ) -> io::Result<()> {
-    let room: &mut [u8] = text;
-    let length = read_full(&mut rt.reader(), room)?;
-    if !words::read_words(&room[..length], list) {
+    let length = read_full(&mut rt.reader(), text)?;
+    let Some(words) = words::read_words(&text[..length], words) else {
         return println!(rt; "replay: the record is no list of numbers, or too long");
-    }
-    replay(rt, list)
+    };
+    replay(rt, words)
 }
 
 fn main(rt: HostRuntime) -> io::Result<()> {
-    let mut text = [0u8; TEXT_ROOM];
-    let mut list = [0u64; WORD_ROOM];
-    replay_input(&rt, &mut text, &mut list)
+    let mut text = [0; TEXT_ROOM];
+    let mut words = [0; WORD_ROOM];
+    replay_input(&rt, &mut text, &mut words)
 }

@@ -1,51 +1,41 @@
 // Grid lines, and a line as a part of the points.
-use cases::lists::{read_floats, read_numbers, same_floats, same_numbers};
+use cases::answers::told;
+use cases::lists::{part, read, same};
 use cases::rooms;
-use cases::words::{field, is_refused, is_told, number};
-use path::{GridPathsAnswer, LineAnswer};
+use cases::words::{field, is_told, number};
 
-fn compare_paths(case: &[u64], grid: &mut [f64], points: &mut [f64], starts: &mut [usize]) -> bool {
-    let numbers = field(case, 0);
-    let recorded = field(case, 2);
-    let taken = read_floats(field(case, 1), grid);
-    let answer = path::grid_paths(grid, number(numbers, 2), number(numbers, 3), points, starts);
-    let told = match answer {
-        GridPathsAnswer::Drawn(drawn, lines) => is_told(recorded, drawn, lines),
-        GridPathsAnswer::Refused(refusal) => is_refused(recorded, refusal),
-    };
-    taken & told & same_floats(points, field(case, 3)) & same_numbers(starts, field(case, 4))
-}
-
-pub fn grid_paths(case: &[u64]) -> bool {
+// The part of each list that is lent for output is what the recorded list takes.
+pub fn grid_paths(case: &[u64]) -> Option<bool> {
     let mut grid = rooms::floats();
     let mut points = rooms::floats();
     let mut starts = rooms::numbers();
-    let g = rooms::of_floats(&grid, number(field(case, 1), 0));
-    let p = rooms::of_floats(&points, number(field(case, 3), 0));
-    let s = rooms::of_numbers(&starts, number(field(case, 4), 0));
-    compare_paths(case, &mut grid[..g], &mut points[..p], &mut starts[..s])
-}
-
-fn compare_line(case: &[u64], points: &mut [f64], starts: &mut [usize]) -> bool {
-    let numbers = field(case, 0);
-    let recorded = field(case, 3);
-    let taken = read_floats(field(case, 1), points) & read_numbers(field(case, 2), starts);
-    let drawn = number(numbers, 2);
-    let lines = number(numbers, 3);
-    let index = number(numbers, 4);
-    let told = match path::line_span(points, starts, drawn, lines, index) {
-        LineAnswer::Span(start, end) => is_told(recorded, start, end),
-        LineAnswer::Refused(refusal) => is_refused(recorded, refusal),
-    };
-    let part = path::get(points, starts, drawn, lines, index);
-    taken & told & same_floats(part, field(case, 4))
+    let numbers = field(case, 0)?;
+    let recorded = field(case, 2)?;
+    let grid = read(field(case, 1)?, &mut grid)?;
+    let points = part(field(case, 3)?, &mut points)?;
+    let starts = part(field(case, 4)?, &mut starts)?;
+    let answer = path::grid_paths(grid, number(numbers, 2), number(numbers, 3), points, starts);
+    let told = told(recorded, answer, |drawn| {
+        is_told(recorded, drawn.points, drawn.lines)
+    });
+    Some(told && same(points, field(case, 3)?) && same(starts, field(case, 4)?))
 }
 
 // `line_span` and `get` of one line.
-pub fn line(case: &[u64]) -> bool {
+pub fn line(case: &[u64]) -> Option<bool> {
     let mut points = rooms::floats();
     let mut starts = rooms::numbers();
-    let p = rooms::of_floats(&points, number(field(case, 1), 0));
-    let s = rooms::of_numbers(&starts, number(field(case, 2), 0));
-    compare_line(case, &mut points[..p], &mut starts[..s])
+    let numbers = field(case, 0)?;
+    let recorded = field(case, 3)?;
+    let points = read(field(case, 1)?, &mut points)?;
+    let starts = read(field(case, 2)?, &mut starts)?;
+    let drawn = number(numbers, 2);
+    let lines = number(numbers, 3);
+    let index = number(numbers, 4);
+    let answer = path::line_span(points, starts, drawn, lines, index);
+    let told = told(recorded, answer, |span| {
+        is_told(recorded, span.start, span.end)
+    });
+    let line = path::get(points, starts, drawn, lines, index);
+    Some(told && same(line, field(case, 4)?))
 }

@@ -1,122 +1,72 @@
 // Mappings, the seam search, and the seams of a grid.
-use cases::lists::read_floats;
-use cases::rooms;
-use cases::words::{field, float, is_answered, is_refused, number, tolerances, word};
-use cyclic::mapping::{CyclicMapping, MappedIndex};
-use cyclic::seam::{Seam, SeamAnswer};
-use grid_seams::GridSeams;
+use cases::answers::told;
+use cases::lists::read;
+use cases::rooms::{self, ROW_ROOM};
+use cases::words::{field, float, number, tolerances, word};
+use cyclic::mapping::CyclicMapping;
+use cyclic::seam::SeamSearch;
+use refusal::Refusal;
 
+// A mapping whose index is looked up: its direction (0 forward, any other reverse), offset and steps. The record has
+// other numbers for the directions of a seam, so that one reader of both would be no plainer.
 fn mapping(numbers: &[u64]) -> CyclicMapping {
-    let offset = number(numbers, 3);
-    let steps = number(numbers, 4);
-    if word(numbers, 2) == 0 {
-        CyclicMapping::Forward(offset, steps)
-    } else {
-        CyclicMapping::Reverse(offset, steps)
+    let (offset, steps) = (number(numbers, 3), number(numbers, 4));
+    match word(numbers, 2) {
+        0 => CyclicMapping::Forward(offset, steps),
+        _ => CyclicMapping::Reverse(offset, steps),
     }
 }
 
-fn same_index(answer: MappedIndex, recorded: &[u64]) -> bool {
-    match answer {
-        MappedIndex::Index(index) => is_answered(recorded) & (number(recorded, 1) == index),
-        MappedIndex::Refused(refusal) => is_refused(recorded, refusal),
+fn is_index(case: &[u64], answer: Result<usize, Refusal>) -> Option<bool> {
+    let recorded = field(case, 1)?;
+    Some(told(recorded, answer, |index| number(recorded, 1) == index))
+}
+
+pub fn map_index(case: &[u64]) -> Option<bool> {
+    let numbers = field(case, 0)?;
+    is_index(case, mapping(numbers).map_index(number(numbers, 5)))
+}
+
+pub fn map_index_inv(case: &[u64]) -> Option<bool> {
+    let numbers = field(case, 0)?;
+    is_index(case, mapping(numbers).map_index_inv(number(numbers, 5)))
+}
+
+// A recorded seam: its direction (0 for none, 1 forward, 2 reverse), offset and steps, both zero for none. None where
+// it is none of these.
+pub fn given_seam(words: &[u64]) -> Option<Option<CyclicMapping>> {
+    match (word(words, 0), number(words, 1), number(words, 2)) {
+        (0, 0, 0) => Some(None),
+        (1, offset, steps) => Some(Some(CyclicMapping::Forward(offset, steps))),
+        (2, offset, steps) => Some(Some(CyclicMapping::Reverse(offset, steps))),
+        _ => None,
     }
 }
 
-pub fn map_index(case: &[u64]) -> bool {
-    let numbers = field(case, 0);
-    let answer = mapping(numbers).map_index(number(numbers, 5));
-    same_index(answer, field(case, 1))
+// Whether a search is the recorded one: a seam, and the count of comparisons.
+pub fn is_seam(recorded: &[u64], search: SeamSearch) -> bool {
+    given_seam(recorded) == Some(search.seam) && word(recorded, 3) == search.comparisons
 }
 
-pub fn map_index_inv(case: &[u64]) -> bool {
-    let numbers = field(case, 0);
-    let answer = mapping(numbers).map_index_inv(number(numbers, 5));
-    same_index(answer, field(case, 1))
-}
-
-// A seam that is recorded as given: its direction (0 for none, 1 forward, 2 reverse), offset and steps.
-pub fn given_seam(words: &[u64]) -> Seam {
-    let direction = word(words, 0);
-    let offset = number(words, 1);
-    let steps = number(words, 2);
-    if direction == 0 {
-        return Seam::Unjoined;
-    }
-    if direction == 1 {
-        return Seam::Joined(CyclicMapping::Forward(offset, steps));
-    }
-    Seam::Joined(CyclicMapping::Reverse(offset, steps))
-}
-
-// Whether a recorded seam has this direction (0 where none was found, 1 forward, 2 reverse), offset, steps and count of
-// comparisons.
-fn is_seam(recorded: &[u64], direction: u64, offset: usize, steps: usize, made: u64) -> bool {
-    let found = (word(recorded, 0) == direction) & (word(recorded, 3) == made);
-    found & (number(recorded, 1) == offset) & (number(recorded, 2) == steps)
-}
-
-// Whether a seam is the recorded one.
-pub fn same_seam(recorded: &[u64], seam: Seam, comparisons: u64) -> bool {
-    match seam {
-        Seam::Joined(mapping) => match mapping {
-            CyclicMapping::Forward(offset, steps) => {
-                is_seam(recorded, 1, offset, steps, comparisons)
-            }
-            CyclicMapping::Reverse(offset, steps) => {
-                is_seam(recorded, 2, offset, steps, comparisons)
-            }
-        },
-        Seam::Unjoined => is_seam(recorded, 0, 0, 0, comparisons),
-    }
-}
-
-fn compare_rows(case: &[u64], a: &mut [f64], b: &mut [f64]) -> bool {
-    let taken = read_floats(field(case, 1), a) & read_floats(field(case, 2), b);
-    let tolerance = float(word(field(case, 0), 2));
-    let answer = field(case, 3);
-    let seam = field(case, 4);
-    let told = match CyclicMapping::new_vector(a, b, tolerance) {
-        SeamAnswer::Found(mapping, made) => {
-            is_answered(answer) & same_seam(seam, Seam::Joined(mapping), made)
-        }
-        SeamAnswer::NotFound(made) => {
-            is_answered(answer) & same_seam(seam, Seam::Unjoined, made)
-        }
-        SeamAnswer::Refused(refusal) => is_refused(answer, refusal),
-    };
-    taken & told
-}
-
-pub fn new_vector(case: &[u64]) -> bool {
-    let mut a = rooms::row();
+pub fn new_vector(case: &[u64]) -> Option<bool> {
+    let mut a = [0.0; ROW_ROOM];
     let mut b = rooms::floats();
-    let a_length = rooms::of_floats(&a, number(field(case, 1), 0));
-    let b_length = rooms::of_floats(&b, number(field(case, 2), 0));
-    compare_rows(case, &mut a[..a_length], &mut b[..b_length])
+    let a = read(field(case, 1)?, &mut a)?;
+    let b = read(field(case, 2)?, &mut b)?;
+    let tolerance = float(field(case, 0)?, 2);
+    let seam = field(case, 4)?;
+    let answer = CyclicMapping::new_vector(a, b, tolerance);
+    Some(told(field(case, 3)?, answer, |search| is_seam(seam, search)))
 }
 
-fn compare_seams(case: &[u64], grid: &mut [f64]) -> bool {
-    let numbers = field(case, 0);
-    let recorded = field(case, 2);
-    let taken = read_floats(field(case, 1), grid);
-    let m = number(numbers, 2);
-    let n = number(numbers, 3);
-    let told = match grid_seams::find_seams(grid, m, n, tolerances(numbers)) {
-        GridSeams::Found(u, v) => {
-            let u_seam = u.seam;
-            let v_seam = v.seam;
-            let seams = same_seam(field(case, 3), u_seam, u.comparisons)
-                & same_seam(field(case, 4), v_seam, v.comparisons);
-            is_answered(recorded) & seams
-        }
-        GridSeams::Refused(refusal) => is_refused(recorded, refusal),
-    };
-    taken & told
-}
-
-pub fn find_seams(case: &[u64]) -> bool {
+pub fn find_seams(case: &[u64]) -> Option<bool> {
     let mut grid = rooms::floats();
-    let g = rooms::of_floats(&grid, number(field(case, 1), 0));
-    compare_seams(case, &mut grid[..g])
+    let numbers = field(case, 0)?;
+    let grid = read(field(case, 1)?, &mut grid)?;
+    let (u, v) = (field(case, 3)?, field(case, 4)?);
+    let (m, n) = (number(numbers, 2), number(numbers, 3));
+    let answer = grid_seams::find_seams(grid, m, n, tolerances(numbers));
+    Some(told(field(case, 2)?, answer, |seams| {
+        is_seam(u, seams.u) && is_seam(v, seams.v)
+    }))
 }

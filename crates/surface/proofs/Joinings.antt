@@ -9,13 +9,12 @@ use mathlib.Core.List.{List}
 use native.Mathlib.Omega.{arith}
 use lib.Ieee.{Float}
 use Rattle.basics.proofs.Tests.{and_both}
+use Rattle.std.specs.Prelude.{Some, None}
 use Rattle.tolerance.specs.declared.Tolerances.{Tolerances}
 use Rattle.grid.proofs.Laws.{accepted_known}
 use Rattle.cyclic.specs.declared.mapping.CyclicMapping.{CyclicMapping}
 use Rattle.cyclic.specs.declared.mapping.CyclicMapping.TheVariants.{Forward, Reverse}
-use Rattle.cyclic.specs.declared.seam.Seam.{Seam}
-use Rattle.cyclic.specs.declared.seam.Seam.TheVariants.{Joined, Unjoined}
-use Rattle.cyclic.specs.Mapping.{steps_of}
+use Rattle.cyclic.specs.Mapping.{Seam, steps_of}
 use Rattle.cyclic.specs.Mapping as mapping
 use Rattle.cyclic.specs.Search.{Row, row_of, Closeness, close_at, search_rows}
 use Rattle.cyclic.specs.Fits.{seam_fits}
@@ -35,8 +34,8 @@ found_of_row : (close : Closeness) (a b : Row) (steps : ℕ) → 1 ≤ steps →
 found_of_row close a b steps h = go (search_rows close a b steps).seam refl
   where
     go : (s : Seam) → (search_rows close a b steps).seam ≡ s → Maps s steps
-    go Unjoined e = tt
-    go (Joined k) e = (found_steps close a b steps e, found_below close a b steps h e)
+    go None e = tt
+    go (Some k) e = (found_steps close a b steps e, found_below close a b steps h e)
 
 pub u_of_row : (g : List Float) (m n : ℕ) (t : Float) → 1 ≤ n → Maps (u_search g m n t).seam n
 u_of_row g m n t h = rw (u_search_lem g m n t h) (found_of_row (close_at t) (row_of g 0 1) (row_of g (m * (n + 1)) 1) n h)
@@ -56,15 +55,15 @@ at_zero (Forward o steps) e = ap forward e
 at_zero (Reverse o steps) e = absurd e
 
 pub covered : (m n : ℕ) (su sv : Seam) → Maps su n → Maps sv m → CoveredJoining su sv → Covered (surface_with m n su sv)
-covered m n Unjoined Unjoined p q c = neither refl refl
-covered m n (Joined (Forward o k)) Unjoined p q c = only_u c refl
-covered m n (Joined (Reverse o k)) Unjoined p q c = only_u c refl
-covered m n Unjoined (Joined (Forward o k)) p q c = only_v refl c
-covered m n Unjoined (Joined (Reverse o k)) p q c = only_v refl c
-covered m n (Joined j) (Joined (Forward o k)) p q (inl c) = both_v (at_zero j c.0) q.1
-covered m n (Joined j) (Joined (Reverse o k)) p q (inl c) = both_v (at_zero j c.0) (omega (arith, c.1), q.1)
-covered m n (Joined (Forward o k)) (Joined j) p q (inr c) = both_u p.1 (at_zero j c.1)
-covered m n (Joined (Reverse o k)) (Joined j) p q (inr c) = both_u (omega (arith, c.0), p.1) (at_zero j c.1)
+covered m n None None p q c = neither refl refl
+covered m n (Some (Forward o k)) None p q c = only_u c refl
+covered m n (Some (Reverse o k)) None p q c = only_u c refl
+covered m n None (Some (Forward o k)) p q c = only_v refl c
+covered m n None (Some (Reverse o k)) p q c = only_v refl c
+covered m n (Some j) (Some (Forward o k)) p q (inl c) = both_v (at_zero j c.0) q.1
+covered m n (Some j) (Some (Reverse o k)) p q (inl c) = both_v (at_zero j c.0) (omega (arith, c.1), q.1)
+covered m n (Some (Forward o k)) (Some j) p q (inr c) = both_u p.1 (at_zero j c.1)
+covered m n (Some (Reverse o k)) (Some j) p q (inr c) = both_u (omega (arith, c.0), p.1) (at_zero j c.1)
 
 -- demand 3 of the surface that two seam answers make, found or given
 pub joining_meets : (m n : ℕ) (su sv : Seam) → 1 ≤ m → 1 ≤ n → Maps su n → Maps sv m → CoveredJoining su sv →
@@ -81,8 +80,8 @@ surface_meets g m n a t c =
 -- ---- seams that fit
 
 fits_maps : (close : Closeness) (a b : Row) (steps : ℕ) (s : Seam) → seam_fits close a b steps s ≡ true → Maps s steps
-fits_maps close a b steps Unjoined h = tt
-fits_maps close a b steps (Joined k) h = let f = fits_known close a b steps k h in (f.steps, f.below)
+fits_maps close a b steps None h = tt
+fits_maps close a b steps (Some k) h = let f = fits_known close a b steps k h in (f.steps, f.below)
 
 module _ (g : List Float) (m n : ℕ) where
   -- seams that fit are mappings of their rows

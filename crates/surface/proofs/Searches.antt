@@ -8,7 +8,7 @@ use native.Mathlib.Omega.{arith}
 use lib.Ieee.{Float}
 use Rattle.tolerance.specs.declared.Tolerances.{Tolerances}
 use Rattle.grid.specs.Grid.{point_at}
-use Rattle.cyclic.specs.declared.seam.Seam.{Seam}
+use Rattle.cyclic.specs.Mapping.{Seam}
 use Rattle.cyclic.specs.Search.{Row, Closeness, close_at, row_of, search_rows, search}
 use Rattle.cyclic.specs.Fits.{seam_fits}
 use Rattle.cyclic.proofs.Rows.{long_rows}

@@ -1,14 +1,12 @@
 -- Rules 4.1 and 5.2: the seams that are found in a grid, the surface that they make of it, and whether they are a
 -- covered joining; then demand 3 of the grid's lists (Rules 5.4).
-use Rattle.std.specs.Prelude.{ℕ, ◌+◌, ◌<◌, ◌≡◌, ◌⊎◌, List, Float}
+use Rattle.std.specs.Prelude.{ℕ, ◌+◌, ◌<◌, ◌≡◌, ◌⊎◌, List, Float, Some, None}
 use Rattle.tolerance.specs.declared.Tolerances.{Tolerances}
 use Rattle.grid.specs.Grid.{point_number, point_at, Accepted}
 use Rattle.cyclic.specs.declared.mapping.CyclicMapping.{CyclicMapping}
 use Rattle.cyclic.specs.declared.mapping.CyclicMapping.TheVariants.{Forward, Reverse}
-use Rattle.cyclic.specs.declared.seam.Seam.{Seam}
-use Rattle.cyclic.specs.declared.seam.Seam.TheVariants.{Joined, Unjoined}
 use Rattle.cyclic.specs.declared.seam.SeamSearch.{SeamSearch}
-use Rattle.cyclic.specs.Mapping.{offset_of, steps_of}
+use Rattle.cyclic.specs.Mapping.{Seam, offset_of, steps_of}
 use Rattle.cyclic.specs.Search.{Row, close_at, search}
 use Rattle.surface.specs.Surface as surface
 
@@ -33,13 +31,13 @@ of_mapping (Forward o steps) = surface.forward o
 of_mapping (Reverse o steps) = surface.reverse o
 
 abbrev pub seam_of : Seam → surface.Seam
-seam_of Unjoined = surface.unjoined
-seam_of (Joined k) = of_mapping k
+seam_of None = surface.unjoined
+seam_of (Some k) = of_mapping k
 
 -- a mapping of rows of so many steps: it has their steps, and an offset below them; None is as it is
 abbrev pub Maps : Seam → ℕ → Type 0
-Maps Unjoined steps = Unit {0}
-Maps (Joined k) steps = (steps_of k ≡ steps) × (offset_of k < steps)
+Maps None steps = Unit {0}
+Maps (Some k) steps = (steps_of k ≡ steps) × (offset_of k < steps)
 
 -- the surface that two seam answers make of a grid with M and N steps
 abbrev pub surface_with : ℕ → ℕ → Seam → Seam → surface.Shape
@@ -62,10 +60,10 @@ ForwardOrOffZero (Reverse o steps) = o ≡ 0 → ⊥
 
 -- Rules 5.2: a covered joining, case by case: no seam, one of them, both
 abbrev pub CoveredJoining : Seam → Seam → Type 0
-CoveredJoining Unjoined Unjoined = Unit {0}
-CoveredJoining (Joined j) Unjoined = offset_of j ≡ 0
-CoveredJoining Unjoined (Joined k) = offset_of k ≡ 0
-CoveredJoining (Joined j) (Joined k) = (ForwardAtZero j × ForwardOrOffZero k) ⊎ (ForwardOrOffZero j × ForwardAtZero k)
+CoveredJoining None None = Unit {0}
+CoveredJoining (Some j) None = offset_of j ≡ 0
+CoveredJoining None (Some k) = offset_of k ≡ 0
+CoveredJoining (Some j) (Some k) = (ForwardAtZero j × ForwardOrOffZero k) ⊎ (ForwardOrOffZero j × ForwardAtZero k)
 
 -- the seams that are found in a grid at these tolerances are a covered joining
 abbrev pub CoveredGrid : List Float → ℕ → ℕ → Tolerances → Type 0

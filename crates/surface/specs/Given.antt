@@ -2,7 +2,7 @@
 use Rattle.std.specs.Prelude.{ℕ, ◌≡◌, Bool, true, ◌&&◌, List, Float}
 use Rattle.tolerance.specs.declared.Tolerances.{Tolerances}
 use Rattle.grid.specs.Grid.{Accepted}
-use Rattle.cyclic.specs.declared.seam.Seam.{Seam}
+use Rattle.cyclic.specs.Mapping.{Seam}
 use Rattle.cyclic.specs.Search.{close_at}
 use Rattle.cyclic.specs.Fits.{seam_fits}
 use Rattle.surface.specs.Surface.{Meets}

@@ -22,16 +22,16 @@ use Rattle.float.proofs.Larger.{larger_keeps}
 use Rattle.float.proofs.Bounds.{nat_value, nat_positive, nat_zero, nat_le, at_most_finite}
 use Rattle.float.proofs.Differences.{sub_self}
 use Rattle.float.proofs.Zeros.{zero_is, times_zero, positive_times_zero, zero_over, over_self, plus_zero}
-use Rattle.refusal.specs.declared.Check.TheVariants.{Passed}
 use Rattle.refusal.specs.declared.Refusal.TheVariants.{Direction, NotThere}
-use Rattle.refusal.specs.Refusals.{ok, unless}
+use Rattle.refusal.specs.Refusals.{passed, ok, unless}
 use Rattle.refusal.proofs.Laws.{unless_passed, answered}
 use Rattle.grid.proofs.Laws.{Stepped, steps_known}
 use Rattle.param.specs.Param.{param}
 use Rattle.param.specs.declared.ParamPoint.{ParamPoint}
 use Rattle.texture.specs.declared.plan.ParametricSurfaceTexture.{ParametricSurfaceTexture}
 use Rattle.texture.specs.declared.plan.ParametricSurfaceTexture.TheVariants.{Swirl, Spiral}
-use Rattle.texture.specs.Plan.{centre, texture_radius, plan_check, Plan, plan_of, plan}
+use Rattle.texture.specs.declared.plan.PlanCounts.{PlanCounts}
+use Rattle.texture.specs.Plan.{centre, texture_radius, plan_check, plan_of, plan}
 use Rattle.texture.specs.Sample.{distance_of, direction_fits, point_of, is_there, sample_point}
 use Rattle.texture.proofs.Plans.{checks, plan_passed, plan_ok}
 use Rattle.texture.proofs.Laws.{swirl_counts, spiral_counts}
@@ -141,12 +141,12 @@ sampled : (t : ParametricSurfaceTexture) (m n ray i : ℕ) (cosine sine : Float)
     (q ≡ point_of t m n (plan_of t m n).samples i cosine sine)
 unfolding sample_point
 sampled t m n ray i cosine sine e =
-    let there = unless (is_there (plan_of t m n) ray i) NotThere Passed in
+    let there = unless (is_there (plan_of t m n) ray i) NotThere passed in
     let after = unless (direction_fits cosine sine) Direction there in
     let a = answered (plan_check t m n after) e in
     let b = checks t m n after a.0 in (
       steps_known m n b.0,
-      sym (plan_ok t m n (sym b.0) refl (sym b.1) refl refl refl b.2 refl refl),
+      plan_ok t m n after a.0,
       (unless_passed (direction_fits cosine sine) Direction there b.3).0,
       a.1,
     )
@@ -163,13 +163,13 @@ module _ (s : Float) (m n ray : ℕ) (cosine sine : Float) {q : ParamPoint} wher
       (swirl_first s m n c k.0 (le_trans (lit≤ tt) b.samples_least) (le_trans b.samples_most (lit≤ tt)) w)
 
   -- and a spiral's end there
-  pub spiral_ends : (a : ℕ) {p : Plan} → plan (Spiral s a) m n ≡ ok p →
+  pub spiral_ends : (a : ℕ) {p : PlanCounts} → plan (Spiral s a) m n ≡ ok p →
       sample_point (Spiral s a) m n ray p.samples cosine sine ≡ ok q → q ≡ param (centre m) (centre n)
   spiral_ends a {p} h e =
       let k = sampled (Spiral s a) m n ray p.samples cosine sine e in
       let c = p.samples in
       let b = spiral_counts s a m n h in
-      let same : (plan_of (Spiral s a) m n).samples ≡ c = cc (plan_passed (Spiral s a) m n Passed (sym h)).1 in
+      let same : (plan_of (Spiral s a) m n).samples ≡ c = cc (plan_passed (Spiral s a) m n passed (sym h)).1 in
       (rw same at k.3)
       ∙ at_centre (Spiral s a) m n c c cosine sine k.0 k.2
       (spiral_last s m n c k.0 (le_trans (lit≤ tt) b.samples_least) (le_trans b.samples_most (lit≤ tt)) a)

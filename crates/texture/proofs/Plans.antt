@@ -1,62 +1,21 @@
--- `rays_of`, `samples_per_ray` and `plan` by the cases of the code, from what the calls gave.
+-- What follows a plan's own tests: what is known where all of them pass, and that its refusals come first.
 use mathlib.Core.Path.{◌≡◌, sym}
-use mathlib.Core.Bool.{Bool, true, false, ◌&&◌}
-use Prim.Native.Nat.{ℕ, max}
-use lib.Ieee.{Float, le, to_unsigned}
-use Rattle.float.specs.Cast.{nat_float}
-use Rattle.refusal.specs.declared.Check.{Check}
-use Rattle.refusal.specs.declared.Check.TheVariants.{Passed}
-use Rattle.refusal.specs.Refusals.{Answer, ok, refused, unless, passing}
+use mathlib.Core.Bool.{Bool, true, false, true≢false}
+use Prim.Native.Nat.{ℕ}
+use Rattle.std.specs.Prelude.{Err}
+use Rattle.refusal.specs.declared.Refusal.{Refusal}
+use Rattle.refusal.specs.Refusals.{Check, passed, Answer, ok, refused, number_of, unless, passing}
 use Rattle.refusal.specs.declared.Refusal.TheVariants.{Steps, Texture, Count}
 use Rattle.grid.specs.Grid.{steps_fit}
 use Rattle.refusal.proofs.Laws.{unless_passed, unless_then, answered, refused_first}
 use Rattle.texture.specs.declared.plan.ParametricSurfaceTexture.{ParametricSurfaceTexture}
-use Rattle.texture.specs.declared.plan.ParametricSurfaceTexture.TheVariants.{Swirl, Spiral}
-use Rattle.texture.specs.Plan.{texture_spacing, swirl_rays, radial_sample_count, spiral_sample_count, rays_of}
-use Rattle.texture.specs.Plan.{samples_per_ray, texture_fits, max_count, counts_fit, plan_check, Plan, plan_of, plan}
-
-module _ (m n : ℕ) {t : ParametricSurfaceTexture} {s : Float} where
-  pub rays_swirl : {w x r : Float} → t ≡ Swirl s w → x ≡ texture_spacing s → r ≡ swirl_rays m n x → r ≡ rays_of m n t
-  rays_swirl e p q = rw (e, q, p)
-
-  pub rays_spiral : {a k : ℕ} {r : Float} → t ≡ Spiral s a → k ≡ max a 1 → r ≡ nat_float k → r ≡ rays_of m n t
-  rays_spiral e p q = rw (e, q, p)
-
-  pub samples_swirl : {w x r : Float} → t ≡ Swirl s w → x ≡ texture_spacing s → r ≡ radial_sample_count m n x w →
-      r ≡ samples_per_ray m n t
-  samples_swirl e p q = rw (e, q, p)
-
-  pub samples_spiral : {a : ℕ} {x r : Float} → t ≡ Spiral s a → x ≡ texture_spacing s → r ≡ spiral_sample_count m n x →
-      r ≡ samples_per_ray m n t
-  samples_spiral e p q = rw (e, q, p)
-
--- the tests in their order, b and f being the code's
-module _ (t : ParametricSurfaceTexture) (m n : ℕ) {b : Bool} (eb : b ≡ steps_fit m n) where
-  pub plan_steps : b ≡ false → refused 1 ≡ plan t m n
-  unfolding plan plan_check
-  plan_steps h = rw (← eb, h)
-
-  module _ (h : b ≡ true) {f : Bool} (ef : f ≡ texture_fits t) where
-    pub plan_texture : f ≡ false → refused 5 ≡ plan t m n
-    unfolding plan plan_check
-    plan_texture k = rw (← eb, h, ← ef, k)
-
-    module _ (k : f ≡ true) {r s : Float} (er : r ≡ rays_of m n t) (es : s ≡ samples_per_ray m n t) where
-      pub plan_counts : le r max_count && le s max_count ≡ false → refused 6 ≡ plan t m n
-      unfolding plan plan_check
-      plan_counts l = rw (← eb, h, ← ef, k, ← er, ← es, l)
-
-      pub plan_ok : {i j : ℕ} → le r max_count && le s max_count ≡ true → i ≡ to_unsigned 64 r → j ≡ to_unsigned 64 s →
-          ok (record { rays = i; samples = j }) ≡ plan t m n
-      unfolding plan plan_check
-      plan_ok l ei ej = rw (← eb, h, ← ef, k, ← er, ← es, l, ei, ej)
-
--- ---- what follows a plan's own tests
+use Rattle.texture.specs.declared.plan.PlanCounts.{PlanCounts}
+use Rattle.texture.specs.Plan.{rays_of, samples_per_ray, texture_fits, counts_fit, plan_check, plan_of, plan}
 
 -- what is known where all tests are passed
-pub checks : (t : ParametricSurfaceTexture) (m n : ℕ) (after : Check) → plan_check t m n after ≡ Passed
+pub checks : (t : ParametricSurfaceTexture) (m n : ℕ) (after : Check) → plan_check t m n after ≡ passed
     → (steps_fit m n ≡ true) × (texture_fits t ≡ true) × (counts_fit (rays_of m n t) (samples_per_ray m n t) ≡ true) ×
-    (after ≡ Passed)
+    (after ≡ passed)
 unfolding plan_check
 checks t m n after h =
     let counts = counts_fit (rays_of m n t) (samples_per_ray m n t) in
@@ -67,23 +26,41 @@ checks t m n after h =
 
 module _ (t : ParametricSurfaceTexture) (m n : ℕ) (after : Check) where
   -- where there is a plan, only the tests after its own are left
-  pub plan_passed : {p : Plan} → ok p ≡ plan t m n → (plan_check t m n after ≡ after) × (p ≡ plan_of t m n)
+  pub plan_passed : {p : PlanCounts} → ok p ≡ plan t m n → (plan_check t m n after ≡ after) × (p ≡ plan_of t m n)
   unfolding plan plan_check
   plan_passed e =
-      let a = answered (plan_check t m n Passed) (sym e) in
-      let c = checks t m n Passed a.0 in
+      let a = answered (plan_check t m n passed) (sym e) in
+      let c = checks t m n passed a.0 in
       (rw (c.0, c.1, c.2), a.1)
+
+  -- where all pass, there is a plan
+  pub plan_ok : plan_check t m n after ≡ passed → plan t m n ≡ ok (plan_of t m n)
+  unfolding plan plan_check
+  plan_ok h = let c = checks t m n after h in rw (c.0, c.1, c.2)
 
   -- where there is none, its refusal is the answer
   pub plan_failed : {A : Type 0} {k : ℕ} (z : Answer A) → refused k ≡ plan t m n →
       refused k ≡ passing (plan_check t m n after) z
   unfolding plan plan_check
   plan_failed z e =
-      let counts = unless (counts_fit (rays_of m n t) (samples_per_ray m n t)) Count Passed in
+      let counts = unless (counts_fit (rays_of m n t) (samples_per_ray m n t)) Count passed in
       let texture = unless (texture_fits t) Texture counts in
       rw (
-        unless_then (counts_fit (rays_of m n t) (samples_per_ray m n t)) Count Passed after,
+        unless_then (counts_fit (rays_of m n t) (samples_per_ray m n t)) Count passed after,
         unless_then (texture_fits t) Texture counts after,
         unless_then (steps_fit m n) Steps texture after,
       )
-      (refused_first (plan_check t m n Passed) after (plan_of t m n) z e)
+      (refused_first (plan_check t m n passed) after (plan_of t m n) z e)
+
+-- a test that refuses, whatever is tested after it
+unless_failed : {A : Type 0} (b : Bool) (r : Refusal) (after : Check) (z : Answer A) {k : Refusal} →
+    Err k ≡ unless b r passed → refused (number_of k) ≡ passing (unless b r after) z
+unless_failed true r after z e = absurd (true≢false (cc))
+unless_failed false r after z e = cc
+
+-- where there is a plan, the refusal of the next test is the answer
+pub test_failed : (t : ParametricSurfaceTexture) (m n : ℕ) {p : PlanCounts} → ok p ≡ plan t m n →
+    {A : Type 0} (b : Bool) (r : Refusal) (after : Check) (z : Answer A) {k : Refusal} → Err k ≡ unless b r passed →
+    refused (number_of k) ≡ passing (plan_check t m n (unless b r after)) z
+test_failed t m n h b r after z e =
+    rw (plan_passed t m n (unless b r after) h).0 (unless_failed b r after z e)

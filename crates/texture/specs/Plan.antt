@@ -8,15 +8,12 @@ use Rattle.float.specs.Sign.{absolute, is_finite, at_most}
 use Rattle.float.specs.Order.{larger, clamped}
 use Rattle.float.specs.Whole.{ceiled}
 use Rattle.float.specs.Cast.{nat_float}
-use Rattle.refusal.specs.declared.Check.{Check}
-use Rattle.refusal.specs.declared.Check.TheVariants.{Passed}
 use Rattle.refusal.specs.declared.Refusal.TheVariants as refusals
-use Rattle.refusal.specs.Refusals.{Answer, ok, refused, number_of, unless, passing}
+use Rattle.refusal.specs.Refusals.{Check, passed, Answer, ok, unless, passing}
 use Rattle.grid.specs.Grid.{steps_fit}
 use Rattle.texture.specs.declared.plan.ParametricSurfaceTexture.{ParametricSurfaceTexture}
 use Rattle.texture.specs.declared.plan.ParametricSurfaceTexture.TheVariants.{Grid, Swirl, Spiral}
-use Rattle.texture.specs.declared.plan.PlanAnswer.{PlanAnswer}
-use Rattle.texture.specs.declared.plan.PlanAnswer.TheVariants as answers
+use Rattle.texture.specs.declared.plan.PlanCounts.{PlanCounts}
 
 abbrev pub two : Float
 two = of_bits binary64 0x4000000000000000
@@ -113,18 +110,9 @@ plan_check t m n after =
     (unless (counts_fit (rays_of m n t) (samples_per_ray m n t)) refusals.Count after))
 
 -- Rules 10.2: the counts of a plan
-pub record Plan : Type 0 where
-  pub rays : ℕ
-  pub samples : ℕ
-
-abbrev pub plan_of : ParametricSurfaceTexture → ℕ → ℕ → Plan
+abbrev pub plan_of : ParametricSurfaceTexture → ℕ → ℕ → PlanCounts
 plan_of t m n = record { rays = to_unsigned 64 (rays_of m n t); samples = to_unsigned 64 (samples_per_ray m n t) }
 
 -- the open call
-unfoldable pub plan : ParametricSurfaceTexture → ℕ → ℕ → Answer Plan
-plan t m n = passing (plan_check t m n Passed) (ok (plan_of t m n))
-
--- the number and the values of each case
-abbrev pub stated_plan : PlanAnswer → Answer Plan
-stated_plan (answers.Plan r s) = ok (record { rays = r; samples = s })
-stated_plan (answers.Refused k) = refused (number_of k)
+unfoldable pub plan : ParametricSurfaceTexture → ℕ → ℕ → Answer PlanCounts
+plan t m n = passing (plan_check t m n passed) (ok (plan_of t m n))

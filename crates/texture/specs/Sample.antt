@@ -6,18 +6,14 @@ use Rattle.std.specs.Float.Ieee.{add, sub, mul, div}
 use Rattle.float.specs.Consts.{tau, zero64, one64}
 use Rattle.float.specs.Sign.{at_most}
 use Rattle.float.specs.Cast.{nat_float}
-use Rattle.refusal.specs.declared.Check.TheVariants.{Passed}
 use Rattle.refusal.specs.declared.Refusal.TheVariants as refusals
-use Rattle.refusal.specs.Refusals.{Answer, ok, refused, number_of, unless, passing}
+use Rattle.refusal.specs.Refusals.{passed, Answer, ok, unless, passing}
 use Rattle.param.specs.Param.{param}
 use Rattle.param.specs.declared.ParamPoint.{ParamPoint}
 use Rattle.texture.specs.declared.plan.ParametricSurfaceTexture.{ParametricSurfaceTexture}
 use Rattle.texture.specs.declared.plan.ParametricSurfaceTexture.TheVariants.{Grid, Swirl, Spiral}
-use Rattle.texture.specs.declared.sample.AngleAnswer.{AngleAnswer}
-use Rattle.texture.specs.declared.sample.AngleAnswer.TheVariants as angles
-use Rattle.texture.specs.declared.sample.SampleAnswer.{SampleAnswer}
-use Rattle.texture.specs.declared.sample.SampleAnswer.TheVariants as points
-use Rattle.texture.specs.Plan.{centre, texture_radius, texture_spacing, spiral_turns, plan_check, Plan, plan_of}
+use Rattle.texture.specs.declared.plan.PlanCounts.{PlanCounts}
+use Rattle.texture.specs.Plan.{centre, texture_radius, texture_spacing, spiral_turns, plan_check, plan_of}
 
 -- ---- the formulas
 
@@ -38,7 +34,7 @@ turn_of (Spiral spacing arms) m n count i =
     mul binary64 (mul binary64 (part i count) tau) (spiral_turns m n (texture_spacing spacing))
 
 -- Rules 10.3: the angle of sample i of a ray
-unfoldable pub angle_of : ParametricSurfaceTexture → ℕ → ℕ → Plan → ℕ → ℕ → Float
+unfoldable pub angle_of : ParametricSurfaceTexture → ℕ → ℕ → PlanCounts → ℕ → ℕ → Float
 angle_of t m n p ray i = add binary64 (base_angle p.rays ray) (turn_of t m n p.samples i)
 
 -- Rules 10.4: how far a sample is from the centre
@@ -57,13 +53,13 @@ point_of t m n count i cosine sine =
 -- ---- the calls
 
 -- Rules 11.1: what refusal 8 asks for: the plan has this ray, and the ray this sample, the last too; Grid has no ray
-abbrev pub is_there : Plan → ℕ → ℕ → Bool
+abbrev pub is_there : PlanCounts → ℕ → ℕ → Bool
 is_there p ray i = ltb ray p.rays && leb i p.samples
 
 -- the open call `angle`: refusals 1, 5, 6 and 8
 unfoldable pub angle : ParametricSurfaceTexture → ℕ → ℕ → ℕ → ℕ → Answer Float
 angle t m n ray i =
-    passing (plan_check t m n (unless (is_there (plan_of t m n) ray i) refusals.NotThere Passed))
+    passing (plan_check t m n (unless (is_there (plan_of t m n) ray i) refusals.NotThere passed))
     (ok (angle_of t m n (plan_of t m n) ray i))
 
 -- Rules 11.1: what refusal 7 asks for: both are from −1 to 1
@@ -74,14 +70,5 @@ direction_fits cosine sine = at_most cosine one64 && at_most sine one64
 unfoldable pub sample_point : ParametricSurfaceTexture → ℕ → ℕ → ℕ → ℕ → Float → Float → Answer ParamPoint
 sample_point t m n ray i cosine sine =
     passing (plan_check t m n (unless (direction_fits cosine sine) refusals.Direction
-    (unless (is_there (plan_of t m n) ray i) refusals.NotThere Passed)))
+    (unless (is_there (plan_of t m n) ray i) refusals.NotThere passed)))
     (ok (point_of t m n (plan_of t m n).samples i cosine sine))
-
--- the number and the values of each case
-abbrev pub stated_angle : AngleAnswer → Answer Float
-stated_angle (angles.Angle a) = ok a
-stated_angle (angles.Refused k) = refused (number_of k)
-
-abbrev pub stated_point : SampleAnswer → Answer ParamPoint
-stated_point (points.Point p) = ok p
-stated_point (points.Refused k) = refused (number_of k)

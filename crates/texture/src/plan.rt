@@ -1,8 +1,9 @@
-// The plan of a texture: rays, and samples per ray (Rules 10.1, 10.2).
-ghost use Rattle.std.specs.Prelude.{max, ◌≡◌};
+// The plan of a texture: rays, and samples per ray (Rules 10.1, 10.2). Each formula has its name in the original.
+ghost use Rattle.std.specs.Prelude.{◌≡◌};
+ghost use Rattle.refusal.specs.Refusals.{stated};
 ghost use Rattle.texture.specs.Plan.{texture_radius, texture_spacing, up_from, samples_along, swirl_rays};
 ghost use Rattle.texture.specs.Plan.{radial_sample_count, spiral_turns, spiral_sample_count, rays_of, samples_per_ray};
-ghost use Rattle.texture.specs.Plan.{texture_fits, plan, stated_plan};
+ghost use Rattle.texture.specs.Plan.{texture_fits, plan};
 
 use float::cast::{to_f64, to_usize};
 use float::consts::{EPS, SQRT_2, TAU};
@@ -10,6 +11,7 @@ use float::order::{clamp, max};
 use float::sign::{abs, at_most, is_finite};
 use float::whole::ceil;
 use grid::steps_fit;
+use param::Cells;
 use refusal::Refusal;
 
 // The largest magnitude of a twist, and the most arms.
@@ -28,25 +30,27 @@ pub enum ParametricSurfaceTexture {
     Spiral { spacing: f64, arms: usize },
 }
 
-// The counts of rays and of samples per ray, or a refusal.
+// How many rays a texture has, and how many samples each.
 #[derive(Clone, Copy)]
-pub enum PlanAnswer {
-    Plan(usize, usize),
-    Refused(Refusal),
+pub struct PlanCounts {
+    pub rays: usize,
+    pub samples: usize,
 }
 
 // Half the longer axis, times the root of two: a circle that covers the grid.
-pub fn texture_radius(m: usize, n: usize) -> f64
-    ensures { result ≡ texture_radius m n }
+#[tactic(auto, unfolding(crate::specs::Plan::texture_radius, float::specs::Consts::sqrt2))]
+pub fn texture_radius(cells: Cells) -> f64
+    ensures { result ≡ texture_radius cells.m cells.n }
 {
-    max(to_f64(m), to_f64(n)) * 0.5 * SQRT_2
+    max(to_f64(cells.m), to_f64(cells.n)) * 0.5 * SQRT_2
 }
 
 // 1.0 stands for a spacing that is not finite or not above EPS.
+#[tactic(auto, unfolding(crate::specs::Plan::texture_spacing, float::specs::Consts::eps))]
 pub fn texture_spacing(spacing: f64) -> f64
     ensures { result ≡ texture_spacing spacing }
 {
-    if is_finite(spacing) & (EPS < spacing) {
+    if is_finite(spacing) && EPS < spacing {
         spacing
     } else {
         1.0
@@ -61,6 +65,7 @@ fn up_from(least: f64, x: f64) -> f64
 }
 
 // As many samples along a length as keep the spacing between neighbours, from 0.05 to 0.5; at least 2.
+#[tactic(auto, unfolding(crate::specs::Plan::samples_along))]
 fn samples_along(length: f64, spacing: f64) -> f64
     ensures { result ≡ samples_along length spacing }
 {
@@ -68,96 +73,97 @@ fn samples_along(length: f64, spacing: f64) -> f64
 }
 
 // As many rays as keep the spacing between neighbours on the circle; at least 1.
-fn swirl_rays(m: usize, n: usize, spacing: f64) -> f64
-    ensures { result ≡ swirl_rays m n spacing }
+#[tactic(auto, unfolding(crate::specs::Plan::swirl_rays, float::specs::Consts::tau))]
+fn swirl_rays(cells: Cells, spacing: f64) -> f64
+    ensures { result ≡ swirl_rays cells.m cells.n spacing }
 {
-    up_from(1.0, TAU * texture_radius(m, n) / spacing)
+    up_from(1.0, TAU * texture_radius(cells) / spacing)
 }
 
 // The samples along a ray of a swirl.
-fn radial_sample_count(m: usize, n: usize, spacing: f64, twist: f64) -> f64
-    ensures { result ≡ radial_sample_count m n spacing twist }
+#[tactic(auto, unfolding(crate::specs::Plan::radial_sample_count, float::specs::Consts::tau))]
+fn radial_sample_count(cells: Cells, spacing: f64, twist: f64) -> f64
+    ensures { result ≡ radial_sample_count cells.m cells.n spacing twist }
 {
     let turned = abs(TAU * twist);
-    samples_along(texture_radius(m, n) * (1.0 + turned), spacing)
+    samples_along(texture_radius(cells) * (1.0 + turned), spacing)
 }
 
 // As many turns as keep the spacing between them; at least 1.
-pub fn spiral_turns(m: usize, n: usize, spacing: f64) -> f64
-    ensures { result ≡ spiral_turns m n spacing }
+#[tactic(auto, unfolding(crate::specs::Plan::spiral_turns))]
+pub fn spiral_turns(cells: Cells, spacing: f64) -> f64
+    ensures { result ≡ spiral_turns cells.m cells.n spacing }
 {
-    up_from(1.0, texture_radius(m, n) / spacing)
+    up_from(1.0, texture_radius(cells) / spacing)
 }
 
 // The samples along an arm of a spiral.
-fn spiral_sample_count(m: usize, n: usize, spacing: f64) -> f64
-    ensures { result ≡ spiral_sample_count m n spacing }
+#[tactic(auto, unfolding(crate::specs::Plan::spiral_sample_count, float::specs::Consts::tau))]
+fn spiral_sample_count(cells: Cells, spacing: f64) -> f64
+    ensures { result ≡ spiral_sample_count cells.m cells.n spacing }
 {
-    let radius = texture_radius(m, n);
-    let turns = spiral_turns(m, n, spacing);
+    let radius = texture_radius(cells);
+    let turns = spiral_turns(cells, spacing);
     samples_along(radius + radius * TAU * turns * 0.5, spacing)
 }
 
-// No arms become one.
-fn at_least_one(arms: usize) -> usize
-    ensures { result ≡ max arms 1 }
-{
-    if arms < 1 { 1 } else { arms }
-}
-
-// The rays of a texture, before they are a count.
-fn rays(texture: ParametricSurfaceTexture, m: usize, n: usize) -> f64
-    ensures { result ≡ rays_of m n texture }
-{
-    match texture {
-        ParametricSurfaceTexture::Grid => 0.0,
-        ParametricSurfaceTexture::Swirl { spacing, twist: _ } => {
-            swirl_rays(m, n, texture_spacing(spacing))
-        }
-        ParametricSurfaceTexture::Spiral { spacing: _, arms } => to_f64(at_least_one(arms)),
-    }
-}
-
-// The samples of each ray, before they are a count.
-fn samples_per_ray(texture: ParametricSurfaceTexture, m: usize, n: usize) -> f64
-    ensures { result ≡ samples_per_ray m n texture }
-{
-    match texture {
-        ParametricSurfaceTexture::Grid => 0.0,
-        ParametricSurfaceTexture::Swirl { spacing, twist } => {
-            radial_sample_count(m, n, texture_spacing(spacing), twist)
-        }
-        ParametricSurfaceTexture::Spiral { spacing, arms: _ } => {
-            spiral_sample_count(m, n, texture_spacing(spacing))
+impl ParametricSurfaceTexture {
+    // The rays, before they are a count. No arms become one.
+    fn rays(self, cells: Cells) -> f64
+        ensures { result ≡ rays_of cells.m cells.n self }
+    {
+        match self {
+            Self::Grid => 0.0,
+            Self::Swirl { spacing, .. } => swirl_rays(cells, texture_spacing(spacing)),
+            Self::Spiral { arms, .. } => to_f64(arms.max(1)),
         }
     }
-}
 
-// Whether twist and arms are within their bounds.
-fn texture_fits(texture: ParametricSurfaceTexture) -> bool
-    ensures { result ≡ texture_fits texture }
-{
-    match texture {
-        ParametricSurfaceTexture::Grid => true,
-        ParametricSurfaceTexture::Swirl { spacing: _, twist } => at_most(twist, MAX_TWIST),
-        ParametricSurfaceTexture::Spiral { spacing: _, arms } => arms <= MAX_ARMS,
+    // The samples of each ray, before they are a count.
+    fn samples_per_ray(self, cells: Cells) -> f64
+        ensures { result ≡ samples_per_ray cells.m cells.n self }
+    {
+        match self {
+            Self::Grid => 0.0,
+            Self::Swirl { spacing, twist } => {
+                radial_sample_count(cells, texture_spacing(spacing), twist)
+            }
+            Self::Spiral { spacing, .. } => spiral_sample_count(cells, texture_spacing(spacing)),
+        }
+    }
+
+    // Whether twist and arms are within their bounds.
+    fn fits(self) -> bool
+        ensures { result ≡ texture_fits self }
+    {
+        match self {
+            Self::Grid => true,
+            Self::Swirl { twist, .. } => at_most(twist, MAX_TWIST),
+            Self::Spiral { arms, .. } => arms <= MAX_ARMS,
+        }
     }
 }
 
 // Rays and samples per ray; Grid has none.
-pub fn plan(texture: ParametricSurfaceTexture, m: usize, n: usize) -> PlanAnswer
-    ensures { stated_plan result ≡ plan texture m n }
+#[tactic(auto, unfolding(crate::specs::Plan::plan, crate::specs::Plan::plan_check))]
+pub fn plan(texture: ParametricSurfaceTexture, m: usize, n: usize) -> Result<PlanCounts, Refusal>
+    ensures { stated result ≡ plan texture m n }
 {
     if !steps_fit(m, n) {
-        return PlanAnswer::Refused(Refusal::Steps);
+        return Err(Refusal::Steps);
     }
-    if !texture_fits(texture) {
-        return PlanAnswer::Refused(Refusal::Texture);
+    if !texture.fits() {
+        return Err(Refusal::Texture);
     }
-    let ray_count = rays(texture, m, n);
-    let sample_count = samples_per_ray(texture, m, n);
-    if (ray_count <= MAX_COUNT) & (sample_count <= MAX_COUNT) {
-        return PlanAnswer::Plan(to_usize(ray_count), to_usize(sample_count));
+    let cells = Cells { m, n };
+    let rays = texture.rays(cells);
+    let samples = texture.samples_per_ray(cells);
+    if rays <= MAX_COUNT && samples <= MAX_COUNT {
+        Ok(PlanCounts {
+            rays: to_usize(rays),
+            samples: to_usize(samples),
+        })
+    } else {
+        Err(Refusal::Count)
     }
-    PlanAnswer::Refused(Refusal::Count)
 }

@@ -3,10 +3,8 @@ use Rattle.std.specs.Prelude.{Bool, ◌&&◌, Float}
 use Rattle.std.specs.Float.Ieee.{lt, le}
 use Rattle.float.specs.Consts.{eps, zero64, one64}
 use Rattle.float.specs.Sign.{is_finite}
-use Rattle.refusal.specs.declared.Check.{Check}
-use Rattle.refusal.specs.declared.Check.TheVariants.{Passed}
 use Rattle.refusal.specs.declared.Refusal.TheVariants as refusals
-use Rattle.refusal.specs.Refusals.{unless}
+use Rattle.refusal.specs.Refusals.{Check, passed, unless}
 use Rattle.tolerance.specs.declared.Tolerances.{Tolerances}
 
 -- for the u seam, for the v seam, and for neighbouring points of a line
@@ -27,4 +25,4 @@ tolerances_fit t = tolerance_fits t.u && (tolerance_fits t.v && tolerance_fits t
 
 -- refusal 13 of the three
 abbrev pub tolerances_check : Tolerances → Check
-tolerances_check t = unless (tolerances_fit t) refusals.Tolerance Passed
+tolerances_check t = unless (tolerances_fit t) refusals.Tolerance passed

@@ -1,6 +1,7 @@
 -- The lists filled in place and the moves drawn agree: the page shows the drawing from the first move to the last,
 -- since each push and each flush leaves it so. A trace ends with a flush, so nothing is pending, and the lists,
 -- zeroed past the counts, are those of `finished`.
+use Rattle.std.specs.Prelude.{Option}
 use mathlib.Core.Path.{◌≡◌, refl, ap}
 use mathlib.Core.Bool.{Bool, true, false, cond}
 use mathlib.Core.List.{List, [], ◌∷◌, ◌++◌, append-nil}
@@ -11,22 +12,21 @@ use lib.ListN.{length}
 use lib.Ieee.{Float}
 use Rattle.float.specs.Consts.{zero64}
 use Rattle.refusal.specs.declared.Refusal.TheVariants.{Full}
-use Rattle.lent.specs.Lent.{filled, zeroed_from, afterwards}
+use Rattle.refusal.specs.Refusals.{Answer, ok, refused, number_of}
+use Rattle.lent.specs.declared.Counts.{Counts}
+use Rattle.lent.specs.Lent.{filled, zeroed_from, Afterwards, afterwards, counts}
 use Rattle.lent.proofs.Laws.{zeroed_filled}
-use Rattle.lent.proofs.After.{same_answer, same_lists}
+use Rattle.param.specs.declared.ParamPoint.{ParamPoint}
 use Rattle.param.specs.declared.Cells.{Cells}
 use Rattle.page.specs.declared.TracedPoint.{TracedPoint}
-use Rattle.page.specs.declared.Penned.{Penned}
 use Rattle.page.specs.Moves.{Move, flush, Outcome, on, off, follow}
-use Rattle.page.specs.Page.{Lists, lists, moves_by, Page, pen_at, page, push_page, flush_page, on_page, page_after}
+use Rattle.page.specs.Page.{Lists, moves_by, Page, pen_at, page, push_page, flush_page, on_page, zeroed_past}
 use Rattle.page.proofs.Moves.{run_append, run_one, Holding, Related, both_on, both_off, run_related}
 use Rattle.page.proofs.Fits.{Sized, SizedPage, same_size}
-use Rattle.trace.specs.declared.curve.Previous.{Previous}
-use Rattle.trace.specs.Curve.{Sample, after_sample, visit_of, visit_moves, trace_moves}
+use Rattle.trace.specs.Curve.{Sample, marked_point, visit_of, visit_moves, trace_moves}
 use Rattle.trace.specs.Drawing.{Drawing, drawing, nothing_drawn, Room, room_in, push_segment_point, flush_segment}
 use Rattle.trace.specs.Drawing.{draw}
-use Rattle.trace.specs.Trace.{stated_trace, point_of, side_of, fraction_of, sample_number_of, lists_with, finished}
-use Rattle.trace.specs.Ended.{count_in, lines_in, answer_of}
+use Rattle.trace.specs.Trace.{point_of, side_of, fraction_of, sample_number_of, lists_with, finished}
 use Rattle.trace.proofs.Turns.{zeroed_turn}
 use Rattle.trace.proofs.Shown.{all, Fronts, none_held, Shows, push_related, flush_related}
 
@@ -76,32 +76,28 @@ follow_ends (on d) k h = h d
 follow_ends (off r d) k h = tt
 
 module _ (tolerance : Float) (room : Room) (g : List Float) (k : Cells) where
-  trace_flushed : (i : ℕ) (xs : List Sample) (p : Previous) (d : Drawing) →
+  trace_flushed : (i : ℕ) (xs : List Sample) (p : Option ParamPoint) (d : Drawing) →
       NonePending (draw tolerance room (trace_moves g k i xs p) d)
   unfolding trace_moves
   trace_flushed i [] p d =
       rw (run_one (push_segment_point tolerance room) (flush_segment room) flush d) (flush_ends room d)
   trace_flushed i (x ∷ xs) p d =
-      let first = moves_by i (visit_moves g k (visit_of p x)) in
-      let others = trace_moves g k (i + 1) xs (after_sample x) in
+      let first = moves_by i (visit_moves g k (visit_of p (marked_point x))) in
+      let others = trace_moves g k (i + 1) xs (marked_point x) in
       rw (run_append (push_segment_point tolerance room) (flush_segment room) first others d)
       (follow_ends (draw tolerance room first d) (draw tolerance room others)
-      (trace_flushed (i + 1) xs (after_sample x)))
-
--- what the open call is left to do: zero each list past its count
-abbrev pub zeroed_past : ℕ → ℕ → Lists → Lists
-zeroed_past count lines l =
-    lists (zeroed_from zero64 (3 * count) l.points) (zeroed_from 0 lines l.starts)
-    (zeroed_from 0 (2 * count) l.sides) (zeroed_from zero64 count l.fractions) (zeroed_from 0 count l.samples)
+      (trace_flushed (i + 1) xs (marked_point x)))
 
 -- lists whose fronts hold these points and starts, zeroed past them
-zeroed_past_lem : (l m : Lists) (cs : List TracedPoint) (ss : List ℕ) (count lines : ℕ) → Sized l m → Fronts m cs ss →
-    count ≡ length cs → lines ≡ length ss → zeroed_past count lines m ≡ lists_with cs ss l
-zeroed_past_lem l m cs ss count lines z h n k =
+zeroed_is : (l : Lists) (g : Page) (cs : List TracedPoint) (ss : List ℕ) → Sized l g.lists → Fronts g.lists cs ss →
+    g.pen.count ≡ length cs → g.pen.lines ≡ length ss → (zeroed_past g).lists ≡ lists_with cs ss l
+zeroed_is l g cs ss z h n k =
+    let m = g.lists in
+    let count = g.pen.count in
     let points =
     zeroed_turn 3 point_of (λ c. refl) zero64 m.points l.points cs (3 * count) z.points h.points
     (omega arith) in
-    let starts : zeroed_from 0 lines m.starts ≡ filled 0 ss l.starts =
+    let starts : zeroed_from 0 g.pen.lines m.starts ≡ filled 0 ss l.starts =
     rw k (zeroed_filled 0 ss m.starts l.starts z.starts h.starts) in
     let sides =
     zeroed_turn 2 side_of (λ c. refl) 0 m.sides l.sides cs (2 * count) z.sides h.sides (omega arith) in
@@ -113,25 +109,29 @@ zeroed_past_lem l m cs ss count lines z h n k =
     (omega arith) in
     rw (points, starts, sides, fractions, samples)
 
--- what the walk in place leaves, where the page shows a drawing in which nothing is pending; nothing, if it was refused
-ended : (l : Lists) {x : Outcome Page} {y : Outcome Drawing} → Related (Shows l) (SizedPage l) x y → NonePending y →
-    {r : Penned} {m : Lists} → afterwards r m ≡ page_after x
-    → afterwards (stated_trace (answer_of r)) (zeroed_past (count_in r) (lines_in r) m) ≡ finished y l
-ended l (both_on {s = g} {t = d} h) e u =
+-- the page that is left, since a walk that is refused draws nothing
+abbrev pub page_left : Outcome Page → Page
+page_left (on g) = g
+page_left (off k g) = first_page g.lists
+
+-- what the open call answers, and its lists, which are zeroed past what is drawn
+abbrev pub ended : Outcome Page → Afterwards (Answer Counts) Lists
+ended (on g) = afterwards (ok (counts g.pen.count g.pen.lines)) (zeroed_past (page_left (on g))).lists
+ended (off k g) = afterwards (refused (number_of k)) (zeroed_past (page_left (off k g))).lists
+
+-- of a page that shows a drawing in which nothing is pending
+shown_ends : (l : Lists) {x : Outcome Page} {y : Outcome Drawing} → Related (Shows l) (SizedPage l) x y →
+    NonePending y → ended x ≡ finished y l
+shown_ends l (both_on {s = g} {t = d} h) e =
     let all_drawn : all d ≡ d.drawn = rw e (append-nil d.drawn) in
     let n : g.pen.count ≡ length d.drawn = omega (arith, h.count, ap length e) in
-    let zeroed =
-    zeroed_past_lem l g.lists d.drawn d.starts g.pen.count g.pen.lines h.sized
-    (rw all_drawn at h.fronts) n h.lines in
-    rw (same_answer u, same_lists u, zeroed, n, h.lines)
-ended l (both_off {s = g} h) e u =
-    rw (same_answer u, same_lists u, zeroed_past_lem l g.lists [] [] 0 0 h (none_held g.lists) refl refl)
+    rw (zeroed_is l g d.drawn d.starts h.sized (rw all_drawn at h.fronts) n h.lines, n, h.lines)
+shown_ends l (both_off {s = g} h) e = rw (zeroed_is l (first_page g.lists) [] [] h (none_held g.lists) refl refl)
 
 -- THE LAW: from what the inner walk ensures to what the open call promises
-pub trace_ends : (tolerance : Float) (l : Lists) (g : List Float) (k : Cells) (i : ℕ) (xs : List Sample) (p : Previous)
-    {r : Penned} {m : Lists} → afterwards r m ≡ page_after (on_page tolerance (trace_moves g k i xs p) (first_page l))
-    → afterwards (stated_trace (answer_of r)) (zeroed_past (count_in r) (lines_in r) m)
+pub trace_ends : (tolerance : Float) (l : Lists) (g : List Float) (k : Cells) (i : ℕ) (xs : List Sample)
+    (p : Option ParamPoint) → ended (on_page tolerance (trace_moves g k i xs p) (first_page l))
     ≡ finished (draw tolerance (room_in l) (trace_moves g k i xs p) nothing_drawn) l
-trace_ends tolerance l g k i xs p u =
-    ended l (moves_related tolerance l (trace_moves g k i xs p))
-    (trace_flushed tolerance (room_in l) g k i xs p nothing_drawn) u
+trace_ends tolerance l g k i xs p =
+    shown_ends l (moves_related tolerance l (trace_moves g k i xs p))
+    (trace_flushed tolerance (room_in l) g k i xs p nothing_drawn)

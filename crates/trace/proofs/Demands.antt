@@ -1,6 +1,8 @@
 -- Demand 3, whole. The sides and the flipped pairs are the surface's theorem. A traced point was made from the ends
 -- of a grid edge (each event's side is one, and Drawn.antt has that no other point is drawn), and the surface's
 -- theorem says that J takes the ends of a grid edge to the ends of a side.
+use Rattle.std.specs.Prelude.{Some, None, Option}
+use Rattle.cyclic.specs.Mapping.{Seam}
 use mathlib.Core.Path.{◌≡◌, refl}
 use mathlib.Core.List.{List}
 use Prim.Native.Nat.{ℕ, ◌+◌, ◌*◌, ◌≤◌, ◌<◌}
@@ -11,8 +13,6 @@ use Rattle.tolerance.specs.declared.Tolerances.{Tolerances}
 use Rattle.grid.specs.Grid.{point_number, point_at}
 use Rattle.grid.proofs.Laws.{accepted_known, point_below}
 use Rattle.surface.specs.Surface.{Shape, GridEdge, along_u, along_v, falls, rises, StepsAround, Meets}
-use Rattle.cyclic.specs.declared.seam.Seam.{Seam}
-use Rattle.cyclic.specs.declared.seam.Seam.TheVariants.{Unjoined}
 use Rattle.surface.specs.Found.{u_search, v_search, surface_with}
 use Rattle.surface.proofs.Demand as surface
 use Rattle.surface.proofs.Joinings.{surface_meets}
@@ -23,17 +23,13 @@ use Rattle.edges.specs.declared.event.ParamEdge.{ParamEdge}
 use Rattle.edges.specs.declared.event.ParamEdge.TheVariants.{U, «V», Diagonal}
 use Rattle.edges.specs.declared.event.EdgeEvent.{EdgeEvent}
 use Rattle.edges.proofs.Laws.{leg_inside}
-use Rattle.crossing.specs.declared.StepIndex.{StepIndex}
-use Rattle.crossing.specs.declared.StepIndex.TheVariants.{At, Nothing}
 use Rattle.crossing.specs.declared.Crossing.{Crossing}
-use Rattle.crossing.specs.declared.EdgePoint.TheVariants.{On, NoStep}
 use Rattle.crossing.specs.Crossing.{step_index, blend, crossing, on_u, on_v, edge_point}
 use Rattle.crossing.proofs.Edges.{cell_inside}
 use Rattle.page.specs.declared.TracedPoint.{TracedPoint}
 use Rattle.page.specs.Page.{Lists}
 use Rattle.page.proofs.Moves.{Holding}
 use Rattle.walk.proofs.Pushed.{GoodEdge, GoodEvents}
-use Rattle.trace.specs.declared.curve.Previous.TheVariants.{Nowhere}
 use Rattle.trace.specs.Curve.{samples_of}
 use Rattle.trace.specs.Drawing.{room_in}
 use Rattle.trace.specs.Trace.{drawing_of, trace_flat}
@@ -42,7 +38,7 @@ use Rattle.trace.proofs.Pushed.{trace_good}
 use Rattle.trace.proofs.Drawn.{GoodDrawing, drawn_good}
 use Rattle.trace.proofs.Points.{Stands, each_point}
 
-no_point_lem : {c : Crossing} → NoStep ≡ On c → ⊥
+no_point_lem : {c : Crossing} → None ≡ Some c → ⊥
 no_point_lem e = let z : ◌≡◌ {A = ℕ} 0 1 = cc in omega arith
 
 -- made from the two ends of a grid edge by the fraction t
@@ -58,7 +54,7 @@ module _ (g : List Float) (m n : ℕ) (hm : m ≤ 255) (hn : n ≤ 255) (su sv :
 
   -- a crossing of the two ends of a grid edge
   made : {u v u' v' : ℕ} {t : Float} {c : Crossing} → GridEdge s u v u' v' →
-      On (crossing g (point_number n u v) (point_number n u' v') t) ≡ On c → FromEdge g s c
+      Some (crossing g (point_number n u v) (point_number n u' v') t) ≡ Some c → FromEdge g s c
   made {u} {v} {u'} {v'} {t} {c} edge e =
       let same : crossing g (point_number n u v) (point_number n u' v') t ≡ c = cc in
       record {
@@ -66,19 +62,19 @@ module _ (g : List Float) (m n : ℕ) (hm : m ≤ 255) (hn : n ≤ 255) (su sv :
         blended = rw (← same);
       }
 
-  on_u_lem : (u : ℕ) (x : Float) (c : Crossing) → u ≤ m → on_u g n u (step_index x n) ≡ On c → FromEdge g s c
+  on_u_lem : (u : ℕ) (x : Float) (c : Crossing) → u ≤ m → on_u g n u (step_index x n) ≡ Some c → FromEdge g s c
   on_u_lem u x c h e = go (step_index x n) refl e
     where
-      go : (i : StepIndex) → step_index x n ≡ i → on_u g n u i ≡ On c → FromEdge g s c
-      go (At v t) q r = made (along_v h (cell_inside x n hn refl q)) r
-      go Nothing q r = absurd (no_point_lem r)
+      go : (i : Option (ℕ × Float)) → step_index x n ≡ i → on_u g n u i ≡ Some c → FromEdge g s c
+      go (Some (v, t)) q r = made (along_v h (cell_inside x n hn refl q)) r
+      go None q r = absurd (no_point_lem r)
 
-  on_v_lem : (v : ℕ) (x : Float) (c : Crossing) → v ≤ n → on_v g n v (step_index x m) ≡ On c → FromEdge g s c
+  on_v_lem : (v : ℕ) (x : Float) (c : Crossing) → v ≤ n → on_v g n v (step_index x m) ≡ Some c → FromEdge g s c
   on_v_lem v x c h e = go (step_index x m) refl e
     where
-      go : (i : StepIndex) → step_index x m ≡ i → on_v g n v i ≡ On c → FromEdge g s c
-      go (At u t) q r = made (along_u (cell_inside x m hm refl q) h) r
-      go Nothing q r = absurd (no_point_lem r)
+      go : (i : Option (ℕ × Float)) → step_index x m ≡ i → on_v g n v i ≡ Some c → FromEdge g s c
+      go (Some (u, t)) q r = made (along_u (cell_inside x m hm refl q) h) r
+      go None q r = absurd (no_point_lem r)
 
   -- the sides that `edge_point` takes are grid edges
   good_edge : (e : ParamEdge) → Inside (cells m n) e → GoodEdge g (cells m n) (FromEdge g s) e
@@ -106,7 +102,7 @@ module _ (g : List Float) (m n : ℕ) (hm : m ≤ 255) (hn : n ≤ 255) (su sv :
       (drawing_of tolerances.line g m n pairs marks (room_in l))
   from_edges tolerances pairs marks l =
       drawn_good PointFromEdge tolerances.line (room_in l)
-      (trace_good g (cells m n) (FromEdge g s) good_events 0 (samples_of marks pairs) Nowhere)
+      (trace_good g (cells m n) (FromEdge g s) good_events 0 (samples_of marks pairs) None)
 
   -- so what follows of such a point holds of each point of the lists
   from_edge : (P : Lists → ℕ → Type 0) →
@@ -152,7 +148,7 @@ pub demand3 : (g : List Float) (m n : ℕ) → Demand3 g m n
 demand3 g m n accepted =
     let steps = (accepted_known g m n accepted).steps in
     record {
-      made = points_made g m n steps.m_most steps.n_most Unjoined Unjoined;
+      made = points_made g m n steps.m_most steps.n_most None None;
       covered =
           λ t covered.
           let meets = surface_meets g m n accepted t covered in

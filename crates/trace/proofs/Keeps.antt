@@ -47,4 +47,5 @@ module _ (P : Drawing → Type 0) (Good : TracedPoint → Type 0)
 
     pub draw_keeps : {ms : List (Move TracedPoint)} → AllPushed Good ms → (d : Drawing) → P d →
         Holding P (draw tolerance room ms d)
-    draw_keeps good = run_keeps Good P (push_segment_point tolerance room) (flush_segment room) push_keeps flush_keeps good
+    draw_keeps good =
+        run_keeps Good P (push_segment_point tolerance room) (flush_segment room) push_keeps flush_keeps good

@@ -1,5 +1,7 @@
 -- The numbers beside the points. The moves of sample i bear the number i, and only a sample that ends a leg pushes
 -- points; samples are walked in order, so no point is drawn after one with a higher number.
+use Rattle.std.specs.Prelude.{Some, None, Option, Ok, Err}
+use Rattle.refusal.specs.Refusals.{Check}
 use mathlib.Core.Path.{◌≡◌, refl}
 use mathlib.Core.Bool.{Bool, true, false, cond}
 use mathlib.Core.List.{List, [], ◌∷◌, ◌++◌, append-nil, append_assoc}
@@ -11,8 +13,6 @@ use lib.ListN.{length, get_or}
 use lib.Ieee.{Float}
 use borrow.Author.Tests.{eqb-false}
 use Rattle.tolerance.specs.declared.Tolerances.{Tolerances}
-use Rattle.refusal.specs.declared.Check.{Check}
-use Rattle.refusal.specs.declared.Check.TheVariants.{Passed, Failed}
 use Rattle.lent.specs.Lent.{if_passed}
 use Rattle.param.specs.declared.ParamPoint.{ParamPoint}
 use Rattle.param.specs.declared.Cells.{Cells}
@@ -23,10 +23,7 @@ use Rattle.page.specs.Moves.{Outcome, on, off}
 use Rattle.page.specs.Page.{Lists, traced_by, moves_by}
 use Rattle.page.proofs.Moves.{run_append, AllPushed, none, flushing, both, mapped, all_pushed, Holding, follow_holds}
 use Rattle.walk.specs.Walk.{leg_moves}
-use Rattle.trace.specs.declared.curve.Previous.{Previous}
-use Rattle.trace.specs.declared.curve.Previous.TheVariants.{At, Nowhere}
-use Rattle.trace.specs.declared.curve.Visit.TheVariants.{Break}
-use Rattle.trace.specs.Curve.{Sample, sample, samples_of, after_sample, leg_from, visit_of, visit_moves, trace_moves}
+use Rattle.trace.specs.Curve.{Sample, sample, samples_of, marked_point, visit_of, visit_moves, trace_moves}
 use Rattle.trace.specs.Drawing.{Drawing, nothing_drawn, Room, room_in, push_segment_point, flush_segment, draw}
 use Rattle.trace.specs.Trace.{trace_check, drawing_of, finished, trace_flat}
 use Rattle.trace.specs.Demand.{EachPoint}
@@ -47,44 +44,44 @@ module _ (g : List Float) (k : Cells) (marks : List ℕ)
     (one : (i : ℕ) → (get_or marks i 0 ≡ 0 → ⊥) → get_or marks i 0 ≡ 1)
   where
     -- what p says of the sample before sample i
-    abbrev Before : ℕ → Previous → Type 0
-    Before i (At a) = (1 ≤ i) × (get_or marks (i - 1) 0 ≡ 1)
-    Before i Nowhere = Unit {0}
+    abbrev Before : ℕ → Option ParamPoint → Type 0
+    Before i (Some a) = (1 ≤ i) × (get_or marks (i - 1) 0 ≡ 1)
+    Before i None = Unit {0}
 
     module _ (i : ℕ) (below : i < length marks) where
       -- what holds of each crossing that sample i pushes: it does not depend on the crossing
       abbrev Pushed : Crossing → Type 0
       Pushed c = EndsLeg marks i
 
-      point_ends : (p : Previous) (b : ParamPoint) → Before i p → get_or marks i 0 ≡ 1 →
-          AllPushed Pushed (visit_moves g k (leg_from p b))
-      point_ends (At a) b h e =
+      point_ends : (p : Option ParamPoint) (b : ParamPoint) → Before i p → get_or marks i 0 ≡ 1 →
+          AllPushed Pushed (visit_moves g k (visit_of p (Some b)))
+      point_ends (Some a) b h e =
           all_pushed Pushed
           (λ c. record { not_first = h.0; below = below; point = e; point_before = h.1 }) (leg_moves g k (leg a b))
-      point_ends Nowhere b h e = none
+      point_ends None b h e = none
 
       -- sample i, whose mark is m
-      visit_ends : (m : ℕ) (u v : Float) (p : Previous) → Before i p → get_or marks i 0 ≡ m →
-          AllPushed Pushed (visit_moves g k (visit_of p (sample m u v)))
+      visit_ends : (m : ℕ) (u v : Float) (p : Option ParamPoint) → Before i p → get_or marks i 0 ≡ m →
+          AllPushed Pushed (visit_moves g k (visit_of p (marked_point (sample m u v))))
       visit_ends m u v p h e = go (eqb m 0) refl
         where
           go : (t : Bool) → eqb m 0 ≡ t → AllPushed Pushed
-              (visit_moves g k (cond t Break (leg_from p (sample m u v).point)))
+              (visit_moves g k (visit_of p (cond t None (Some (sample m u v).point))))
           go true q = flushing none
           go false q = point_ends p (sample m u v).point h (one i (λ z. eqb-false m 0 q (rw (← e) z)))
 
       -- and what it is to the next one
-      after_before : (m : ℕ) (u v : Float) → get_or marks i 0 ≡ m → Before (i + 1) (after_sample (sample m u v))
+      after_before : (m : ℕ) (u v : Float) → get_or marks i 0 ≡ m → Before (i + 1) (marked_point (sample m u v))
       after_before m u v e = go (eqb m 0) refl
         where
-          go : (t : Bool) → eqb m 0 ≡ t → Before (i + 1) (cond t Nowhere (At (sample m u v).point))
+          go : (t : Bool) → eqb m 0 ≡ t → Before (i + 1) (cond t None (Some (sample m u v).point))
           go true q = tt
           go false q =
               let back : i + 1 - 1 ≡ i = omega arith in
               (omega arith, rw back (one i (λ z. eqb-false m 0 q (rw (← e) z))))
 
     -- the samples from i on, whose marks are ks
-    ends_legs : (i : ℕ) (ks : List ℕ) (ps : List Float) (p : Previous) → Before i p →
+    ends_legs : (i : ℕ) (ks : List ℕ) (ps : List Float) (p : Option ParamPoint) → Before i p →
         ((j : ℕ) → get_or marks (i + j) 0 ≡ get_or ks j 0) → i + length ks ≡ length marks →
         AllPushed (AtLegEnd marks) (trace_moves g k i (samples_of ks ps) p)
     unfolding samples_of trace_moves
@@ -97,7 +94,7 @@ module _ (g : List Float) (k : Cells) (marks : List ℕ)
         let next : (j : ℕ) → get_or marks (i + 1 + j) 0 ≡ get_or ks j 0 =
         λ j. let e : i + 1 + j ≡ i + suc j = omega arith in rw e (at (suc j)) in
         both (mapped (traced_by i) (AtLegEnd marks) (visit_ends i below m u v p h here))
-        (ends_legs (i + 1) ks ps (after_sample (sample m u v)) (after_before i below m u v here) next (omega arith))
+        (ends_legs (i + 1) ks ps (marked_point (sample m u v)) (after_before i below m u v here) next (omega arith))
 
 -- ---- samples are walked in order
 
@@ -153,19 +150,19 @@ module _ (tolerance : Float) (room : Room) where
       (λ d h. rw append-nil (rising_front 0 hi d.drawn d.segment h))
       tolerance room
 
-  trace_rises : (g : List Float) (k : Cells) (i : ℕ) (xs : List Sample) (p : Previous) (d : Drawing) → RisingTo i d →
-      Holding (RisingTo (i + length xs)) (draw tolerance room (trace_moves g k i xs p) d)
+  trace_rises : (g : List Float) (k : Cells) (i : ℕ) (xs : List Sample) (p : Option ParamPoint) (d : Drawing) →
+      RisingTo i d → Holding (RisingTo (i + length xs)) (draw tolerance room (trace_moves g k i xs p) d)
   unfolding trace_moves
   trace_rises g k i [] p d h = rw add-zero (moves_rise i (flushing none) d h)
   trace_rises g k i (x ∷ xs) p d h =
-      let first = moves_by i (visit_moves g k (visit_of p x)) in
-      let others = trace_moves g k (i + 1) xs (after_sample x) in
+      let first = moves_by i (visit_moves g k (visit_of p (marked_point x))) in
+      let others = trace_moves g k (i + 1) xs (marked_point x) in
       let up : i + length (x ∷ xs) ≡ i + 1 + length xs = omega arith in
       rw (run_append (push_segment_point tolerance room) (flush_segment room) first others d, up)
       (follow_holds (RisingTo i) (RisingTo (i + 1 + length xs)) (draw tolerance room first d)
       (draw tolerance room others) (moves_rise i (mapped (traced_by i) (λ (c : TracedPoint). c.sample ≡ i)
-      (all_pushed (λ (c : Crossing). i ≡ i) (λ c. refl) (visit_moves g k (visit_of p x)))) d h)
-      (λ s r. trace_rises g k (i + 1) xs (after_sample x) s (rising_higher 0 i (i + 1) (all s) r (omega arith))))
+      (all_pushed (λ (c : Crossing). i ≡ i) (λ c. refl) (visit_moves g k (visit_of p (marked_point x))))) d h)
+      (λ s r. trace_rises g k (i + 1) xs (marked_point x) s (rising_higher 0 i (i + 1) (all s) r (omega arith))))
 
 -- ---- the lists
 
@@ -183,11 +180,11 @@ module _ (g : List Float) (m n : ℕ) (tolerances : Tolerances) (pairs : List Fl
     where
       go : (c : Check) →
           NeverFall (if_passed c l (finished (drawing_of tolerances.line g m n pairs marks (room_in l)) l))
-      go (Failed c) = λ i j p q. absurd (omega arith)
-      go Passed =
+      go (Err c) = λ i j p q. absurd (omega arith)
+      go (Ok u) =
           finished_never_falls l (0 + length (samples_of marks pairs))
           (drawing_of tolerances.line g m n pairs marks (room_in l))
-          (trace_rises tolerances.line (room_in l) g (cells m n) 0 (samples_of marks pairs) Nowhere nothing_drawn
+          (trace_rises tolerances.line (room_in l) g (cells m n) 0 (samples_of marks pairs) None nothing_drawn
           (omega arith))
 
   numbers_end : EachPoint (λ (l : Lists) (i : ℕ). EndsLeg marks (sample_number l i))
@@ -196,7 +193,7 @@ module _ (g : List Float) (m n : ℕ) (tolerances : Tolerances) (pairs : List Fl
       each_point (AtLegEnd marks) (λ (l : Lists) (i : ℕ). EndsLeg marks (sample_number l i))
       (λ c ends l i s. rw s.sample_is ends) g m n tolerances pairs marks l
       (λ e. drawn_good (AtLegEnd marks) tolerances.line (room_in l)
-      (ends_legs g (cells m n) marks (mark_one g m n tolerances pairs marks e) 0 marks pairs Nowhere tt
+      (ends_legs g (cells m n) marks (mark_one g m n tolerances pairs marks e) 0 marks pairs None tt
       (λ j. simp zero-add) (omega arith)))
 
 pub numbers_met : (g : List Float) (m n : ℕ) → NumbersMet g m n

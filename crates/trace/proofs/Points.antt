@@ -1,5 +1,7 @@
 -- What is said of each point that a trace draws is said of each point of the lists that it leaves: the places of point
 -- i hold what the point puts there.
+use Rattle.std.specs.Prelude.{Ok, Err}
+use Rattle.refusal.specs.Refusals.{Check, passed}
 use mathlib.Core.Path.{◌≡◌, refl}
 use mathlib.Core.List.{List}
 use Prim.Native.Nat.{ℕ, ◌+◌, ◌*◌, ◌<◌}
@@ -9,8 +11,6 @@ use lib.ListN.{length, get_or}
 use lib.Ieee.{Float, nan}
 use Rattle.basics.proofs.Lists.{each_at}
 use Rattle.float.specs.Consts.{zero64}
-use Rattle.refusal.specs.declared.Check.{Check}
-use Rattle.refusal.specs.declared.Check.TheVariants.{Passed, Failed}
 use Rattle.tolerance.specs.declared.Tolerances.{Tolerances}
 use Rattle.lent.specs.Lent.{if_passed}
 use Rattle.vector.specs.Vectors.{vector}
@@ -72,11 +72,11 @@ module _ (Good : TracedPoint → Type 0) (P : Lists → ℕ → Type 0)
     abbrev drawn : Outcome Drawing
     drawn = drawing_of tolerances.line g m n pairs marks (room_in l)
 
-    pub each_point : (trace_check g m n tolerances pairs marks ≡ Passed → Holding (GoodDrawing Good) drawn) →
+    pub each_point : (trace_check g m n tolerances pairs marks ≡ passed → Holding (GoodDrawing Good) drawn) →
         EachPoint P (trace_flat g m n tolerances pairs marks l)
     unfolding trace_flat
     each_point good = go (trace_check g m n tolerances pairs marks) refl
       where
         go : (k : Check) → trace_check g m n tolerances pairs marks ≡ k → EachPoint P (if_passed k l (finished drawn l))
-        go (Failed k) e = λ i h. absurd (omega arith)
-        go Passed e = finished_each drawn (good e)
+        go (Err k) e = λ i h. absurd (omega arith)
+        go (Ok u) e = finished_each drawn (good e)

@@ -1,7 +1,9 @@
 -- What a trace pushes are points of its legs, so they are good where those of each leg's events are.
+use Rattle.std.specs.Prelude.{Option}
 use mathlib.Core.List.{List, [], ◌∷◌}
 use Prim.Native.Nat.{ℕ, ◌+◌}
 use lib.Ieee.{Float}
+use Rattle.param.specs.declared.ParamPoint.{ParamPoint}
 use Rattle.param.specs.declared.Cells.{Cells}
 use Rattle.param.specs.declared.Leg.{Leg}
 use Rattle.edges.specs.Events.{sorted_edge_events}
@@ -10,10 +12,9 @@ use Rattle.page.specs.declared.TracedPoint.{TracedPoint}
 use Rattle.page.specs.Page.{traced_by}
 use Rattle.page.proofs.Moves.{AllPushed, none, flushing, both, mapped}
 use Rattle.walk.proofs.Pushed.{GoodEvents, leg_good}
-use Rattle.trace.specs.declared.curve.Previous.{Previous}
 use Rattle.trace.specs.declared.curve.Visit.{Visit}
 use Rattle.trace.specs.declared.curve.Visit.TheVariants.{Break, Along, First}
-use Rattle.trace.specs.Curve.{Sample, after_sample, visit_of, visit_moves, trace_moves}
+use Rattle.trace.specs.Curve.{Sample, marked_point, visit_of, visit_moves, trace_moves}
 
 module _ (g : List Float) (k : Cells) (Good : Crossing → Type 0)
     (events : (l : Leg) → GoodEvents g k Good (sorted_edge_events k l))
@@ -28,8 +29,9 @@ module _ (g : List Float) (k : Cells) (Good : Crossing → Type 0)
     GoodPoint c = Good c.crossing
 
     -- the whole trace
-    pub trace_good : (i : ℕ) (xs : List Sample) (p : Previous) → AllPushed GoodPoint (trace_moves g k i xs p)
+    pub trace_good : (i : ℕ) (xs : List Sample) (p : Option ParamPoint) → AllPushed GoodPoint (trace_moves g k i xs p)
     unfolding trace_moves
     trace_good i [] p = flushing none
     trace_good i (x ∷ xs) p =
-        both (mapped (traced_by i) GoodPoint (visit_good (visit_of p x))) (trace_good (i + 1) xs (after_sample x))
+        both (mapped (traced_by i) GoodPoint (visit_good (visit_of p (marked_point x))))
+        (trace_good (i + 1) xs (marked_point x))

@@ -1,6 +1,6 @@
--- One sample by the tests of the code, and one turn of the trace over the samples: those from i on are the one at i
--- and those after it.
-use mathlib.Core.Path.{◌≡◌, refl, ap, ◌∙◌}
+-- One sample by what it is, and one turn of the trace over the samples: those from i on are the one at i and those
+-- after it.
+use mathlib.Core.Path.{◌≡◌, refl, ap}
 use mathlib.Core.List.{List, [], ◌∷◌}
 use Prim.Native.Nat.{ℕ, zero, suc, ◌+◌, ◌*◌, ◌≤◌, ◌<◌}
 use native.Mathlib.Numerals.{add-one}
@@ -8,59 +8,34 @@ use native.Mathlib.Omega.{arith}
 use lib.ListN.{length, drop, get_or, drop_of_length-le}
 use lib.Seq.{drop-cons}
 use lib.Ieee.{Float, nan}
-use borrow.Author.Tests.{eq-eqb, ne_eqb}
-use Rattle.refusal.specs.declared.Refusal.{Refusal}
-use Rattle.lent.specs.Lent.{afterwards}
+use Rattle.std.specs.Prelude.{Option}
+use Rattle.refusal.specs.Refusals.{Check}
 use Rattle.param.specs.declared.ParamPoint.{ParamPoint}
 use Rattle.param.specs.declared.Cells.{Cells}
-use Rattle.param.specs.declared.Leg.{Leg}
-use Rattle.param.specs.Param.{leg}
-use Rattle.page.specs.declared.Pen.{Pen}
-use Rattle.page.specs.declared.Penned.{Penned}
-use Rattle.page.specs.declared.Penned.TheVariants.{Down, Stop}
-use Rattle.page.specs.Moves.{flush, Outcome, follow}
-use Rattle.page.specs.Page.{Lists, moves_by, Page, page, flush_page, on_page, page_after}
-use Rattle.page.proofs.Follow.{down, stops, page_append, page_none, page_one}
+use Rattle.page.specs.declared.Sheet.{Sheet}
+use Rattle.page.specs.Moves.{flush, Outcome, on, follow}
+use Rattle.page.specs.Page.{moves_by, Page, flush_page, on_page}
+use Rattle.page.specs.Sheets.{outcome_of}
+use Rattle.page.proofs.Follow.{page_append, page_none, page_one}
 use Rattle.walk.specs.Walk.{leg_moves}
-use Rattle.trace.specs.declared.curve.Previous.{Previous}
-use Rattle.trace.specs.declared.curve.Previous.TheVariants.{At, Nowhere}
 use Rattle.trace.specs.declared.curve.Visit.{Visit}
 use Rattle.trace.specs.declared.curve.Visit.TheVariants.{Break, Along, First}
-use Rattle.trace.specs.Curve.{Sample, sample_at, sample, samples_of, param_at, after_sample, visit_of, visit_moves}
-use Rattle.trace.specs.Curve.{trace_moves}
+use Rattle.trace.specs.Curve.{Sample, sample_at, sample, samples_of, param_at, SamplesFit, marked_point, visit_of}
+use Rattle.trace.specs.Curve.{visit_moves, trace_moves}
 
--- ---- one sample
+-- ---- one sample, by what it is
 
-pub after_break : (k : ℕ) (b : ParamPoint) → k ≡ 0 → Nowhere ≡ after_sample (sample_at k b)
-after_break k b e = simp (eq-eqb k 0 e)
+module _ (tolerance : Float) (number : ℕ) (g : List Float) (k : Cells) where
+  abbrev visited : Visit → Page → Outcome Page
+  visited Break w = flush_page w
+  visited (Along l) w = on_page tolerance (moves_by number (leg_moves g k l)) w
+  visited First w = on w
 
-pub after_point : (k : ℕ) (b : ParamPoint) → (k ≡ 0 → ⊥) → At b ≡ after_sample (sample_at k b)
-after_point k b e = simp (ne_eqb k 0 e)
-
-module _ (p : Previous) (k : ℕ) (b : ParamPoint) where
-  pub visit_break : k ≡ 0 → Break ≡ visit_of p (sample_at k b)
-  visit_break e = simp (eq-eqb k 0 e)
-
-  pub visit_leg : {a : ParamPoint} → (k ≡ 0 → ⊥) → p ≡ At a → Along (leg a b) ≡ visit_of p (sample_at k b)
-  visit_leg e q = simp (ne_eqb k 0 e) (rw q)
-
-  pub visit_first : (k ≡ 0 → ⊥) → p ≡ Nowhere → First ≡ visit_of p (sample_at k b)
-  visit_first e q = simp (ne_eqb k 0 e) (rw q)
-
--- what is done for the sample of this number, by what it is
-module _ (tolerance : Float) (number : ℕ) (g : List Float) (k : Cells) (w : Page) {v : Visit} where
-  pub sample_break : v ≡ Break → {r : Penned} {l : Lists} → afterwards r l ≡ page_after (flush_page w) →
-      afterwards r l ≡ page_after (on_page tolerance (moves_by number (visit_moves g k v)) w)
-  sample_break e u = rw (e, page_one tolerance flush w) u
-
-  pub sample_leg : {l : Leg} → v ≡ Along l → {r : Penned} {m : Lists} →
-      afterwards r m ≡ page_after (on_page tolerance (moves_by number (leg_moves g k l)) w) →
-      afterwards r m ≡ page_after (on_page tolerance (moves_by number (visit_moves g k v)) w)
-  sample_leg e u = rw e u
-
-  pub sample_first : v ≡ First →
-      afterwards (Down w.pen) w.lists ≡ page_after (on_page tolerance (moves_by number (visit_moves g k v)) w)
-  sample_first e = rw (e, page_none tolerance w)
+  pub visit_drawn : (v : Visit) (w : Page) →
+      on_page tolerance (moves_by number (visit_moves g k v)) w ≡ visited v w
+  visit_drawn Break w = page_one tolerance flush w
+  visit_drawn (Along l) w = refl
+  visit_drawn First w = page_none tolerance w
 
 -- ---- the list of samples
 
@@ -85,42 +60,28 @@ samples_at (k ∷ ks) (u ∷ (v ∷ ps)) (suc i) z h t =
 
 module _ (tolerance : Float) (g : List Float) (k : Cells) (ks : List ℕ) (ps : List Float) where
   -- what is left of the trace: the samples from i on, with p before them
-  abbrev left : ℕ → Previous → Page → Outcome Page
+  abbrev pub left : ℕ → Option ParamPoint → Page → Outcome Page
   left i p = on_page tolerance (trace_moves g k i (drop i (samples_of ks ps)) p)
 
-  module _ (i : ℕ) (h : length ps ≡ 2 * length ks) where
-    pub trace_flushes : (p : Previous) (w : Page) → length ks ≤ i → left i p w ≡ flush_page w
+  module _ (h : SamplesFit ps ks) (i : ℕ) (p : Option ParamPoint) (w : Page) where
+    pub trace_flushes : length ks ≤ i → left i p w ≡ flush_page w
     unfolding trace_moves
-    trace_flushes p w t =
-        let past : length (samples_of ks ps) ≤ i = omega (arith, samples_length ks ps h) in
+    trace_flushes t =
+        let past : length (samples_of ks ps) ≤ i = omega (arith, samples_length ks ps h.0) in
         rw (drop_of_length-le (samples_of ks ps) past) (page_one tolerance flush w)
 
-    module _ (p : Previous) (w : Page) (t : i < length ks) {b : ParamPoint} {v : Visit}
-        (eb : b ≡ param_at ps i) (ev : v ≡ visit_of p (sample_at (get_or ks i 0) b))
-      where
-        abbrev here : Outcome Page
-        here = on_page tolerance (moves_by i (visit_moves g k v)) w
-
-        abbrev after : Previous
-        after = after_sample (sample_at (get_or ks i 0) b)
-
-        trace_turn : left i p w ≡ follow here (left (i + 1) after)
-        unfolding trace_moves
-        trace_turn =
-            let z = sample 0 nan nan in
-            let there : i < length (samples_of ks ps) = omega (arith, samples_length ks ps h) in
-            let first : drop i (samples_of ks ps) ≡ sample_at (get_or ks i 0) b ∷ drop (i + 1) (samples_of ks ps) =
-            rw (add-one i, drop-cons (samples_of ks ps) i z there, samples_at ks ps i z h t, eb) in
-            rw (first, ev)
-            (page_append tolerance (moves_by i (visit_moves g k (visit_of p (sample_at (get_or ks i 0) b))))
-            (trace_moves g k (i + 1) (drop (i + 1) (samples_of ks ps)) after) w)
-
-        module _ {z : Outcome Page} (ez : z ≡ left i p w) {r : Penned} {l : Lists}
-            (u : afterwards r l ≡ page_after here) where
-          -- the trace goes on
-          pub trace_goes : {pen : Pen} {o : Previous} → r ≡ Down pen → o ≡ after → z ≡ left (i + 1) o (page l pen)
-          trace_goes {pen} er eo = rw eo (ez ∙ trace_turn ∙ down here (left (i + 1) after) u pen er)
-
-          -- it is refused
-          pub trace_stops : {n : Refusal} → r ≡ Stop n → afterwards (Stop n) l ≡ page_after z
-          trace_stops {n} er = rw (ez, trace_turn) (stops here (left (i + 1) after) u n er)
+    -- sample i, with what its calls say of it, and what is left then
+    pub trace_turn : {o : Option ParamPoint} {v : Visit} (r : Check) (s : Sheet) → i < length ks →
+        o ≡ marked_point (sample_at (get_or ks i 0) (param_at ps i)) → v ≡ visit_of p o →
+        outcome_of r s ≡ on_page tolerance (moves_by i (visit_moves g k v)) w →
+        left i p w ≡ follow (outcome_of r s) (left (i + 1) o)
+    unfolding trace_moves
+    trace_turn {o} {v} r s t eo ev er =
+        let z = sample 0 nan nan in
+        let x = sample_at (get_or ks i 0) (param_at ps i) in
+        let there : i < length (samples_of ks ps) = omega (arith, samples_length ks ps h.0) in
+        let first : drop i (samples_of ks ps) ≡ x ∷ drop (i + 1) (samples_of ks ps) =
+        rw (add-one i, drop-cons (samples_of ks ps) i z there, samples_at ks ps i z h.0 t) in
+        rw (first, er, ev, eo)
+        (page_append tolerance (moves_by i (visit_moves g k (visit_of p (marked_point x))))
+        (trace_moves g k (i + 1) (drop (i + 1) (samples_of ks ps)) (marked_point x)) w)

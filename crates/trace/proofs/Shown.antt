@@ -17,7 +17,8 @@ use borrow.Author.Tests.{ltb-true, lt-ltb, le-ltb, leb-true, leb-false, le-leb, 
 use Rattle.vector.specs.Vectors.{all_close}
 use Rattle.grid.specs.Grid.{point_at}
 use Rattle.page.specs.declared.TracedPoint.{TracedPoint}
-use Rattle.page.specs.Page.{Lists, point_room, write_point, write_side, Page, has_room, close_to_pending, written, push_page}
+use Rattle.page.specs.Page.{Lists, point_room, write_point, write_side}
+use Rattle.page.specs.Page.{Page, has_room, close_to_pending, written, push_page}
 use Rattle.page.specs.Page.{write_at, write_start, kept, dropped, flush_page}
 use Rattle.page.proofs.Moves.{Related, both_on, both_off, test_related}
 use Rattle.page.proofs.Fits.{SizedPage, same_room, written_sized, kept_sized, dropped_sized}

@@ -1,6 +1,7 @@
 -- Rules 6.1, 7.1 and 7.5: samples, and the moves of samples in order, whatever the lines are held in.
 -- Original: `trace_parametric_edge_curve`.
-use Rattle.std.specs.Prelude.{cond, List, [], ◌∷◌, ◌++◌, ℕ, ◌+◌, ◌*◌, eqb, get_or, Float}
+use Rattle.std.specs.Prelude.{◌≡◌, cond, Some, None, Option}
+use Rattle.std.specs.Prelude.{List, [], ◌∷◌, ◌++◌, ℕ, ◌+◌, ◌*◌, ◌≤◌, eqb, length, get_or, Float}
 use Rattle.std.specs.Float.{nan}
 use Rattle.param.specs.declared.ParamPoint.{ParamPoint}
 use Rattle.param.specs.declared.Cells.{Cells}
@@ -10,8 +11,6 @@ use Rattle.page.specs.declared.TracedPoint.{TracedPoint}
 use Rattle.page.specs.Moves.{Move, flush}
 use Rattle.page.specs.Page.{moves_by}
 use Rattle.walk.specs.Walk.{leg_moves}
-use Rattle.trace.specs.declared.curve.Previous.{Previous}
-use Rattle.trace.specs.declared.curve.Previous.TheVariants.{At, Nowhere}
 use Rattle.trace.specs.declared.curve.Visit.{Visit}
 use Rattle.trace.specs.declared.curve.Visit.TheVariants.{Break, Along, First}
 
@@ -38,20 +37,25 @@ samples_of (k ∷ ks) (u ∷ (v ∷ ps)) = sample k u v ∷ samples_of ks ps
 abbrev pub param_at : List Float → ℕ → ParamPoint
 param_at ps i = param (get_or ps (2 * i) nan) (get_or ps (2 * i + 1) nan)
 
+-- what inner functions ask for of two such lists: their lengths belong together, and are not too long
+abbrev pub SamplesFit : List Float → List ℕ → Type 0
+SamplesFit ps ks = (length ps ≡ 2 * length ks) × (length ks ≤ 65537)
+
 -- ---- Rules 7.1 and 7.5
 
--- what the next sample has before it: nothing after a break
-abbrev pub after_sample : Sample → Previous
-after_sample x = cond (eqb x.mark 0) Nowhere (At x.point)
+-- the point of a sample, or none of a break
+abbrev pub marked_point : Sample → Option ParamPoint
+marked_point x = cond (eqb x.mark 0) None (Some x.point)
 
 -- a point with p before it: the end of a leg if p is a point, else a first point
-abbrev pub leg_from : Previous → ParamPoint → Visit
-leg_from (At a) b = Along (leg a b)
-leg_from Nowhere b = First
+abbrev pub leg_from : Option ParamPoint → ParamPoint → Visit
+leg_from (Some a) b = Along (leg a b)
+leg_from None b = First
 
 -- what a sample is to the walk, with p before it
-abbrev pub visit_of : Previous → Sample → Visit
-visit_of p x = cond (eqb x.mark 0) Break (leg_from p x.point)
+abbrev pub visit_of : Option ParamPoint → Option ParamPoint → Visit
+visit_of p None = Break
+visit_of p (Some b) = leg_from p b
 
 -- a break flushes the pending line, a leg is walked along, a first point does nothing
 abbrev pub visit_moves : List Float → Cells → Visit → List (Move Crossing)
@@ -61,6 +65,7 @@ visit_moves g k First = []
 
 -- samples in order, of which the first has number i and p before it, each counted, a break too; a point bears the
 -- number of the sample that its leg leads to; after the last sample the pending line is flushed
-unfoldable pub trace_moves : List Float → Cells → ℕ → List Sample → Previous → List (Move TracedPoint)
+unfoldable pub trace_moves : List Float → Cells → ℕ → List Sample → Option ParamPoint → List (Move TracedPoint)
 trace_moves g k i [] p = flush ∷ []
-trace_moves g k i (x ∷ xs) p = moves_by i (visit_moves g k (visit_of p x)) ++ trace_moves g k (i + 1) xs (after_sample x)
+trace_moves g k i (x ∷ xs) p =
+    moves_by i (visit_moves g k (visit_of p (marked_point x))) ++ trace_moves g k (i + 1) xs (marked_point x)

@@ -4,7 +4,8 @@ use Rattle.std.specs.Prelude.{◌≡◌, List, ℕ, ◌+◌, ◌*◌, ◌<◌, g
 use Rattle.std.specs.Float.{nan}
 use Rattle.refusal.specs.Refusals.{Answer, ok, refused}
 use Rattle.tolerance.specs.declared.Tolerances.{Tolerances}
-use Rattle.lent.specs.Lent.{Afterwards, Counts}
+use Rattle.lent.specs.declared.Counts.{Counts}
+use Rattle.lent.specs.Lent.{Afterwards}
 use Rattle.grid.specs.Grid.{point_at, Accepted}
 use Rattle.crossing.specs.Crossing.{blend}
 use Rattle.surface.specs.Surface.{Shape, triangles, Owns, StepsAround, Meets, Jₙ}

@@ -3,7 +3,8 @@
 use Rattle.std.specs.Prelude.{◌≡◌, List, ℕ, ◌-◌, ◌≤◌, ◌<◌, length, get_or, Float}
 use Rattle.refusal.specs.Refusals.{Answer}
 use Rattle.tolerance.specs.declared.Tolerances.{Tolerances}
-use Rattle.lent.specs.Lent.{Afterwards, Counts}
+use Rattle.lent.specs.declared.Counts.{Counts}
+use Rattle.lent.specs.Lent.{Afterwards}
 use Rattle.page.specs.Page.{Lists}
 use Rattle.trace.specs.Trace.{trace_flat}
 use Rattle.trace.specs.Demand.{points_in, EachPoint}

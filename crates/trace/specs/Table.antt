@@ -11,10 +11,11 @@ use Rattle.vector.specs.Vectors.{all_close}
 use Rattle.grid.specs.Grid.{coordinates_fit, grid_check}
 use Rattle.edges.specs.Table.{quarter, three_quarters}
 use Rattle.crossing.specs.Table as crossing
-use Rattle.lent.specs.Lent.{Afterwards, afterwards, Counts, counts}
+use Rattle.lent.specs.declared.Counts.{Counts}
+use Rattle.lent.specs.Lent.{Afterwards, afterwards, counts}
 use Rattle.page.specs.Moves.{run}
 use Rattle.page.specs.Page.{Lists, lists}
-use Rattle.walk.specs.Walk.{before_inside, after_inside, decide, events_moves, leg_moves}
+use Rattle.walk.specs.Walk.{between_inside, decide, events_moves, leg_moves}
 use Rattle.trace.specs.Curve.{samples_of, trace_moves}
 use Rattle.trace.specs.Drawing.{push_segment_point, flush_segment}
 use Rattle.trace.specs.Trace.{marks_fit, pairs_fit, trace_check, in_turn, trace_flat}
@@ -22,8 +23,9 @@ use Rattle.trace.specs.Trace.{marks_fit, pairs_fit, trace_check, in_turn, trace_
 -- `unfolding computed` opens every definition that a closed result needs
 unfoldable pub computed : Bool
 unfolding
-    crossing.computed larger all_close coordinates_fit grid_check samples_of before_inside after_inside decide events_moves
-    leg_moves trace_moves run push_segment_point flush_segment marks_fit pairs_fit trace_check in_turn trace_flat is_finite
+    crossing.computed larger all_close coordinates_fit grid_check samples_of between_inside decide events_moves
+    leg_moves trace_moves run push_segment_point flush_segment marks_fit pairs_fit trace_check in_turn trace_flat
+    is_finite
 computed = true
 
 -- a unit square as a grid of M = N = 1; lists with room for some points and lines, with no zero in them; and the trace

@@ -1,25 +1,23 @@
 -- Rules 11 and 8: the trace of flat samples: its refusals, its answer, and what it leaves in the lent lists.
-use Rattle.std.specs.Prelude.{Bool, true, ◌&&◌, ◌||◌, List, [], ◌∷◌, ◌++◌, ℕ, ◌*◌, eqb, leb, length, Float}
+use Rattle.std.specs.Prelude.{Bool, true, Some, None, Option, ◌&&◌, ◌||◌}
+use Rattle.std.specs.Prelude.{List, [], ◌∷◌, ◌++◌, ℕ, ◌*◌, eqb, leb, length, Float}
 use Rattle.std.specs.Float.{binary64}
 use Rattle.std.specs.Float.Ieee.{of_bits}
 use Rattle.float.specs.Consts.{zero64}
 use Rattle.float.specs.Sign.{at_most}
-use Rattle.refusal.specs.declared.Check.{Check}
-use Rattle.refusal.specs.declared.Check.TheVariants.{Passed}
 use Rattle.refusal.specs.declared.Refusal.TheVariants.{Length, Mark, Sample}
-use Rattle.refusal.specs.Refusals.{Answer, ok, refused, number_of, unless, and_then}
+use Rattle.refusal.specs.Refusals.{Check, passed, Answer, ok, refused, number_of, unless, and_then}
 use Rattle.tolerance.specs.declared.Tolerances.{Tolerances}
 use Rattle.tolerance.specs.Tolerance.{tolerances_check}
-use Rattle.lent.specs.Lent.{filled, Afterwards, afterwards, if_passed, Counts, counts}
+use Rattle.lent.specs.declared.Counts.{Counts}
+use Rattle.lent.specs.Lent.{filled, Afterwards, afterwards, if_passed, counts}
 use Rattle.grid.specs.Grid.{grid_check}
+use Rattle.param.specs.declared.ParamPoint.{ParamPoint}
 use Rattle.param.specs.Param.{cells}
 use Rattle.page.specs.declared.TracedPoint.{TracedPoint}
 use Rattle.page.specs.Moves.{Outcome, on, off}
 use Rattle.page.specs.Page.{Lists, lists}
-use Rattle.trace.specs.declared.curve.Previous.TheVariants.{Nowhere}
-use Rattle.trace.specs.declared.flat.Trace.{Trace}
-use Rattle.trace.specs.declared.flat.Trace.TheVariants.{Drawn, Refused}
-use Rattle.trace.specs.Curve.{samples_of, trace_moves}
+use Rattle.trace.specs.Curve.{sample, samples_of, marked_point, trace_moves}
 use Rattle.trace.specs.Drawing.{Drawing, Room, room_in, nothing_drawn, draw}
 
 -- ---- Rules 11.1, 11.2: the tests before the walk
@@ -30,7 +28,7 @@ samples_length_fits pairs marks = eqb (length pairs) (2 * length marks) && leb (
 
 -- refusal 2 of the samples
 abbrev pub check_lengths : List Float → List ℕ → Check
-check_lengths pairs marks = unless (samples_length_fits pairs marks) Length Passed
+check_lengths pairs marks = unless (samples_length_fits pairs marks) Length passed
 
 -- 9: every mark is 0 or 1
 unfoldable pub marks_fit : List ℕ → Bool
@@ -42,8 +40,9 @@ abbrev pub max_sample : Float
 max_sample = of_bits binary64 0x4130000000000000
 
 -- a break, whose coordinates are not looked at, or a point, both of whose are finite and at most that in magnitude
-abbrev pub sample_fits : ℕ → Float → Float → Bool
-sample_fits k u v = eqb k 0 || (at_most u max_sample && at_most v max_sample)
+abbrev pub sample_fits : Option ParamPoint → Bool
+sample_fits None = true
+sample_fits (Some p) = at_most p.u max_sample && at_most p.v max_sample
 
 -- 10: every sample fits
 -- (lists whose lengths do not belong together are refused before, by 2)
@@ -51,21 +50,14 @@ unfoldable pub pairs_fit : List Float → List ℕ → Bool
 pairs_fit ps [] = true
 pairs_fit [] (k ∷ ks) = true
 pairs_fit (u ∷ []) (k ∷ ks) = true
-pairs_fit (u ∷ (v ∷ ps)) (k ∷ ks) = sample_fits k u v && pairs_fit ps ks
+pairs_fit (u ∷ (v ∷ ps)) (k ∷ ks) = sample_fits (marked_point (sample k u v)) && pairs_fit ps ks
 
 -- refusals 1, 2 (grid, then samples), 13, 4, 9 and 10, in this order
 unfoldable pub trace_check : List Float → ℕ → ℕ → Tolerances → List Float → List ℕ → Check
 trace_check g m n tolerances pairs marks =
     and_then (grid_check g m n (and_then (check_lengths pairs marks) (tolerances_check tolerances)))
     (unless (marks_fit marks) Mark
-    (unless (pairs_fit pairs marks) Sample Passed))
-
--- ---- the answer
-
--- each case of the code's answer as its counts, or as the number of its refusal
-abbrev pub stated_trace : Trace → Answer Counts
-stated_trace (Drawn p l) = ok (counts p l)
-stated_trace (Refused k) = refused (number_of k)
+    (unless (pairs_fit pairs marks) Sample passed))
 
 -- ---- Rules 8.1, 8.2: what stands in the lists
 
@@ -101,7 +93,7 @@ lists_with cs ss l =
 -- the moves of all samples, numbered from 0, with nothing before the first, drawn, where close means by a tolerance
 abbrev pub drawing_of : Float → List Float → ℕ → ℕ → List Float → List ℕ → Room → Outcome Drawing
 drawing_of tolerance g m n pairs marks room =
-    draw tolerance room (trace_moves g (cells m n) 0 (samples_of marks pairs) Nowhere) nothing_drawn
+    draw tolerance room (trace_moves g (cells m n) 0 (samples_of marks pairs) None) nothing_drawn
 
 -- Rules 8.2, 8.3: the counts and the lists; 11 and 12 leave every place zero
 abbrev pub finished : Outcome Drawing → Lists → Afterwards (Answer Counts) Lists

@@ -1,8 +1,14 @@
-// The samples of a trace, as pairs and marks, and the refusals before the walk (Rules 11).
-ghost use Rattle.std.specs.Prelude.{◌*◌, ◌≡◌, length};
+// The samples of a trace, and the refusals before the walk (Rules 6.1 and 11).
+ghost use Rattle.std.specs.Prelude.{◌<◌, ◌≡◌, IfOk, length, get_or};
+ghost use Rattle.refusal.specs.Refusals.{tested};
+ghost use Rattle.param.specs.Param.{cells};
+ghost use Rattle.trace.specs.Curve.{SamplesFit, sample_at, param_at, marked_point};
 ghost use Rattle.trace.specs.Trace.{check_lengths, marks_fit, sample_fits, pairs_fit, trace_check};
 
-use refusal::{Check, Refusal};
+use float::sign::at_most;
+use grid::{Grid, check_grid};
+use param::ParamPoint;
+use refusal::Refusal;
 use tolerance::Tolerances;
 
 // A trace takes at most this many marks.
@@ -11,76 +17,96 @@ pub const MAX_MARKS: usize = 65537;
 // The largest magnitude of a coordinate of a sample that is a point.
 const MAX_SAMPLE: f64 = 1048576.0;
 
-// Whether every mark is 0 or 1.
-fn marks_fit(marks: &[u8]) -> bool
-    ensures { result ≡ marks_fit marks.now }
+// Samples: u and v of each in turn, and a mark for each.
+// Two lists, as C and a project rule have them: `at` gives a point or None.
+#[derive(Clone, Copy)]
+pub struct Samples<'a> {
+    pub pairs: &'a [f64],
+    pub marks: &'a [u8],
+    pub ghost fits: { SamplesFit pairs.now marks.now },
+}
+
+// A break, or a point whose coordinates are finite and at most 1,048,576 in magnitude.
+fn sample_fits(sample: Option<ParamPoint>) -> bool
+    ensures { result ≡ sample_fits sample }
 {
-    let mut i: usize = 0;
-    while i < marks.len() {
-        let mark = marks[i];
-        if 1 < mark {
-            return false;
+    match sample {
+        None => true,
+        Some(point) => at_most(point.u, MAX_SAMPLE) && at_most(point.v, MAX_SAMPLE),
+    }
+}
+
+impl<'a> Samples<'a> {
+    // Refusal 2 of the samples.
+    fn new(pairs: &'a [f64], marks: &'a [u8]) -> Result<Samples<'a>, Refusal>
+        ensures check { tested result ≡ check_lengths pairs.now marks.now }
+        ensures lists { IfOk result (λ s. (s.pairs.now ≡ pairs.now) × (s.marks.now ≡ marks.now)) }
+    {
+        if marks.len() <= MAX_MARKS && pairs.len() == 2 * marks.len() {
+            Ok(Samples { pairs, marks })
+        } else {
+            Err(Refusal::Length)
         }
-        i += 1;
     }
-    true
-}
 
-// A break, or a pair whose coordinates are finite and at most 1,048,576 in magnitude.
-fn sample_fits(mark: u8, u: f64, v: f64) -> bool
-    ensures { result ≡ sample_fits mark u v }
-{
-    (mark == 0) | (float::sign::at_most(u, MAX_SAMPLE) & float::sign::at_most(v, MAX_SAMPLE))
-}
+    // How many there are.
+    pub(crate) fn len(&self) -> usize
+        ensures { result ≡ length self.now.marks.now }
+    {
+        self.marks.len()
+    }
 
-// Whether every sample fits.
-fn pairs_fit(pairs: &[f64], marks: &[u8]) -> bool
-    requires { length pairs.now ≡ 2 * length marks.now }
-    ensures { result ≡ pairs_fit pairs.now marks.now }
-{
-    let mut i: usize = 0;
-    while i < marks.len() {
-        if !sample_fits(marks[i], pairs[2 * i], pairs[2 * i + 1]) {
-            return false;
+    // The point of sample i, or none of a break.
+    pub(crate) fn at(&self, i: usize) -> Option<ParamPoint>
+        requires { i < length self.now.marks.now }
+        ensures { result ≡ marked_point (sample_at (get_or self.now.marks.now i 0) (param_at self.now.pairs.now i)) }
+    {
+        if self.marks[i] == 0 {
+            return None;
         }
-        i += 1;
+        Some(ParamPoint {
+            u: self.pairs[2 * i],
+            v: self.pairs[2 * i + 1],
+        })
     }
-    true
-}
 
-// Refusal 2 of the samples.
-fn check_lengths(pairs: &[f64], marks: &[u8]) -> Check
-    ensures { result ≡ check_lengths pairs.now marks.now }
-{
-    if MAX_MARKS < marks.len() {
-        return Check::Failed(Refusal::Length);
+    // Whether every mark is 0 or 1.
+    fn marks_fit(&self) -> bool
+        ensures { result ≡ marks_fit self.now.marks.now }
+    {
+        self.marks.iter().all(|mark| *mark <= 1)
     }
-    if pairs.len() != 2 * marks.len() {
-        return Check::Failed(Refusal::Length);
+
+    // Whether every sample fits.
+    fn pairs_fit(&self) -> bool
+        ensures { result ≡ pairs_fit self.now.pairs.now self.now.marks.now }
+    {
+        (0..self.len()).all(|i| sample_fits(self.at(i)))
     }
-    Check::Passed
 }
 
 // Refusals 1, 2 (grid, then samples), 13, 4, 9 and 10, in this order.
-pub fn check_trace(
-    grid: &[f64],
+#[tactic(auto, unfolding(crate::specs::Trace::trace_check))]
+pub fn check_trace<'a>(
+    points: &'a [f64],
     m: usize,
     n: usize,
     tolerances: Tolerances,
-    pairs: &[f64],
-    marks: &[u8],
-) -> Check
-    ensures { result ≡ trace_check grid.now m n tolerances pairs.now marks.now }
+    pairs: &'a [f64],
+    marks: &'a [u8],
+) -> Result<(Grid<'a>, Samples<'a>), Refusal>
+    ensures check { tested result ≡ trace_check points.now m n tolerances pairs.now marks.now }
+    ensures grid { IfOk result (λ r. (r.0.points.now ≡ points.now) × (r.0.cells ≡ cells m n)) }
+    ensures samples { IfOk result (λ r. (r.1.pairs.now ≡ pairs.now) × (r.1.marks.now ≡ marks.now)) }
 {
-    let own = check_lengths(pairs, marks).and_then(tolerances.check());
-    if let Check::Failed(refusal) = grid::check_grid(grid, m, n, own) {
-        return Check::Failed(refusal);
+    let samples = Samples::new(pairs, marks);
+    let grid = check_grid(points, m, n, samples.and(tolerances.check()))?;
+    let samples = samples?;
+    if !samples.marks_fit() {
+        return Err(Refusal::Mark);
     }
-    if !marks_fit(marks) {
-        return Check::Failed(Refusal::Mark);
+    if !samples.pairs_fit() {
+        return Err(Refusal::Sample);
     }
-    if !pairs_fit(pairs, marks) {
-        return Check::Failed(Refusal::Sample);
-    }
-    Check::Passed
+    Ok((grid, samples))
 }

@@ -1,5 +1,5 @@
 -- The known results of Rules 4.5, by computation: whole calls over seams that are given.
-use Rattle.std.specs.Prelude.{ℕ, ◌≡◌, refl, Bool, true, List, [], ◌∷◌, ◌++◌, Float, replicate}
+use Rattle.std.specs.Prelude.{ℕ, ◌≡◌, refl, Bool, true, List, [], ◌∷◌, ◌++◌, Float, replicate, Some, None}
 use Rattle.std.specs.Float.Ieee.{of_bits, lt, le, neg, sub, round}
 use Rattle.float.specs.Consts.{eps, zero64, one64}
 use Rattle.float.specs.Sign.{absolute, is_finite}
@@ -10,7 +10,6 @@ use Rattle.lent.specs.Lent.{afterwards}
 use Rattle.vector.specs.Vectors.{all_close}
 use Rattle.grid.specs.Grid.{point_at, coordinates_fit, grid_check}
 use Rattle.cyclic.specs.declared.mapping.CyclicMapping.TheVariants.{Forward, Reverse}
-use Rattle.cyclic.specs.declared.seam.Seam.TheVariants.{Joined, Unjoined}
 use Rattle.cyclic.specs.Mapping as mapping
 use Rattle.cyclic.specs.Search.{try_from, closed}
 use Rattle.cyclic.specs.Fits.{seam_fits}
@@ -38,33 +37,33 @@ abbrev one_point : List Float
 one_point = replicate 48 zero64
 
 -- a u seam that is given as reversed, and no v seam
-reversed_u : (triangulate_seams one_point 3 3 every_eps (Joined (Reverse 0 3)) Unjoined (lent 54 12)).lists.flipped
+reversed_u : (triangulate_seams one_point 3 3 every_eps (Some (Reverse 0 3)) None (lent 54 12)).lists.flipped
     ≡ 0 ∷ 17 ∷ 2 ∷ 15 ∷ 4 ∷ 13 ∷ 0 ∷ 0 ∷ 0 ∷ 0 ∷ 0 ∷ 0 ∷ []
 unfolding computed
 reversed_u = refl
 
 -- other steps than the row's, and an offset that is not below them: 14, and the lists as they were
 not_of_rows :
-    (triangulate_seams one_point 3 3 every_eps (Joined (Forward 0 4)) Unjoined (lent 54 12)
+    (triangulate_seams one_point 3 3 every_eps (Some (Forward 0 4)) None (lent 54 12)
     ≡ afterwards (refused 14) (lent 54 12))
-    × (triangulate_seams one_point 3 3 every_eps (Joined (Forward 3 3)) Unjoined (lent 54 12)
+    × (triangulate_seams one_point 3 3 every_eps (Some (Forward 3 3)) None (lent 54 12)
     ≡ afterwards (refused 14) (lent 54 12))
 unfolding computed
 not_of_rows = (refl, refl)
 
 -- 1 by 3 steps by the x of their points: the columns are closed, and b is a step further round; then b is open
 shifted :
-    ((triangulate_seams (round_row ++ along (one64 ∷ two64 ∷ zero64 ∷ one64 ∷ [])) 1 3 every_eps (Joined (Forward 2 3))
-    Unjoined (lent 18 8)).answer
+    ((triangulate_seams (round_row ++ along (one64 ∷ two64 ∷ zero64 ∷ one64 ∷ [])) 1 3 every_eps (Some (Forward 2 3))
+    None (lent 18 8)).answer
     ≡ ok (record { triangles = 2; pairs = 0 }))
-    × ((triangulate_seams (round_row ++ along (one64 ∷ two64 ∷ zero64 ∷ nine64 ∷ [])) 1 3 every_eps (Joined (Forward 2 3))
-    Unjoined (lent 18 8)).answer
+    × ((triangulate_seams (round_row ++ along (one64 ∷ two64 ∷ zero64 ∷ nine64 ∷ [])) 1 3 every_eps (Some (Forward 2 3))
+    None (lent 18 8)).answer
     ≡ refused 14)
 unfolding computed
 shifted = (refl, refl)
 
 -- one cell without seams
-no_seam : triangulate_seams (replicate 12 zero64) 1 1 every_eps Unjoined Unjoined (lent 6 4)
+no_seam : triangulate_seams (replicate 12 zero64) 1 1 every_eps None None (lent 6 4)
     ≡ afterwards (ok (record { triangles = 2; pairs = 0 })) (mesh_lists (0 ∷ 2 ∷ 1 ∷ 2 ∷ 3 ∷ 1 ∷ []) (replicate 4 0))
 unfolding computed
 no_seam = refl

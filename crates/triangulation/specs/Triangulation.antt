@@ -1,36 +1,27 @@
 -- Rules 4, 8 and 11 of `triangulate_seams`: what it answers and leaves in the two lent lists, or which refusal it gives.
-use Rattle.std.specs.Prelude.{ℕ, List, Float}
-use Rattle.refusal.specs.declared.Check.{Check}
-use Rattle.refusal.specs.declared.Check.TheVariants.{Passed}
+use Rattle.std.specs.Prelude.{ℕ, List, Float, None}
 use Rattle.refusal.specs.declared.Refusal.TheVariants.{Mapping}
-use Rattle.refusal.specs.Refusals.{Answer, ok, refused, number_of, values_or, unless, and_then}
+use Rattle.refusal.specs.Refusals.{Check, passed, Answer, ok, refused, values_or, unless, and_then}
 use Rattle.tolerance.specs.declared.Tolerances.{Tolerances}
 use Rattle.lent.specs.Lent.{Afterwards, answering, if_passed}
-use Rattle.cyclic.specs.declared.seam.Seam.{Seam}
-use Rattle.cyclic.specs.declared.seam.Seam.TheVariants.{Unjoined}
+use Rattle.cyclic.specs.Mapping.{Seam}
 use Rattle.cyclic.specs.Search.{searched}
 use Rattle.surface.specs.Found.{surface_with}
 use Rattle.surface.specs.Given.{seams_fit}
 use Rattle.grid_seams.specs.declared.Seams.{Seams}
 use Rattle.grid_seams.specs.Seams.{find_seams}
 use Rattle.mesh.specs.declared.MeshCounts.{MeshCounts}
-use Rattle.mesh.specs.Mesh.{MeshLists, Meshed, written, mesh_check, meshed}
-use Rattle.triangulation.specs.declared.GivenTriangulation.{GivenTriangulation}
-use Rattle.triangulation.specs.declared.GivenTriangulation.TheVariants as given
+use Rattle.mesh.specs.declared.Meshed.{Meshed}
+use Rattle.mesh.specs.Mesh.{MeshLists, written, mesh_check, meshed}
 
 -- ---- refusals
 
 -- Rules 11.2: refusals 1, 2, 13, 3 and 4, and then 14, where a seam that is given does not fit
 unfoldable pub given_check : List Float → ℕ → ℕ → Tolerances → Seam → Seam → List ℕ → List ℕ → Check
 given_check g m n tolerances u v t f =
-    and_then (mesh_check g m n tolerances t f) (unless (seams_fit g m n tolerances u v) Mapping Passed)
+    and_then (mesh_check g m n tolerances t f) (unless (seams_fit g m n tolerances u v) Mapping passed)
 
 -- ---- over seams that are given
-
--- the number and the values of each case
-abbrev pub stated_counts : GivenTriangulation → Answer MeshCounts
-stated_counts (given.Triangulated t f) = ok (record { triangles = t; pairs = f })
-stated_counts (given.Refused k) = refused (number_of k)
 
 -- Rules 4.5: the open call `triangulate_seams`; a refusal leaves the lists as they were (Rules 8.3)
 unfoldable pub triangulate_seams : List Float → ℕ → ℕ → Tolerances → Seam → Seam → MeshLists →
@@ -48,7 +39,7 @@ with_seams s (refused k) = refused k
 
 -- no seam, after no comparison, for both
 abbrev pub no_seams : Seams
-no_seams = record { u = searched Unjoined 0; v = searched Unjoined 0 }
+no_seams = record { u = searched None 0; v = searched None 0 }
 
 -- Rules 4.5: `find_seams`, and `triangulate_seams` with what it found. Where the first is refused nothing was found, and
 -- the number is that of the second: so 3 comes before 4. It is `triangulate_grid` (`in_turn_lem` of the proofs).

@@ -1,69 +1,61 @@
 // Triangles and flipped pairs of a grid over two seams that are given (Rules 4).
 #![tactic(auto)]
 
-ghost use Rattle.std.specs.Prelude.{◌≡◌};
+ghost use Rattle.std.specs.Prelude.{◌≡◌, IfOk};
+ghost use Rattle.refusal.specs.Refusals.{tested, stated};
 ghost use Rattle.lent.specs.Lent.{afterwards};
 ghost use Rattle.surface.specs.Given.{GivenMeets};
 ghost use Rattle.mesh.specs.Mesh.{mesh_lists};
-ghost use Rattle.triangulation.specs.Triangulation.{given_check, triangulate_seams, stated_counts};
+ghost use Rattle.triangulation.specs.Triangulation.{given_check, triangulate_seams};
 
-use cyclic::seam::Seam;
+use cyclic::mapping::CyclicMapping;
+use mesh::MeshCounts;
 use mesh::corner::Surface;
-use refusal::{Check, Refusal};
+use refusal::Refusal;
 use tolerance::Tolerances;
 
-// The count of triangles and the count of flipped pairs, over seams that are given.
-#[derive(Clone, Copy)]
-pub enum GivenTriangulation {
-    Triangulated(usize, usize),
-    Refused(Refusal),
-}
-
 // Refusals 1, 2, 13, 3, 4 (Rules 11.2) and then 14: a seam that is given does not fit.
+#[tactic(auto, unfolding(crate::specs::Triangulation::given_check))]
 fn check_given(
-    grid: &[f64],
+    points: &[f64],
     m: usize,
     n: usize,
     tolerances: Tolerances,
-    u: Seam,
-    v: Seam,
+    u: Option<CyclicMapping>,
+    v: Option<CyclicMapping>,
     triangles: &[usize],
     flipped: &[usize],
-) -> Check
-    ensures { result ≡ given_check grid.now m n tolerances u v
-        triangles.now flipped.now }
+) -> Result<Surface, Refusal>
+    ensures check { tested result ≡ given_check points.now m n tolerances u v triangles.now flipped.now }
+    ensures surface { IfOk result (λ s. (s.m ≡ m) × (s.n ≡ n) × (s.u ≡ u) × (s.v ≡ v)) }
 {
-    if let Check::Failed(k) = mesh::check_mesh(grid, m, n, tolerances, triangles, flipped) {
-        return Check::Failed(k);
+    let grid = mesh::check_mesh(points, m, n, tolerances, triangles, flipped)?;
+    if grid_seams::given::seams_fit(&grid, tolerances, u, v) {
+        Ok(Surface { m, n, u, v })
+    } else {
+        Err(Refusal::Mapping)
     }
-    if !grid_seams::given::seams_fit(grid, m, n, tolerances, u, v) {
-        return Check::Failed(Refusal::Mapping);
-    }
-    Check::Passed
 }
 
 // The triangles and flipped pairs of a grid of m by n steps into the two lists, over two seams that are given: None or
 // mappings that fit at the tolerances. That of lines is tested and not used.
+// The clause surface stands on each open call, as a project rule has it.
+#[tactic(auto, unfolding(crate::specs::Triangulation::triangulate_seams))]
 pub fn triangulate_seams(
-    grid: &[f64],
+    points: &[f64],
     m: usize,
     n: usize,
     tolerances: Tolerances,
-    u: Seam,
-    v: Seam,
+    u: Option<CyclicMapping>,
+    v: Option<CyclicMapping>,
     triangles: &mut [usize],
     flipped: &mut [usize],
-) -> GivenTriangulation
-    ensures handed { afterwards (stated_counts result) (mesh_lists triangles.new flipped.new)
-        ≡ triangulate_seams grid.now m n tolerances u v
+) -> Result<MeshCounts, Refusal>
+    ensures handed { afterwards (stated result) (mesh_lists triangles.new flipped.new)
+        ≡ triangulate_seams points.now m n tolerances u v
         (mesh_lists triangles.old flipped.old) }
-    ensures surface { GivenMeets grid.now m n }
+    ensures surface { GivenMeets points.now m n }
 {
-    match check_given(grid, m, n, tolerances, u, v, triangles, flipped) {
-        Check::Failed(k) => GivenTriangulation::Refused(k),
-        Check::Passed => {
-            let counts = mesh::triangulate(Surface { m, n, u, v }, triangles, flipped);
-            GivenTriangulation::Triangulated(counts.triangles, counts.pairs)
-        }
-    }
+    let surface = check_given(points, m, n, tolerances, u, v, triangles, flipped)?;
+    Ok(mesh::triangulate(surface, triangles, flipped))
 }

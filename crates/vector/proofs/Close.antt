@@ -2,16 +2,15 @@
 -- but `larger` leaves a NaN out: so a NaN difference is passed over, and only three of them are never close.
 use mathlib.Core.Path.{◌≡◌, refl, sym, ◌∙◌}
 use mathlib.Core.Bool.{Bool, true, false, not, ◌&&◌, ◌||◌, or-true, or-false, and-true, and-false, true≢false}
-use lib.Ieee.{Float, nan, inf, fin, binary64, lt, le, eq, ne, neg, sub, of_bits, is_nan}
-use borrow.Author.Tests.{not-true, not-false}
+use lib.Ieee.{Float, nan, binary64, lt, le, neg, sub, of_bits, is_nan}
 use Rattle.float.specs.Consts.{eps, zero64, one64}
 use Rattle.float.specs.Sign.{absolute, is_finite}
 use Rattle.float.specs.Order.{larger}
 use Rattle.float.specs.Table.{computed}
 use Rattle.basics.proofs.Tests.{and_both, cannot}
-use Rattle.float.proofs.Less.{le_is, le_not_nan, lt_le, lt_le_trans, eq_self, ne_self}
+use Rattle.float.proofs.Less.{le_is, lt_le, lt_le_trans}
 use Rattle.float.proofs.Differences.{sub_swap, sub_not_nan, sub_self}
-use Rattle.float.proofs.Between.{abs_below}
+use Rattle.float.proofs.Between.{abs_below, neg_nan, not_le_nan}
 use Rattle.float.proofs.Larger.{abs_nan, larger_nan, larger_under, nan_not_below}
 use Rattle.vector.specs.declared.Vector.{Vector}
 use Rattle.vector.specs.Vectors.{vector, minus, absolutes, largest, all_close}
@@ -53,24 +52,12 @@ unfolding all_close
 close_by_lem a b t = largest_below (minus a b) t
 
 -- ---- as `all_close` tests it
--- no value is at most a NaN, nor a NaN at most a value, nor is a value less than one
-not_le_nan : (x y : Float) → is_nan y ≡ true → (le x y ≡ false) × (le y x ≡ false)
-not_le_nan x y h = (
-  cannot (le x y) (λ e. true≢false (sym h ∙ (le_not_nan x y e).1)),
-  cannot (le y x) (λ e. true≢false (sym h ∙ (le_not_nan y x e).0)),
-)
-
+-- no value is less than a NaN
 not_lt_nan : (x y : Float) → is_nan y ≡ true → lt x y ≡ false
 not_lt_nan x y h = cannot (lt x y) (λ e. true≢false (sym (lt_le x y e) ∙ (not_le_nan x y h).0))
 
-neg_nan : (x : Float) → is_nan (neg x) ≡ is_nan x
-unfolding neg is_nan
-neg_nan nan = refl
-neg_nan (inf s) = refl
-neg_nan (fin s m e) = refl
-
 -- what does not pass is the tolerance or more in magnitude, or, where that is a NaN, any number
-pub apart_is : (d t : Float) → (le t d || le d (neg t)) || (ne t t && eq d d) ≡ not (passes d t)
+pub apart_is : (d t : Float) → (le t d || le d (neg t)) || (is_nan t && not (is_nan d)) ≡ not (passes d t)
 apart_is d t = go (is_nan t) (is_nan d) refl refl
   where
     both : (p q : Bool) → (not p || not q) || false ≡ not (q && p || false)
@@ -80,51 +67,11 @@ apart_is d t = go (is_nan t) (is_nan d) refl refl
     both false false = refl
 
     go : (k n : Bool) → is_nan t ≡ k → is_nan d ≡ n →
-        (le t d || le d (neg t)) || (ne t t && eq d d) ≡ not (lt (absolute d) t || n)
-    go true n e h =
-        simp (
-          (not_le_nan d t e).1,
-          (not_le_nan d (neg t) (neg_nan t ∙ e)).0,
-          ne_self,
-          eq_self,
-          e,
-          h,
-          not_lt_nan (absolute d) t e,
-        )
-    go false true e h = simp ((not_le_nan t d h).0, (not_le_nan (neg t) d h).1, ne_self, e, or-true)
+        (le t d || le d (neg t)) || (k && not n) ≡ not (lt (absolute d) t || n)
+    go true n e h = simp ((not_le_nan d t e).1, (not_le_nan d (neg t) (neg_nan t ∙ e)).0, not_lt_nan (absolute d) t e)
+    go false true e h = simp ((not_le_nan t d h).0, (not_le_nan (neg t) d h).1, or-true)
     go false false e h =
-        simp (le_is t d e h, le_is d (neg t) h (neg_nan t ∙ e), abs_below d t, ne_self, e)
-        (both (lt d t) (lt (neg t) d))
-
--- r is the answer of `apart` of one difference
-module _ {r : Bool} (d t : Float) (e : r ≡ not (passes d t)) where
-  pub apart_fails : r ≡ true → passes d t ≡ false
-  apart_fails h = not-true _ (sym e ∙ h)
-
-  pub near_passes : r ≡ false → passes d t ≡ true
-  near_passes h = not-false _ (sym e ∙ h)
-
-module _ (a b d : Vector) (t : Float) (e : d ≡ minus a b) where
-  close_differences : all_close a b t ≡ close_by d t
-  close_differences = rw e (close_by_lem a b t)
-
-  pub apart_first : passes d.x t ≡ false → false ≡ all_close a b t
-  apart_first h = simp (close_differences, h)
-
-  pub apart_second : passes d.y t ≡ false → false ≡ all_close a b t
-  apart_second h = simp (close_differences, h, and-false)
-
-  pub apart_third : passes d.z t ≡ false → false ≡ all_close a b t
-  apart_third h = simp (close_differences, h, and-false)
-
-  pub none_apart : passes d.x t ≡ true → passes d.y t ≡ true → passes d.z t ≡ true →
-      eq d.x d.x || eq d.y d.y || eq d.z d.z ≡ all_close a b t
-  none_apart h k l = simp (eq_self, close_differences, h, k, l) (either (is_nan d.x) (is_nan d.y) (is_nan d.z))
-    where
-      either : (p q r : Bool) → not p || not q || not r ≡ not (p && q && r)
-      either true true r = refl
-      either true false r = refl
-      either false q r = refl
+        simp (le_is t d e h, le_is d (neg t) h (neg_nan t ∙ e), abs_below d t) (both (lt d t) (lt (neg t) d))
 
 -- ---- points whose differences all lie between the tolerance and its negative are close
 abbrev pub within : Float → Float → Bool
@@ -143,7 +90,8 @@ close_within a b d t e h =
     let x = within_below d.x t each.0 in
     let y = within_below d.y t each.1 in
     let z = within_below d.z t xy.1 in
-    close_differences a b d t e ∙ simp (x.0, y.0, z.0, x.1)
+    let by : all_close a b t ≡ close_by d t = rw e (close_by_lem a b t) in
+    by ∙ simp (x.0, y.0, z.0, x.1)
 
 -- ---- what is close by a tolerance is close by a larger one
 pub close_coarser : (a b : Vector) (s t : Float) → le s t ≡ true → all_close a b s ≡ true → all_close a b t ≡ true

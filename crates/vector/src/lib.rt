@@ -13,6 +13,7 @@ pub struct Vector {
     pub z: f64,
 }
 
+// Each of the first three is as short as a call with its operator as a closure would be.
 impl Vector {
     pub fn add(self, other: Vector) -> Vector
         ensures { result ≡ plus self other }
@@ -46,27 +47,21 @@ impl Vector {
 
     // Whether two points are close at a tolerance, whatever that is: no difference keeps them apart, and not all three
     // are NaNs, which f64::max passes over.
+    #[tactic(auto, using(crate::proofs::Close::close_by_lem))]
     pub fn all_close(self, other: Vector, tolerance: f64) -> bool
         ensures { result ≡ all_close self other tolerance }
     {
         let d = self.sub(other);
-        if apart(d.x, tolerance) {
-            return false;
-        }
-        if apart(d.y, tolerance) {
-            return false;
-        }
-        if apart(d.z, tolerance) {
-            return false;
-        }
-        (d.x == d.x) | (d.y == d.y) | (d.z == d.z)
+        let apart = apart(d.x, tolerance) || apart(d.y, tolerance) || apart(d.z, tolerance);
+        !apart && !(d.x.is_nan() & d.y.is_nan() & d.z.is_nan())
     }
 }
 
 // Whether a difference keeps two points apart: it is a number, and its magnitude is not below the tolerance. Nothing is
 // below a NaN.
+#[tactic(auto, using(crate::proofs::Close::apart_is))]
 fn apart(d: f64, tolerance: f64) -> bool
     ensures { result ≡ not (lt (absolute d) tolerance || is_nan d) }
 {
-    (tolerance <= d) | (d <= -tolerance) | ((tolerance != tolerance) & (d == d))
+    (tolerance <= d) | (d <= -tolerance) | (tolerance.is_nan() & !d.is_nan())
 }

@@ -1,69 +1,44 @@
--- What is decided of one event, done to the lists: a push and what follows it, by what the calls gave.
-use mathlib.Core.Path.{◌≡◌, ◌∙◌}
+-- What is decided of one event, done to the lists: what becomes of its point, and then the line's end, if it ends.
+use mathlib.Core.Path.{◌≡◌, refl}
 use mathlib.Core.Bool.{Bool, true, false}
 use Prim.Native.Nat.{ℕ}
 use lib.Ieee.{Float}
+use Rattle.std.specs.Prelude.{Some, None, Option, Ok, Err, Result}
 use Rattle.refusal.specs.declared.Refusal.{Refusal}
-use Rattle.refusal.specs.declared.Refusal.TheVariants as refusals
-use Rattle.lent.specs.Lent.{afterwards}
 use Rattle.crossing.specs.declared.Crossing.{Crossing}
-use Rattle.page.specs.declared.Pen.{Pen}
-use Rattle.page.specs.declared.Penned.{Penned}
-use Rattle.page.specs.declared.Penned.TheVariants as penned
-use Rattle.page.specs.Moves.{push, flush, stop, Outcome, off, follow}
-use Rattle.page.specs.Page.{Lists, traced_by, moves_by, Page, page, push_page, flush_unless, on_page, page_after}
-use Rattle.page.proofs.Follow.{down, stops, page_none, page_one, by_append}
-use Rattle.walk.specs.declared.EventPoint.TheVariants.{Push, Pass, Stop}
+use Rattle.page.specs.Moves.{push, flush, stop, Outcome, on, off, follow}
+use Rattle.page.specs.Page.{traced_by, moves_by, Page, push_page, flush_unless, on_page}
+use Rattle.page.proofs.Follow.{page_none, page_one, by_append}
 use Rattle.walk.specs.declared.Decision.{Decision}
 use Rattle.walk.specs.Walk.{point_moves, end_moves, moves_of}
 
--- the line's end
-pub end_run : (tolerance : Float) (sample : ℕ) (inside : Bool) (w : Page) →
-    on_page tolerance (moves_by sample (end_moves inside)) w ≡ flush_unless inside w
-end_run tolerance sample true w = page_none tolerance w
-end_run tolerance sample false w = page_one tolerance flush w
+module _ (tolerance : Float) (sample : ℕ) where
+  -- the line's end
+  end_drawn : (inside : Bool) (w : Page) →
+      on_page tolerance (moves_by sample (end_moves inside)) w ≡ flush_unless inside w
+  end_drawn true w = page_none tolerance w
+  end_drawn false w = page_one tolerance flush w
 
-module _ (tolerance : Float) (sample : ℕ) (d : Decision) (w : Page) where
-  abbrev done : Outcome Page
-  done = on_page tolerance (moves_by sample (moves_of d)) w
+  -- what becomes of a point
+  abbrev pub point_drawn : Result (Option Crossing) Refusal → Page → Outcome Page
+  point_drawn (Ok (Some c)) w = push_page tolerance (traced_by sample c) w
+  point_drawn (Ok None) w = on w
+  point_drawn (Err k) w = off k w
 
-  abbrev ending : Page → Outcome Page
-  ending = on_page tolerance (moves_by sample (end_moves d.inside))
+  point_is : (p : Result (Option Crossing) Refusal) (w : Page) →
+      on_page tolerance (moves_by sample (point_moves p)) w ≡ point_drawn p w
+  point_is (Ok (Some c)) w = page_one tolerance (push (traced_by sample c)) w
+  point_is (Ok None) w = page_none tolerance w
+  point_is (Err k) w = page_one tolerance (stop k) w
 
-  parted : done ≡ follow (on_page tolerance (moves_by sample (point_moves d.point)) w) ending
-  parted = by_append tolerance sample (point_moves d.point) (end_moves d.inside) w
+  -- what ends the line, after an outcome
+  pub then_end : (inside : Bool) (x : Outcome Page) →
+      follow x (on_page tolerance (moves_by sample (end_moves inside))) ≡ follow x (flush_unless inside)
+  then_end inside (on w) = end_drawn inside w
+  then_end inside (off k w) = refl
 
-  -- no point
-  pub draws_end : d.point ≡ Pass → {r : Penned} {l : Lists} →
-      afterwards r l ≡ page_after (flush_unless d.inside w) → afterwards r l ≡ page_after done
-  draws_end e u =
-      let is : done ≡ flush_unless d.inside w =
-      parted ∙ rw (e, page_none tolerance w) (end_run tolerance sample d.inside w) in
-      rw is u
-
-  -- no answer for its point
-  pub draws_stop : d.point ≡ Stop → afterwards (penned.Stop refusals.NoStep) w.lists ≡ page_after done
-  draws_stop e =
-      let is : done ≡ off refusals.NoStep w = parted ∙ rw (e, page_one tolerance (stop refusals.NoStep) w) in
-      rw is
-
-  module _ {c : Crossing} (e : d.point ≡ Push c) {r : Penned} {l : Lists}
-      (u : afterwards r l ≡ page_after (push_page tolerance (traced_by sample c) w)) where
-    abbrev pushed : Outcome Page
-    pushed = push_page tolerance (traced_by sample c) w
-
-    after_push : done ≡ follow pushed ending
-    after_push = parted ∙ rw (e, page_one tolerance (push (traced_by sample c)) w)
-
-    -- the point is pushed
-    pub draws_point : {pen : Pen} → r ≡ penned.Down pen → {r' : Penned} {l' : Lists} →
-        afterwards r' l' ≡ page_after (flush_unless d.inside (page l pen)) →
-        afterwards r' l' ≡ page_after done
-    draws_point {pen} er v =
-        let is : done ≡ flush_unless d.inside (page l pen) =
-        after_push ∙ down pushed ending u pen er ∙ end_run tolerance sample d.inside (page l pen) in
-        rw is v
-
-    -- it is refused
-    pub draws_full : {k : Refusal} → r ≡ penned.Stop k → afterwards (penned.Stop k) l ≡ page_after done
-    draws_full {k} er = rw after_push (stops pushed ending u k er)
+  pub event_drawn : (d : Decision) (w : Page) →
+      on_page tolerance (moves_by sample (moves_of d)) w ≡ follow (point_drawn d.point w) (flush_unless d.inside)
+  event_drawn d w =
+      rw (by_append tolerance sample (point_moves d.point) (end_moves d.inside) w, point_is d.point w)
+      (then_end d.inside (point_drawn d.point w))

@@ -1,5 +1,4 @@
 -- Laws that belong to no one function.
-pub mod Decided
+pub mod Pushed
 pub mod Drawn
 pub mod Walked
-pub mod Pushed

@@ -1,5 +1,6 @@
 -- What a leg pushes are points of its events' sides, so they are good where `edge_point` makes only good points of
 -- these.
+use Rattle.std.specs.Prelude.{Some, None, Option, Ok}
 use mathlib.Core.Path.{◌≡◌, refl}
 use mathlib.Core.Bool.{Bool, true, false, ◌||◌, cond}
 use mathlib.Core.List.{List, [], ◌∷◌}
@@ -12,29 +13,26 @@ use Rattle.param.specs.declared.Leg.{Leg}
 use Rattle.param.specs.Param.{leg_at, param_in_bounds}
 use Rattle.edges.specs.declared.event.ParamEdge.{ParamEdge}
 use Rattle.edges.specs.declared.event.EdgeEvent.{EdgeEvent}
-use Rattle.edges.specs.Events.{sorted_edge_events}
+use Rattle.edges.specs.Events.{sorted_edge_events, next_lambda}
 use Rattle.crossing.specs.declared.Crossing.{Crossing}
-use Rattle.crossing.specs.declared.EdgePoint.{EdgePoint}
-use Rattle.crossing.specs.declared.EdgePoint.TheVariants.{On, NoStep}
 use Rattle.crossing.specs.Crossing.{edge_point}
 use Rattle.page.proofs.Moves.{AllPushed, none, pushing, flushing, stopping, both, either}
-use Rattle.walk.specs.declared.EventPoint.TheVariants.{Pass}
-use Rattle.walk.specs.Walk.{before_inside, after_inside, push_of, decide, point_moves, end_moves, next_lambda}
+use Rattle.walk.specs.Walk.{before_inside, after_inside, push_of, decide, point_moves, end_moves}
 use Rattle.walk.specs.Walk.{events_moves, leg_moves}
 
 module _ (g : List Float) (k : Cells) (Good : Crossing → Type 0) where
   -- whatever point `edge_point` makes on a side is good
   abbrev pub GoodEdge : ParamEdge → Type 0
-  GoodEdge e = (x : ParamPoint) (c : Crossing) → edge_point g k e x ≡ On c → Good c
+  GoodEdge e = (x : ParamPoint) (c : Crossing) → edge_point g k e x ≡ Some c → Good c
 
   -- so it is on the side of each event
   abbrev pub GoodEvents : List EdgeEvent → Type 0
   GoodEvents = Each (λ (e : EdgeEvent). GoodEdge e.edge)
 
-  point_good : (inside : Bool) (e : EdgePoint) → ((c : Crossing) → e ≡ On c → Good c) →
-      AllPushed Good (point_moves (cond inside (push_of e) Pass))
-  point_good true (On c) h = pushing (h c refl) none
-  point_good true NoStep h = stopping none
+  point_good : (inside : Bool) (e : Option Crossing) → ((c : Crossing) → e ≡ Some c → Good c) →
+      AllPushed Good (point_moves (cond inside (push_of e) (Ok None)))
+  point_good true (Some c) h = pushing (h c refl) none
+  point_good true None h = stopping none
   point_good false e h = none
 
   end_good : (inside : Bool) → AllPushed Good (end_moves inside)

@@ -1,96 +1,77 @@
 -- One turn of the walk along a leg: the events from i on are the one at i and those after it. What is left of the leg
 -- after i events are the moves of the others, and its end.
-use mathlib.Core.Path.{◌≡◌, refl, sym, ap, ◌∙◌}
-use mathlib.Core.Bool.{Bool, true, false, cond}
+use mathlib.Core.Path.{◌≡◌, refl, sym, ◌∙◌}
 use mathlib.Core.List.{List, ◌∷◌}
-use Prim.Native.Nat.{ℕ, ◌+◌, ◌≤◌, ◌<◌}
-use lib.Dec.{ltb}
-use lib.ListN.{length, drop, get_or}
-use lib.Ieee.{Float, nan}
-use borrow.Author.Tests.{ltb-true, ltb-false}
-use Rattle.refusal.specs.declared.Refusal.{Refusal}
-use Rattle.lent.specs.Lent.{afterwards}
-use Rattle.float.specs.Consts.{zero64, one64}
+use Prim.Native.Nat.{ℕ, ◌+◌, ◌≤◌}
+use native.Mathlib.Numerals.{add-one}
+use lib.ListN.{length, drop, drop_of_length-le}
+use lib.Seq.{drop-cons}
+use lib.Ieee.{Float}
+use Rattle.std.specs.Prelude.{Some, slice_get}
+use Rattle.std.proofs.lemmas.Option.{slice_get_within, get_or_from_slice_get}
+use Rattle.basics.proofs.Lists.{each_at}
+use Rattle.refusal.specs.Refusals.{Check}
+use Rattle.float.specs.Consts.{zero64}
 use Rattle.param.specs.declared.Cells.{Cells}
 use Rattle.param.specs.declared.Leg.{Leg}
 use Rattle.param.specs.Param.{param_in_bounds}
 use Rattle.edges.specs.declared.event.EdgeEvent.{EdgeEvent}
-use Rattle.edges.specs.Events.{sorted_edge_events}
-use Rattle.edges.specs.Scratch.{event_of, events_in}
-use Rattle.edges.proofs.Kept.{next_event, none_left}
-use Rattle.page.specs.declared.Pen.{Pen}
-use Rattle.page.specs.declared.Penned.{Penned}
-use Rattle.page.specs.declared.Penned.TheVariants.{Down, Stop}
+use Rattle.edges.specs.Events.{sorted_edge_events, next_lambda, Inside, OnGrid}
+use Rattle.edges.proofs.Laws.{leg_inside}
+use Rattle.page.specs.declared.Sheet.{Sheet}
 use Rattle.page.specs.Moves.{Outcome, follow}
-use Rattle.page.specs.Page.{Lists, moves_by, Page, page, flush_unless, on_page, page_after}
+use Rattle.page.specs.Page.{moves_by, Page, flush_unless, on_page}
+use Rattle.page.specs.Sheets.{outcome_of}
 use Rattle.page.proofs.Moves.{follow_twice}
-use Rattle.page.proofs.Follow.{down, stops, page_none, by_append}
+use Rattle.page.proofs.Follow.{page_none, by_append}
 use Rattle.walk.specs.declared.Decision.{Decision}
-use Rattle.walk.specs.Walk.{next_lambda, decide, moves_of, end_moves, events_moves, leg_moves, lambda_or_one}
-use Rattle.walk.proofs.Drawn.{end_run}
+use Rattle.walk.specs.Walk.{decide, moves_of, end_moves, events_moves, leg_moves}
+use Rattle.walk.proofs.Drawn.{then_end}
 
--- ---- events as the two scratch lists hold them
+-- the event at i, and those after it
+event_first : (es : List EdgeEvent) (i : ℕ) {e : EdgeEvent} → slice_get es i ≡ Some e →
+    drop i es ≡ e ∷ drop (i + 1) es
+event_first es i {e} h =
+    rw (add-one, drop-cons es i e (slice_get_within es i e h), get_or_from_slice_get es i e e h)
 
-module _ (ls : List Float) (cs : List ℕ) (count i : ℕ) (h : count ≤ length ls) (s : length ls ≡ length cs) where
-  -- the lambda at i, or 1 past the last
-  next_is : {x : Float} → x ≡ lambda_or_one ls count i → next_lambda (drop i (events_in ls cs count)) ≡ x
-  next_is e = go (ltb i count) refl e
-    where
-      go : {x : Float} (t : Bool) → ltb i count ≡ t → x ≡ cond t (get_or ls i nan) one64 →
-          next_lambda (drop i (events_in ls cs count)) ≡ x
-      go true p q = ap next_lambda (next_event ls cs count i s h (ltb-true i count p)) ∙ sym q
-      go false p q = ap next_lambda (none_left ls cs count i s h (ltb-false i count p)) ∙ sym q
-
--- ---- what is left of a leg
+-- its side is on the grid
+pub side_inside : (k : Cells) (l : Leg) {es : List EdgeEvent} (i : ℕ) {e : EdgeEvent} → k.m ≤ 255 → k.n ≤ 255 →
+    es ≡ sorted_edge_events k l → slice_get es i ≡ Some e → Inside k e.edge
+side_inside k l {es} i {e} m n q h =
+    rw (get_or_from_slice_get es i e e h) at
+    (each_at (OnGrid k) es i e (leg_inside k l m n q) (slice_get_within es i e h))
 
 module _ (tolerance : Float) (sample : ℕ) (g : List Float) (k : Cells) (l : Leg) where
-  -- the line's end where the leg leaves the grid
-  abbrev ending : Page → Outcome Page
-  ending = on_page tolerance (moves_by sample (end_moves (param_in_bounds k l.b)))
-
-  -- the events es, after one at `previous`, and the end
+  -- the events es, after one at `previous`, and the end of the line if b is outside
   abbrev pub left : List EdgeEvent → Float → Page → Outcome Page
-  left es previous w = follow (on_page tolerance (moves_by sample (events_moves g k l previous es)) w) ending
+  left es previous w =
+      follow (on_page tolerance (moves_by sample (events_moves g k l previous es)) w)
+      (flush_unless (param_in_bounds k l.b))
 
-  pub leg_starts : (w : Page) {es : List EdgeEvent} → es ≡ sorted_edge_events k l →
-      on_page tolerance (moves_by sample (leg_moves g k l)) w ≡ left es zero64 w
+  pub leg_starts : (w : Page) →
+      on_page tolerance (moves_by sample (leg_moves g k l)) w ≡ left (sorted_edge_events k l) zero64 w
   unfolding leg_moves
-  leg_starts w {es} e =
-      rw e (by_append tolerance sample (events_moves g k l zero64 (sorted_edge_events k l))
-      (end_moves (param_in_bounds k l.b)) w)
+  leg_starts w =
+      let es = events_moves g k l zero64 (sorted_edge_events k l) in
+      let end = end_moves (param_in_bounds k l.b) in
+      by_append tolerance sample es end w
+      ∙ then_end tolerance sample (param_in_bounds k l.b) (on_page tolerance (moves_by sample es) w)
 
-  module _ (ls : List Float) (cs : List ℕ) (count i : ℕ) (h : count ≤ length ls) (s : length ls ≡ length cs) where
-    -- the events from i on
-    abbrev rest : ℕ → List EdgeEvent
-    rest j = drop j (events_in ls cs count)
+  pub leg_ends : (es : List EdgeEvent) (i : ℕ) (previous : Float) (w : Page) → length es ≤ i →
+      left (drop i es) previous w ≡ flush_unless (param_in_bounds k l.b) w
+  unfolding events_moves
+  leg_ends es i previous w h = rw (drop_of_length-le es h, page_none tolerance w)
 
-    pub leg_ends : (previous : Float) (w : Page) → count ≤ i →
-        left (rest i) previous w ≡ flush_unless (param_in_bounds k l.b) w
-    unfolding events_moves
-    leg_ends previous w t =
-        rw (none_left ls cs count i s h t, page_none tolerance w) (end_run tolerance sample (param_in_bounds k l.b) w)
-
-    module _ (t : i < count) (previous : Float) (w : Page) {v : EdgeEvent} {x : Float} {d : Decision}
-        (ev : v ≡ event_of (get_or ls i nan) (get_or cs i 0))
-        (ex : x ≡ lambda_or_one ls count (i + 1)) (ed : d ≡ decide g k l previous v x)
-      where
-        -- the event at i
-        abbrev here : Outcome Page
-        here = on_page tolerance (moves_by sample (moves_of d)) w
-
-        turn : left (rest i) previous w ≡ follow here (left (rest (i + 1)) v.lambda)
-        unfolding events_moves
-        turn =
-            let first : rest i ≡ v ∷ rest (i + 1) = rw ev (next_event ls cs count i s h t) in
-            rw (first, next_is ls cs count (i + 1) h s ex, ← ed, by_append tolerance sample)
-            (sym (follow_twice here _ ending (λ s. refl)))
-
-        module _ {z : Outcome Page} (ez : z ≡ left (rest i) previous w) {r : Penned} {m : Lists}
-            (u : afterwards r m ≡ page_after here) where
-          -- the walk goes on
-          pub turn_goes : {pen : Pen} → r ≡ Down pen → z ≡ left (rest (i + 1)) v.lambda (page m pen)
-          turn_goes {pen} er = ez ∙ turn ∙ down here (left (rest (i + 1)) v.lambda) u pen er
-
-          -- it is refused
-          pub turn_stops : {n : Refusal} → r ≡ Stop n → afterwards (Stop n) m ≡ page_after z
-          turn_stops {n} er = rw (ez, turn) (stops here (left (rest (i + 1)) v.lambda) u n er)
+  -- the event at i, with what its calls say of it, and what is left then
+  pub leg_turn : (es : List EdgeEvent) (i : ℕ) {e : EdgeEvent} (previous : Float) {next : Float} {d : Decision}
+      (w : Page) (r : Check) (s : Sheet) → slice_get es i ≡ Some e → next ≡ next_lambda (drop (i + 1) es) →
+      d ≡ decide g k l previous e next → outcome_of r s ≡ on_page tolerance (moves_by sample (moves_of d)) w →
+      left (drop i es) previous w ≡ follow (outcome_of r s) (left (drop (i + 1) es) e.lambda)
+  unfolding events_moves
+  leg_turn es i {e} previous {next} {d} w r s h en ed er =
+      let others = drop (i + 1) es in
+      let here = moves_by sample (moves_of (decide g k l previous e (next_lambda others))) in
+      rw (event_first es i h, by_append tolerance sample, er, ed, en)
+      (sym (follow_twice (on_page tolerance here w)
+      (on_page tolerance (moves_by sample (events_moves g k l e.lambda others)))
+      (flush_unless (param_in_bounds k l.b)) (λ s. refl)))

@@ -151,11 +151,8 @@ impl Source {
         let lines: Vec<&str> = text.lines().collect();
         let (mut found, mut owner) = (Vec::new(), self.module(file));
         for (first, line) in lines.iter().enumerate() {
-            if let Some(name) = line
-                .strip_prefix("impl ")
-                .map(|rest| rest.trim_end_matches(" {"))
-            {
-                owner = match homes.get(name) {
+            if let Some(name) = implemented(line) {
+                owner = match homes.get(name.as_str()) {
                     Some(home) => format!("{home}::{name}"),
                     None => format!("{}::{name}", self.module(file)),
                 };
@@ -181,11 +178,49 @@ impl Source {
 /// The name of the function that a line begins.
 fn header(line: &str) -> Option<&str> {
     let mut rest = line.trim_start();
-    for word in ["pub ", "extern \"C\" "] {
+    for word in ["pub ", "pub(crate) ", "const ", "extern \"C\" "] {
         rest = rest.strip_prefix(word).unwrap_or(rest);
     }
     let rest = rest.strip_prefix("fn ")?;
     Some(&rest[..rest.find(['(', '<'])?])
+}
+
+/// What rattle calls the block that a line begins: a type's own by the type, as `Grid`, and that of a
+/// trait by the type, the trait and what the trait is given, as `U8FromRefusal`.
+fn implemented(line: &str) -> Option<String> {
+    let rest = line.strip_prefix("impl")?.strip_suffix(" {")?;
+    let rest = match rest.strip_prefix('<') {
+        Some(parameters) => &parameters[closing(parameters)?..],
+        None => rest,
+    };
+    let rest = rest.strip_prefix(' ')?;
+    let Some((given, owner)) = rest.split_once(" for ") else {
+        return Some(rest.split('<').next()?.to_string());
+    };
+    let owner = owner.split('<').next()?;
+    Some(
+        std::iter::once(owner)
+            .chain(words(given))
+            .map(capital)
+            .collect(),
+    )
+}
+
+/// The place behind the bracket that closes a list of parameters.
+fn closing(text: &str) -> Option<usize> {
+    let mut depth = 1;
+    for (at, c) in text.char_indices() {
+        depth += i32::from(c == '<') - i32::from(c == '>');
+        if depth == 0 {
+            return Some(at + 1);
+        }
+    }
+    None
+}
+
+fn capital(word: &str) -> String {
+    let (first, rest) = word.split_at(1);
+    first.to_uppercase() + rest
 }
 
 /// The first line of the attributes of the function whose `fn` is on line `first`.
@@ -288,6 +323,20 @@ mod tests {
                 .iter()
                 .any(|f| f.path == "float::Point::near")
         );
+    }
+
+    #[test]
+    fn a_block_of_a_trait_has_the_name_that_rattle_gives_it() {
+        let named = |line| implemented(line).unwrap();
+        assert_eq!(named("impl Point {"), "Point");
+        assert_eq!(named("impl<'a> Grid<'a> {"), "Grid");
+        assert_eq!(named("impl TwoRows<'_> {"), "TwoRows");
+        assert_eq!(named("impl From<Refusal> for u8 {"), "U8FromRefusal");
+        assert_eq!(
+            named("impl From<Result<Counts, Refusal>> for PathsAnswer {"),
+            "PathsAnswerFromResultCountsRefusal"
+        );
+        assert_eq!(implemented("fn near() {"), None);
     }
 
     #[test]

@@ -1,54 +1,56 @@
 -- `mesh::triangulate_grid` meets its contract: the refusals in order, then the seams, then the lists; and demand 3 of
 -- the grid's lists.
-use mathlib.Core.Path.{sym, ◌∙◌}
+use Rattle.std.proofs.Common.{◌≡◌, sym}
+use Rattle.grid.proofs.Laws.{accepted_known}
+use Rattle.grid_seams.specs.Seams.{seams_of}
 use Rattle.surface.proofs.Joinings.{surface_meets}
-use Rattle.mesh.proofs.Answers.{Admitted, admitted, found_bounded, refused_hands, passed_hands}
+use Rattle.mesh.proofs.Answers.{Admitted, admitted, found_bounded, passed_hands}
 use Rattle.mesh.proofs.triangulate_grid.Goals as goal
-use Rattle.mesh.proofs.triangulate_grid.Goals.{In-Passed}
+use Rattle.mesh.proofs.triangulate_grid.Goals.{In_ok-grid, After-search_grid-seams}
 
 -- no refusal applies
-let_in : (e : In-Passed) → let a = e.args in
-    Admitted a.grid.now a.m a.n a.triangles.now a.flipped.now
+let_in : (e : In_ok-grid) → let a = e.args in Admitted a.points.now a.m a.n a.tolerances a.triangles.now a.flipped.now
 let_in e =
     let a = e.args in
-    admitted a.grid.now a.m a.n a.tolerances a.triangles.now a.flipped.now
-    (sym e.check_mesh.ensures ∙ e.in-Passed.is)
+    admitted a.points.now a.m a.n a.tolerances a.triangles.now a.flipped.now (sym e.in_ok-grid.ensures.check)
 
-pub find_seams-seams-requires : goal.find_seams-seams-requires
-find_seams-seams-requires c = (let_in c).accepted
+found : (e : After-search_grid-seams) → let a = e.args in
+    e.search_grid-seams.result ≡ seams_of a.points.now a.m a.n a.tolerances
+found e = rw (e.in_ok-grid.ensures.grid.0, e.in_ok-grid.ensures.grid.1) at e.search_grid-seams.ensures
 
-pub triangulate-counts-requires : goal.triangulate-counts-requires
-triangulate-counts-requires c =
+pub search_grid-seams-requires : goal.search_grid-seams-requires
+search_grid-seams-requires c =
     let a = c.args in
-    let f = c.find_seams-seams in
-    let i = let_in (goal.at.triangulate-counts-requires c).In-Passed in
+    let accepted = (let_in (goal.at.search_grid-seams-requires c).In_ok-grid).accepted in
+    let steps = (accepted_known a.points.now a.m a.n accepted).steps in
+    rw c.in_ok-grid.ensures.grid.1 (steps.m_least, steps.n_least)
+
+pub invariant_of-surface : goal.invariant_of-surface
+invariant_of-surface c =
+    let a = c.args in
+    let here = goal.at.invariant_of-surface c in
     record {
-      bounded = found_bounded a.grid.now a.m a.n a.tolerances i.accepted f.ensures.0 f.ensures.1;
-      n_in_bounds = (i.triangle_room, i.pair_room);
+      bounded = found_bounded a.points.now a.m a.n a.tolerances (let_in here.In_ok-grid).accepted
+          (found here.After-search_grid-seams);
     }
 
-pub returns-in-Failed : goal.returns-in-Failed
-returns-in-Failed c =
-    let a = c.args in
-    record {
-      handed = refused_hands a.grid.now a.m a.n a.tolerances a.triangles.now a.flipped.now
-          c.check_mesh.ensures c.in-Failed.is;
-      surface = surface_meets a.grid.now a.m a.n;
-    }
+pub triangulate-counts-requires-clause-triangle_room : goal.triangulate-counts-requires-clause-triangle_room
+triangulate-counts-requires-clause-triangle_room c =
+    (let_in (goal.at.triangulate-counts-requires-clause-triangle_room c).In_ok-grid).triangle_room
 
-pub returns-in-Passed : goal.returns-in-Passed
-returns-in-Passed c =
+pub triangulate-counts-requires-clause-pair_room : goal.triangulate-counts-requires-clause-pair_room
+triangulate-counts-requires-clause-pair_room c =
+    (let_in (goal.at.triangulate-counts-requires-clause-pair_room c).In_ok-grid).pair_room
+
+pub returns-in_err-grid-clause-surface : goal.returns-in_err-grid-clause-surface
+returns-in_err-grid-clause-surface c = surface_meets c.args.points.now c.args.m c.args.n
+
+pub returns-clause-handed : goal.returns-clause-handed
+returns-clause-handed c =
     let a = c.args in
-    let f = c.find_seams-seams in
     let r = c.triangulate-counts in
-    record {
-      handed = passed_hands a.grid.now a.m a.n a.tolerances a.triangles.now a.flipped.now
-          r.new.triangles
-          r.new.flipped
-          c.check_mesh.ensures
-          c.in-Passed.is
-          f.ensures.0
-          f.ensures.1
-          r.ensures;
-      surface = surface_meets a.grid.now a.m a.n;
-    }
+    passed_hands a.points.now a.m a.n a.tolerances a.triangles.now a.flipped.now r.new.triangles r.new.flipped
+    c.in_ok-grid.ensures.check (found (goal.at.returns-clause-handed c).After-search_grid-seams) r.ensures
+
+pub returns-clause-surface : goal.returns-clause-surface
+returns-clause-surface c = surface_meets c.args.points.now c.args.m c.args.n

@@ -1,35 +1,33 @@
--- `triangulation::check_given` meets its contract: the tests of a mesh, and where they pass that of the seams, for
--- which the grid is then accepted.
-use mathlib.Core.Path.{◌≡◌, sym, ◌∙◌}
-use Rattle.refusal.specs.declared.Check.TheVariants.{Passed}
-use Rattle.basics.proofs.Tests.{held, failed}
-use Rattle.mesh.specs.Mesh.{mesh_check}
-use Rattle.triangulation.specs.Triangulation.{given_check}
-use Rattle.triangulation.proofs.Answers.{admitted}
+-- `triangulation::check_given` meets its contract: where the tests of a mesh pass the grid is accepted, and seams that
+-- fit are those of a surface.
+use Rattle.std.proofs.Common.{◌≡◌, sym, ◌∙◌, true}
+use Rattle.grid.proofs.Laws.{accepted_known}
+use Rattle.surface.specs.Given.{seams_fit}
+use Rattle.mesh.proofs.Answers.{Admitted, admitted}
+use Rattle.triangulation.proofs.Answers.{fitting_bounded}
 use Rattle.triangulation.proofs.check_given.Goals as goal
-use Rattle.triangulation.proofs.check_given.Goals.{In_default}
+use Rattle.triangulation.proofs.check_given.Goals.{In_ok-grid}
 
--- these pass
-passed : (e : In_default) → let a = e.args in
-    mesh_check a.grid.now a.m a.n a.tolerances a.triangles.now a.flipped.now ≡ Passed
-passed e = sym e.check_mesh.ensures ∙ e.in_default.is
-
-pub returns-in-Failed : goal.returns-in-Failed
-unfolding given_check
-returns-in-Failed c = rw (← c.check_mesh.ensures, c.in-Failed.is)
+-- the tests of a mesh pass
+let_in : (e : In_ok-grid) → let a = e.args in Admitted a.points.now a.m a.n a.tolerances a.triangles.now a.flipped.now
+let_in e =
+    let a = e.args in
+    admitted a.points.now a.m a.n a.tolerances a.triangles.now a.flipped.now (sym e.in_ok-grid.ensures.check)
 
 pub seams_fit-requires : goal.seams_fit-requires
-seams_fit-requires c = (admitted _ _ _ _ _ _ (passed c)).accepted
+seams_fit-requires c =
+    let a = c.args in
+    let accepted = (let_in (goal.at.seams_fit-requires c).In_ok-grid).accepted in
+    let steps = (accepted_known a.points.now a.m a.n accepted).steps in
+    rw c.in_ok-grid.ensures.grid.1 (steps.m_least, steps.n_least)
 
-pub returns-then-not-seams_fit : goal.returns-then-not-seams_fit
-unfolding given_check
-returns-then-not-seams_fit c =
-    rw (
-      passed (goal.at.returns-then-not-seams_fit c).In_default,
-      failed c.seams_fit.ensures
-          c.if-not-seams_fit.true-raw,
-    )
-
-pub returns : goal.returns
-unfolding given_check
-returns c = rw (passed (goal.at.returns c).In_default, held c.seams_fit.ensures c.if-not-seams_fit.false-raw)
+pub invariant_of-result : goal.invariant_of-result
+invariant_of-result c =
+    let a = c.args in
+    let grid = c.in_ok-grid.ensures.grid in
+    let fit : seams_fit a.points.now a.m a.n a.tolerances a.u a.v ≡ true =
+    rw (grid.0, grid.1) at (sym c.seams_fit.ensures ∙ c.if-seams_fit.true) in
+    record {
+      bounded = fitting_bounded a.points.now a.m a.n a.tolerances a.u a.v
+          (let_in (goal.at.invariant_of-result c).In_ok-grid).accepted fit;
+    }

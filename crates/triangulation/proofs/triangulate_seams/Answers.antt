@@ -1,51 +1,32 @@
 -- `triangulation::triangulate_seams` meets its contract: the refusals in order, then the lists; and demand 3 of the
 -- lists that seams of the grid make.
-use mathlib.Core.Path.{◌≡◌, sym, ◌∙◌}
-use mathlib.Core.Bool.{true}
-use Rattle.surface.specs.Given.{seams_fit}
+use Rattle.std.proofs.Common.{sym}
 use Rattle.surface.proofs.Joinings.{given_meets}
-use Rattle.triangulation.proofs.Answers.{Admitted, given_admitted, fitting_bounded}
-use Rattle.triangulation.proofs.Answers.{given_hands_refusal, given_handed}
+use Rattle.mesh.proofs.Answers.{Admitted}
+use Rattle.triangulation.proofs.Answers.{given_admitted}
 use Rattle.triangulation.proofs.triangulate_seams.Goals as goal
-use Rattle.triangulation.proofs.triangulate_seams.Goals.{In-Passed}
+use Rattle.triangulation.proofs.triangulate_seams.Goals.{In_ok-surface}
 
 -- no refusal applies
-let_in : (e : In-Passed) → let a = e.args in
-    Admitted a.grid.now a.m a.n a.tolerances a.triangles.now a.flipped.now
-    × (seams_fit a.grid.now a.m a.n a.tolerances a.u a.v ≡ true)
+let_in : (e : In_ok-surface) → let a = e.args in
+    Admitted a.points.now a.m a.n a.tolerances a.triangles.now a.flipped.now
 let_in e =
     let a = e.args in
-    given_admitted a.grid.now a.m a.n a.tolerances a.triangles.now a.flipped.now a.u a.v
-    (sym e.check_given.ensures ∙ e.in-Passed.is)
+    (given_admitted a.points.now a.m a.n a.tolerances a.triangles.now a.flipped.now a.u a.v
+    (sym e.in_ok-surface.ensures.check)).0
 
-pub triangulate-counts-requires : goal.triangulate-counts-requires
-triangulate-counts-requires c =
-    let a = c.args in
-    let i = let_in (goal.at.triangulate-counts-requires c).In-Passed in
-    record {
-      bounded = fitting_bounded a.grid.now a.m a.n a.tolerances a.u a.v i.0.accepted i.1;
-      n_in_bounds = (i.0.triangle_room, i.0.pair_room);
-    }
+pub triangulate-requires-clause-triangle_room : goal.triangulate-requires-clause-triangle_room
+triangulate-requires-clause-triangle_room c =
+    let s = c.in_ok-surface.ensures.surface in
+    rw (s.0, s.1) (let_in (goal.at.triangulate-requires-clause-triangle_room c).In_ok-surface).triangle_room
 
-pub returns-in-Failed : goal.returns-in-Failed
-returns-in-Failed c =
-    let a = c.args in
-    record {
-      handed = given_hands_refusal a.grid.now a.m a.n a.tolerances a.triangles.now a.flipped.now a.u
-          a.v c.check_given.ensures c.in-Failed.is;
-      surface = given_meets a.grid.now a.m a.n;
-    }
+pub triangulate-requires-clause-pair_room : goal.triangulate-requires-clause-pair_room
+triangulate-requires-clause-pair_room c =
+    let s = c.in_ok-surface.ensures.surface in
+    rw (s.0, s.1) (let_in (goal.at.triangulate-requires-clause-pair_room c).In_ok-surface).pair_room
 
-pub returns-in-Passed : goal.returns-in-Passed
-returns-in-Passed c =
-    let a = c.args in
-    let r = c.triangulate-counts in
-    record {
-      handed = given_handed a.grid.now a.m a.n a.tolerances a.triangles.now a.flipped.now a.u a.v
-          r.new.triangles
-          r.new.flipped
-          c.check_given.ensures
-          c.in-Passed.is
-          r.ensures;
-      surface = given_meets a.grid.now a.m a.n;
-    }
+pub returns-in_err-surface-clause-surface : goal.returns-in_err-surface-clause-surface
+returns-in_err-surface-clause-surface c = given_meets c.args.points.now c.args.m c.args.n
+
+pub returns-clause-surface : goal.returns-clause-surface
+returns-clause-surface c = given_meets c.args.points.now c.args.m c.args.n

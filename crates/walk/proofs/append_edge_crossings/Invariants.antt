@@ -1,23 +1,13 @@
-use Prim.Native.Nat.{◌≤◌, ◌-◌}
 use mathlib.Core.Path.{◌≡◌}
 use lib.ListN.{drop}
-use Rattle.float.specs.Consts.{zero64}
-use Rattle.edges.specs.Scratch.{events_in}
-use Rattle.page.specs.Page.{lists, page, PenFits}
-use Rattle.page.proofs.Fits.{Sized}
+use Rattle.page.specs.Page.{moves_by, on_page}
+use Rattle.page.specs.Sheets.{page_of, same_lists}
+use Rattle.walk.specs.Walk.{leg_moves}
 use Rattle.walk.proofs.Walked.{left}
 use Rattle.walk.proofs.append_edge_crossings.Given as goal
 
 abbrev pub invariant-loop-i : goal.invariant-loop-i
-invariant-loop-i l = (l.i ≤ l.count)
-    × Sized (lists l.initial.points l.initial.starts l.initial.sides l.initial.fractions l.initial.samples)
-    (lists l.points l.starts l.sides l.fractions l.samples)
-    × PenFits l.points l.pen
-    × (left l.tolerance l.sample l.grid l.cells l.leg (events_in l.lambdas l.codes l.count) zero64
-    (page (lists l.initial.points l.initial.starts l.initial.sides l.initial.fractions l.initial.samples)
-    l.initial.pen)
-    ≡ left l.tolerance l.sample l.grid l.cells l.leg (drop l.i (events_in l.lambdas l.codes l.count)) l.previous
-    (page (lists l.points l.starts l.sides l.fractions l.samples) l.pen))
-
-abbrev pub decreases-loop-i : goal.decreases-loop-i
-decreases-loop-i l = l.count - l.i
+invariant-loop-i l = same_lists l.initial.sheet l.sheet
+    × (on_page l.tolerance (moves_by l.sample (leg_moves l.grid.points.now l.grid.cells l.leg))
+    (page_of l.initial.sheet)
+    ≡ left l.tolerance l.sample l.grid.points.now l.grid.cells l.leg (drop l.i l.events) l.previous (page_of l.sheet))

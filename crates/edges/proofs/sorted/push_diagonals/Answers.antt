@@ -1,64 +1,45 @@
--- `edges::sorted::push_diagonals` meets its contract: the diagonals from sum on, sorted into the events so far, give
+-- `edges::sorted::push_diagonals` meets its contract: the diagonals from `sum` on, sorted into the events so far, give
 -- what is asked.
-use mathlib.Core.Path.{ap}
-use native.Mathlib.Omega.{arith}
+use mathlib.Core.Path.{◌≡◌, sym, ◌∙◌}
 use lib.Ieee.{lt}
 use Rattle.float.specs.Consts.{eps}
-use Rattle.basics.proofs.Tests.{held, failed}
-use Rattle.edges.specs.Scratch.{events_in}
-use Rattle.edges.proofs.Storable.{diagonal_storable}
+use Rattle.edges.specs.Events.{change_of_sum, changes}
+use Rattle.edges.proofs.Placed.{diagonal_placed}
 use Rattle.edges.proofs.Gather.{gather_turn, gather_ends, diagonals_none, diagonals_start}
 use borrow.Author.Rules.{rules}
 use Rattle.edges.proofs.sorted.push_diagonals.Goals as goal
+use Rattle.edges.proofs.sorted.push_diagonals.Goals.{After-abs}
 
-pub returns-then-not-abs : goal.returns-then-not-abs
-unfolding eps
-returns-then-not-abs c =
-    let a = c.args in (
-      search rules,
-      diagonals_none a.cells a.leg (events_in a.lambdas.now a.codes.now a.count)
-          (failed (ap (lt eps) c.abs.ensures) c.if-not-abs.true-raw),
-    )
+-- what is tested is whether the sum of both changes
+test : (c : After-abs) → lt eps c.abs.result ≡ changes (change_of_sum c.args.leg)
+test c = search rules
 
 pub loop-sum-init : goal.loop-sum-init
 unfolding eps
 loop-sum-init c =
     let a = c.args in
-    let already = events_in a.lambdas.now a.codes.now a.count in (
-      omega (arith, c.first_sum-first.ensures),
-      omega (arith, c.past_sum-past.ensures),
-      record {
-        from = search rules;
-        to = search rules;
-        few = search rules;
-        lambdas_length = c.requires.0.lambdas_length;
-        codes_length = c.requires.0.codes_length;
-        left =
-            diagonals_start a.cells a.leg already
-            (held (ap (lt eps) c.abs.ensures) c.if-not-abs.false-raw) c.first_sum-first.ensures
-            c.past_sum-past.ensures;
-        sorted = c.requires.1;
-      },
-    )
+    record {
+      from = search rules;
+      to = search rules;
+      few = search rules;
+      left =
+          diagonals_start a.cells a.leg a.events.now (sym (test (goal.at.loop-sum-init c).After-abs) ∙ c.if-abs.true)
+          c.first_sum-sum.ensures c.past_sum-sum-end.ensures;
+    }
 
-pub push_candidate-total-requires : goal.push_candidate-total-requires
-push_candidate-total-requires c =
-    let a = c.args in (
-      search rules,
-      search rules,
-      diagonal_storable a.cells c.requires.0.u_steps c.requires.0.v_steps a.leg c.loop-sum.sum
-          c.diagonal_candidate.ensures,
-      c.loop-sum.invariant.2.sorted,
-    )
+pub push-requires-clause-lambda : goal.push-requires-clause-lambda
+push-requires-clause-lambda c =
+    rw c.diagonal_candidate.ensures (diagonal_placed c.args.cells c.args.leg c.loop-sum.sum)
 
 pub loop-sum-preserved : goal.loop-sum-preserved
 loop-sum-preserved c =
-    let l = c.loop-sum in (
-      l.invariant.0,
-      l.invariant.1,
-      gather_turn l.invariant.2 c.loop-sum-test.true c.diagonal_candidate.ensures (search rules)
-          (search rules) c.push_candidate-total.ensures,
-    )
+    gather_turn c.loop-sum.invariant c.loop-sum-test.true c.diagonal_candidate.ensures c.push.ensures
 
-pub returns : goal.returns
-returns c = (search rules, gather_ends c.loop-sum.invariant.2 c.loop-sum-test.false)
+pub returns-after-loop-sum : goal.returns-after-loop-sum
+returns-after-loop-sum c = gather_ends c.loop-sum.invariant c.loop-sum-test.false
+
+pub returns-else-abs : goal.returns-else-abs
+unfolding eps
+returns-else-abs c =
+    diagonals_none c.args.cells c.args.leg c.args.events.now
+    (sym (test (goal.at.returns-else-abs c).After-abs) ∙ c.if-abs.false)

@@ -1,37 +1,25 @@
 -- `edges::sorted::push_ends` meets its contract: the two candidates are those of the definition, in its order.
 use native.Mathlib.Omega.{arith}
 use Rattle.float.specs.Consts.{zero64, one64}
+use Rattle.edges.proofs.Each.{length_pushed}
 use Rattle.edges.proofs.Laws.{zero_on_leg, one_on_leg}
-use Rattle.edges.proofs.Order.{sorted_none}
-use Rattle.edges.proofs.Storable.{end_storable}
+use Rattle.edges.proofs.Placed.{end_placed}
 use Rattle.edges.proofs.Gather.{ends_pushed}
-use borrow.Author.Rules.{rules}
 use Rattle.edges.proofs.sorted.push_ends.Goals as goal
 
-pub push_candidate-count-requires : goal.push_candidate-count-requires
-push_candidate-count-requires c = (
-  search rules,
-  search rules,
-  end_storable c.args.cells c.requires.u_steps c.requires.v_steps zero64 c.args.leg.a zero_on_leg
-      c.edge_at_point.ensures c.end_candidate-start.ensures,
-  sorted_none,
-)
+pub push-requires-clause-lambda : goal.push-requires-clause-lambda
+push-requires-clause-lambda c =
+    rw c.end_candidate.ensures (end_placed zero64 c.edge_at_point.result zero_on_leg)
 
-pub push_candidate-requires : goal.push_candidate-requires
-push_candidate-requires c = (
-  search rules,
-  search rules,
-  end_storable c.args.cells c.requires.u_steps c.requires.v_steps one64 c.args.leg.b one_on_leg
-      c.edge_at_point-2.ensures c.end_candidate-end.ensures,
-  c.push_candidate-count.ensures.2,
-)
+pub push-requires-2-clause-room : goal.push-requires-2-clause-room
+push-requires-2-clause-room c =
+    rw c.push.ensures (omega (arith, length_pushed c.end_candidate.result c.args.events.now))
+
+pub push-requires-2-clause-lambda : goal.push-requires-2-clause-lambda
+push-requires-2-clause-lambda c =
+    rw c.end_candidate-2.ensures (end_placed one64 c.edge_at_point-2.result one_on_leg)
 
 pub returns : goal.returns
 returns c =
-    let a = c.args in (
-      omega (arith, c.push_candidate-count.ensures.0, c.push_candidate.ensures.0),
-      ends_pushed a.cells a.leg c.edge_at_point.ensures
-          c.edge_at_point-2.ensures c.end_candidate-start.ensures c.end_candidate-end.ensures
-          c.push_candidate-count.ensures.1 c.push_candidate.ensures.1,
-      c.push_candidate.ensures.2,
-    )
+    ends_pushed c.args.cells c.args.leg c.args.events.now c.edge_at_point.ensures c.edge_at_point-2.ensures
+    c.end_candidate.ensures c.end_candidate-2.ensures c.push.ensures c.push-2.ensures

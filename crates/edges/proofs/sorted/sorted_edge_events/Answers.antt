@@ -1,12 +1,44 @@
--- `edges::sorted::sorted_edge_events` meets its contract: the sorted candidates without close ones.
+-- `edges::sorted::sorted_edge_events` meets its contract: group after group is sorted in, for all of which there is
+-- room, and close ones are dropped.
 use mathlib.Core.Path.{ap, ◌∙◌}
+use mathlib.Core.List.{[]}
+use Prim.Native.Nat.{◌≤◌}
 use native.Mathlib.Omega.{arith}
+use lib.ListN.{length}
+use Rattle.param.specs.declared.Axis.TheVariants.{AxisU, AxisV}
 use Rattle.edges.specs.Events.{unique, sorted_edge_events}
+use Rattle.edges.proofs.Gather.{ends_grow, lines_grow, groups_sorted}
 use Rattle.edges.proofs.sorted.sorted_edge_events.Goals as goal
+use Rattle.edges.proofs.sorted.sorted_edge_events.Goals.{After-push_ends}
+
+-- how many there are after the first group
+few_ends : (c : After-push_ends) → length c.push_ends.new.events ≤ 2
+few_ends c = ends_grow c.args.cells c.args.leg [] (rw c.clear.ensures at c.push_ends.ensures)
+
+pub push_lines-requires : goal.push_lines-requires
+push_lines-requires c = omega (arith, few_ends (goal.at.push_lines-requires c).After-push_ends)
+
+pub push_lines-requires-2 : goal.push_lines-requires-2
+push_lines-requires-2 c =
+    omega (
+      arith,
+      few_ends (goal.at.push_lines-requires-2 c).After-push_ends,
+      lines_grow AxisU c.args.cells c.args.leg c.push_ends.new.events c.push_lines.ensures,
+    )
+
+pub push_diagonals-requires-clause-room : goal.push_diagonals-requires-clause-room
+push_diagonals-requires-clause-room c =
+    omega (
+      arith,
+      few_ends (goal.at.push_diagonals-requires-clause-room c).After-push_ends,
+      lines_grow AxisU c.args.cells c.args.leg c.push_ends.new.events c.push_lines.ensures,
+      lines_grow AxisV c.args.cells c.args.leg c.push_lines.new.events c.push_lines-2.ensures,
+    )
 
 pub returns : goal.returns
 unfolding sorted_edge_events
-returns c = (
-  omega (arith, c.unique.ensures.0, c.push_candidates-count.ensures.0),
-  c.unique.ensures.1 ∙ ap unique c.push_candidates-count.ensures.1,
-)
+returns c =
+    let k = c.args.cells in
+    c.unique.ensures
+    ∙ ap unique (groups_sorted k c.args.leg (rw c.clear.ensures at c.push_ends.ensures) c.push_lines.ensures
+    c.push_lines-2.ensures c.push_diagonals.ensures)

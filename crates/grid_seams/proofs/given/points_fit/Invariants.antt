@@ -1,13 +1,7 @@
-use Prim.Native.Nat.{◌-◌}
-use Rattle.cyclic.specs.Mapping.{image, steps_of}
-use Rattle.cyclic.specs.Search.{row_of, close_at}
-use Rattle.cyclic.proofs.Remains.{Trying}
+use Rattle.cyclic.specs.Search.{close_at}
+use Rattle.cyclic.specs.TwoRows.{row_a, row_b}
+use Rattle.cyclic.proofs.Remains.{Run}
 use Rattle.grid_seams.proofs.given.points_fit.Given as goal
 
-abbrev pub invariant-loop-mapping : goal.invariant-loop-mapping
-invariant-loop-mapping l =
-    Trying (close_at l.tolerance) (row_of l.grid 0 l.stride) (row_of l.grid l.far l.stride) l.mapping 0 l.j
-    (image l.mapping l.j)
-
-abbrev pub decreases-loop-mapping : goal.decreases-loop-mapping
-decreases-loop-mapping l = steps_of l.mapping - l.j
+abbrev pub invariant-loop-j : goal.invariant-loop-j
+invariant-loop-j l = Run (close_at l.tolerance) (row_a l.rows) (row_b l.rows) l.mapping l.j

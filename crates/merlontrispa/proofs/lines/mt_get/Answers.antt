@@ -5,16 +5,10 @@ use Rattle.merlontrispa.proofs.Parts.{there, not_there}
 use Rattle.merlontrispa.proofs.lines.mt_get.Goals as goal
 
 pub overflow_mul-result : goal.overflow_mul-result
-overflow_mul-result c = omega (
-  arith,
-  span_bounds _ _ _ _ _ c.in-Span.is
-      c.line_span.ensures,
-)
+overflow_mul-result c = omega (arith, span_bounds _ _ _ _ _ c.in-Ok.is c.line_span.ensures)
 
-pub returns-in-Span : goal.returns-in-Span
-returns-in-Span c =
-    there _ _ _ _ _ c.in-Span.is c.line_span.ensures c.get-length.ensures
+pub returns-in-Ok : goal.returns-in-Ok
+returns-in-Ok c = there _ _ _ _ _ c.in-Ok.is c.line_span.ensures c.get-length.ensures
 
-pub returns-in-Refused : goal.returns-in-Refused
-returns-in-Refused c =
-    not_there _ _ _ _ _ c.in-Refused.is c.line_span.ensures c.get-length.ensures
+pub returns-in-Err : goal.returns-in-Err
+returns-in-Err c = not_there _ _ _ _ _ c.in-Err.is c.line_span.ensures c.get-length.ensures

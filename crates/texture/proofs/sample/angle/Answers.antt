@@ -1,16 +1,11 @@
--- `texture::sample::angle` meets its contract, test by test: the laws are in proofs/Samples.antt.
-use Rattle.texture.proofs.Samples.{angle_ok, angle_not_there, angle_failed}
+-- `texture::sample::angle` meets its contract: where there is no plan, its refusal comes first.
+use Rattle.std.proofs.lemmas.Result.{err_from_is_err_and}
+use Rattle.texture.specs.Sample.{angle}
+use Rattle.texture.proofs.Plans.{plan_failed}
 use Rattle.texture.proofs.sample.angle.Goals as goal
 
-pub returns-then-ray-rays : goal.returns-then-ray-rays
-returns-then-ray-rays c =
-    angle_ok _ _ _ _ _ c.plan.ensures c.in-Plan.is c.if-ray-rays.true
-    c.base_angle.ensures c.turn.ensures
-
-pub returns-else-ray-rays : goal.returns-else-ray-rays
-returns-else-ray-rays c =
-    angle_not_there _ _ _ _ _ c.plan.ensures c.in-Plan.is c.if-ray-rays.false
-
-pub returns-in-Refused : goal.returns-in-Refused
-returns-in-Refused c =
-    angle_failed _ _ _ _ _ c.plan.ensures c.in-Refused.is
+pub returns-in_err-counts : goal.returns-in_err-counts
+unfolding angle
+returns-in_err-counts c =
+    let p = err_from_is_err_and c.from_residual.result c.from_residual.ensures.1 in
+    rw (p.1, p.2) (plan_failed _ _ _ _ _ c.in_err-counts.ensures)

@@ -1,85 +1,51 @@
 -- `trace::curve::trace_parametric_edge_curve` meets its contract. The invariant says what is left: the moves of all
 -- samples are, from the page so far, those of the samples from i on.
-use mathlib.Core.Path.{◌∙◌}
+use mathlib.Core.Path.{◌≡◌}
+use Prim.Native.Nat.{◌+◌}
 use native.Mathlib.Omega.{arith}
-use Rattle.page.specs.Page.{Lists, lists, moves_by, Page, page, on_page}
-use Rattle.page.proofs.Follow.{down_holds}
-use Rattle.page.proofs.Fits.{Fitting, moves_fit, SizedPage, moves_sized}
-use Rattle.trace.specs.Curve.{visit_moves}
-use Rattle.trace.proofs.Sampled.{trace_goes, trace_stops, trace_flushes}
 use borrow.Author.Rules.{rules}
+use Rattle.std.specs.Prelude.{None}
+use Rattle.std.proofs.lemmas.Result.{err_from_is_err_and}
+use Rattle.page.specs.Moves.{follow}
+use Rattle.page.specs.Sheets.{page_of, outcome_of}
+use Rattle.trace.proofs.Sampled.{left, trace_turn, trace_flushes}
 use Rattle.trace.proofs.curve.trace_parametric_edge_curve.Goals as goal
-use Rattle.trace.proofs.curve.trace_parametric_edge_curve.Goals.{At-loop-i, Start}
+use Rattle.trace.proofs.curve.trace_parametric_edge_curve.Goals.{After-trace_sample}
 
--- the lists as they were lent; and they and the pen as they stand at the loop
-abbrev lent : Start → Lists
-lent s =
-    let a = s.args in
-    lists a.points.now a.starts.now a.sides.now a.fractions.now a.samples.now
+-- the whole trace is sample i, as it was drawn, and what is left then
+turn : (c : After-trace_sample) → let a = c.args in let g = a.grid.now in let s = a.samples.now in
+    let d = c.trace_sample in
+    left a.tolerance g.points.now g.cells s.marks.now s.pairs.now 0 None (page_of a.sheet.now)
+    ≡ follow (outcome_of d.result d.new.sheet)
+    (left a.tolerance g.points.now g.cells s.marks.now s.pairs.now (c.loop-i.i + 1) c.at-sample.result)
+turn c =
+    let a = c.args in
+    let g = a.grid.now in
+    let s = a.samples.now in
+    let d = c.trace_sample in
+    rw c.loop-i.invariant.1
+    (trace_turn a.tolerance g.points.now g.cells s.marks.now s.pairs.now s.fits c.loop-i.i c.loop-i.previous
+    (page_of c.loop-i.sheet) d.result d.new.sheet (omega (arith, c.len-i-end.ensures)) c.at-sample.ensures
+    c.visit_of.ensures d.ensures.page)
 
-abbrev held : At-loop-i → Page
-held l = let o = l.loop-i in page (lists o.points o.starts o.sides o.fractions o.samples) o.pen
-
-pub trace_sample-requires : goal.trace_sample-requires
-trace_sample-requires c =
-    record {
-      lambdas_len = (search rules, search rules);
-      grid_fits = c.requires.grid_fits;
-      pen_fits = c.loop-i.invariant.4;
-    }
-
-pub shape_of-points-in-Stop : goal.shape_of-points-in-Stop
-shape_of-points-in-Stop c = search (rules, c.loop-i.invariant.3)
-
-pub shape_of-starts-in-Stop : goal.shape_of-starts-in-Stop
-shape_of-starts-in-Stop c = search (rules, c.loop-i.invariant.3)
-
-pub shape_of-sides-in-Stop : goal.shape_of-sides-in-Stop
-shape_of-sides-in-Stop c = search (rules, c.loop-i.invariant.3)
-
-pub shape_of-fractions-in-Stop : goal.shape_of-fractions-in-Stop
-shape_of-fractions-in-Stop c = search (rules, c.loop-i.invariant.3)
-
-pub shape_of-samples-in-Stop : goal.shape_of-samples-in-Stop
-shape_of-samples-in-Stop c = search (rules, c.loop-i.invariant.3)
-
-pub returns-in-Stop : goal.returns-in-Stop
-returns-in-Stop c =
-    trace_stops c.args.tolerance c.args.grid.now c.args.cells c.args.marks.now
-    c.args.pairs.now c.loop-i.i c.requires.pairs_len.0 _ _ c.loop-i-test.true
-    c.param_at-point.ensures c.visit_of-visit.ensures c.loop-i.invariant.5 c.trace_sample.ensures
-    c.in-Stop.is
-
-pub overflow_add-i : goal.overflow_add-i
-overflow_add-i c =
-    omega (arith, c.loop-i-test.true, c.requires.pairs_len.1)
+pub returns-in_err-trace_sample-clause-page : goal.returns-in_err-trace_sample-clause-page
+returns-in_err-trace_sample-clause-page c =
+    let p = err_from_is_err_and c.from_residual.result c.from_residual.ensures.1 in
+    let t = turn (goal.at.returns-in_err-trace_sample-clause-page c).After-trace_sample in
+    rw (p.1, p.2, t, c.in_err-trace_sample.was)
 
 pub loop-i-preserved : goal.loop-i-preserved
 loop-i-preserved c =
+    (search rules, rw (turn (goal.at.loop-i-preserved c).After-trace_sample, c.in_ok-trace_sample.was))
+
+pub returns-clause-page : goal.returns-clause-page
+returns-clause-page c =
     let a = c.args in
-    let ms = moves_by c.loop-i.i (visit_moves a.grid.now a.cells c.visit_of-visit.result) in
-    let first = lent (goal.at.loop-i-preserved c).Start in (
-      omega (arith, c.loop-i-test.true),
-      search rules,
-      search rules,
-      down_holds (SizedPage first) (on_page a.tolerance ms (held (goal.at.loop-i-preserved c).At-loop-i))
-          c.trace_sample.ensures
-          c.in-Down.is
-          (moves_sized first a.tolerance ms (held (goal.at.loop-i-preserved c).At-loop-i) c.loop-i.invariant.3),
-      down_holds Fitting (on_page a.tolerance ms (held (goal.at.loop-i-preserved c).At-loop-i)) c.trace_sample.ensures
-          c.in-Down.is (moves_fit a.tolerance ms (held (goal.at.loop-i-preserved c).At-loop-i) c.loop-i.invariant.4),
-      trace_goes a.tolerance a.grid.now a.cells a.marks.now a.pairs.now c.loop-i.i
-          c.requires.pairs_len.0 _ _ c.loop-i-test.true c.param_at-point.ensures
-          c.visit_of-visit.ensures c.loop-i.invariant.5 c.trace_sample.ensures c.in-Down.is
-          c.after_sample-previous.ensures,
+    let g = a.grid.now in
+    let s = a.samples.now in
+    rw (
+      c.loop-i.invariant.1,
+      trace_flushes a.tolerance g.points.now g.cells s.marks.now s.pairs.now s.fits c.loop-i.i c.loop-i.previous
+          (page_of c.loop-i.sheet) (omega (arith, c.len-i-end.ensures)),
+      c.flush_segment.ensures.page,
     )
-
-pub flush_segment-requires : goal.flush_segment-requires
-flush_segment-requires c = c.loop-i.invariant.4.0
-
-pub returns : goal.returns
-returns c =
-    let a = c.args in
-    rw (c.loop-i.invariant.5 ∙ trace_flushes a.tolerance a.grid.now a.cells a.marks.now a.pairs.now
-    c.loop-i.i c.requires.pairs_len.0 _ _ c.loop-i-test.false)
-    (c.flush_segment.ensures (held (goal.at.returns c).At-loop-i).lists)

@@ -1,71 +1,91 @@
 -- `trace::flat::trace_flat` meets its contract: proofs/Ended.antt has `trace_flat` by what the call did; demand 3, and
 -- what is said of the numbers, hold of every grid.
-use Prim.Native.Nat.{◌*◌, ◌<◌}
-use native.Mathlib.Omega.{arith}
-use lib.ListN.{length}
-use Rattle.page.specs.Page.{Lists, lists}
+use mathlib.Core.Path.{◌≡◌, sym, ap, ◌∙◌}
+use Rattle.std.proofs.lemmas.Result.{err_from_is_err_and}
+use Rattle.refusal.specs.Refusals.{ok, refused, number_of}
+use Rattle.lent.specs.Lent.{afterwards, counts}
+use Rattle.page.specs.Page.{Page, zeroed_past}
+use Rattle.page.specs.Sheets.{lists_of, page_of, outcome_of}
+use Rattle.trace.specs.Trace.{trace_flat}
+use Rattle.trace.proofs.Agree.{page_left, ended}
 use Rattle.trace.proofs.Demands.{demand3}
+use Rattle.trace.proofs.Ended.{when_refused, when_walked, refused_before, walked}
 use Rattle.trace.proofs.Numbered.{numbers_met}
-use Rattle.trace.proofs.Ended.{passes, refused_before, counted, zeroed}
 use Rattle.trace.proofs.flat.trace_flat.Goals as goal
-use Rattle.trace.proofs.flat.trace_flat.Goals.{After-count_in-count, Start}
+use Rattle.trace.proofs.flat.trace_flat.Goals.{After-trace_parametric_edge_curve-walked, After-zero_rest}
+use Rattle.trace.proofs.flat.trace_flat.Goals.{then-is_err, else-is_err}
 
--- the lists as they were lent
-abbrev lent : Start → Lists
-lent s =
-    let a = s.args in
-    lists a.points.now a.starts.now a.sides.now a.fractions.now a.samples.now
-
--- the count, where it is known, is no more than the points have room for
-fits : (c : After-count_in-count) → 3 * c.count_in-count.result < 18446744073709551616
-fits c =
+-- the definition, by what came of the walk
+answers : (c : After-trace_parametric_edge_curve-walked) → let a = c.args in
+    let w = c.trace_parametric_edge_curve-walked in
+    ended (outcome_of w.result w.new.sheet)
+    ≡ trace_flat a.points.now a.m a.n a.tolerances a.pairs.now a.marks.now (lists_of a.sheet.now)
+answers c =
     let a = c.args in
-    let short : length a.points.now < 18446744073709551616 = omega arith in
-    omega (
-      arith,
-      c.count_in-count.ensures,
-      counted a.grid.now a.m a.n a.tolerances a.pairs.now a.marks.now
-          (lists a.points.now a.starts.now a.sides.now a.fractions.now a.samples.now)
-          c.trace_parametric_edge_curve-ended.ensures,
-      c.trace_parametric_edge_curve-ended.auto.points,
+    let p = c.in_ok-grid.ensures in
+    rw (
+      c.trace_parametric_edge_curve-walked.ensures.page,
+      ← walked a.points.now a.m a.n a.tolerances a.pairs.now a.marks.now (lists_of a.sheet.now) (sym p.check),
+      p.grid.0,
+      p.grid.1,
+      p.samples.0,
+      p.samples.1,
+      c.restart.ensures.page,
     )
 
-pub returns-in-Failed : goal.returns-in-Failed
-returns-in-Failed c =
+-- the page that is left
+leaves : (c : After-zero_rest) → let w = c.trace_parametric_edge_curve-walked in
+    page_of c.zero_rest.new.self ≡ zeroed_past (page_left (outcome_of w.result w.new.sheet))
+leaves c =
+    let w = c.trace_parametric_edge_curve-walked in
+    c.zero_rest.ensures.page ∙ ap zeroed_past (elim c.if-is_err.branch [
+      | then-is_err t ↦
+          rw t.sheet-is
+          (t.restart-then-is_err.ensures.page ∙ sym (when_refused w.result w.new.sheet t.if-is_err.ensures.value))
+      | else-is_err t ↦ rw t.sheet-is (sym (when_walked w.result w.new.sheet t.if-is_err.ensures.value))
+    ])
+
+pub returns-in_err-grid-clause-answer : goal.returns-in_err-grid-clause-answer
+returns-in_err-grid-clause-answer c =
     let a = c.args in
-    record {
-      answer = refused_before a.grid.now a.m a.n a.tolerances a.pairs.now a.marks.now
-          (lent (goal.at.returns-in-Failed c).Start)
-          c.check_trace.ensures c.in-Failed.is;
-      demand = demand3 _ _ _;
-      numbers = numbers_met _ _ _;
-    }
+    let p = err_from_is_err_and c.from_residual.result c.from_residual.ensures.1 in
+    rw (p.1, p.2) (refused_before a.points.now a.m a.n a.tolerances a.pairs.now a.marks.now (lists_of a.sheet.now)
+    (sym c.in_err-grid.ensures.check))
 
-pub trace_parametric_edge_curve-ended-requires : goal.trace_parametric_edge_curve-ended-requires
-trace_parametric_edge_curve-ended-requires c =
-    let a = c.args in
-    record {
-      grid_fits = (passes a.grid.now a.m a.n a.tolerances a.pairs.now a.marks.now
-          c.check_trace.ensures c.in_default.is).0;
-      pairs_len = (passes a.grid.now a.m a.n a.tolerances a.pairs.now a.marks.now
-          c.check_trace.ensures c.in_default.is).1;
-    }
+pub returns-in_err-grid-clause-demand : goal.returns-in_err-grid-clause-demand
+returns-in_err-grid-clause-demand c = demand3 _ _ _
 
-pub overflow_mul-count : goal.overflow_mul-count
-overflow_mul-count c = omega (arith, fits (goal.at.overflow_mul-count c).After-count_in-count)
+pub returns-in_err-grid-clause-numbers : goal.returns-in_err-grid-clause-numbers
+returns-in_err-grid-clause-numbers c = numbers_met _ _ _
 
-pub overflow_mul-count-2 : goal.overflow_mul-count-2
-overflow_mul-count-2 c = omega (arith, fits (goal.at.overflow_mul-count-2 c).After-count_in-count)
+pub returns-in_err-walked-clause-answer : goal.returns-in_err-walked-clause-answer
+returns-in_err-walked-clause-answer c =
+    let q = c.from_residual-in_err-walked in
+    let p = err_from_is_err_and q.result q.ensures.1 in
+    let left = leaves (goal.at.returns-in_err-walked-clause-answer c).After-zero_rest in
+    rw (
+      p.1,
+      p.2,
+      ← answers (goal.at.returns-in_err-walked-clause-answer c).After-trace_parametric_edge_curve-walked,
+      c.in_err-walked.was,
+    )
+    (ap (λ (g : Page). afterwards (refused (number_of c.in_err-walked.field-0.0)) g.lists)
+    (rw c.in_err-walked.was at left))
 
-pub returns : goal.returns
-returns c =
-    let a = c.args in
-    record {
-      answer = zeroed a.grid.now a.m a.n a.tolerances a.pairs.now a.marks.now (lent (goal.at.returns c).Start)
-          c.trace_parametric_edge_curve-ended.ensures c.check_trace.ensures c.in_default.is
-          c.answer_of.ensures c.count_in-count.ensures c.lines_in.ensures c.zero_floats.ensures
-          c.zero_numbers.ensures c.zero_numbers-2.ensures c.zero_floats-2.ensures
-          c.zero_numbers-3.ensures;
-      demand = demand3 _ _ _;
-      numbers = numbers_met _ _ _;
-    }
+pub returns-in_err-walked-clause-demand : goal.returns-in_err-walked-clause-demand
+returns-in_err-walked-clause-demand c = demand3 _ _ _
+
+pub returns-in_err-walked-clause-numbers : goal.returns-in_err-walked-clause-numbers
+returns-in_err-walked-clause-numbers c = numbers_met _ _ _
+
+pub returns-clause-answer : goal.returns-clause-answer
+returns-clause-answer c =
+    let left = leaves (goal.at.returns-clause-answer c).After-zero_rest in
+    rw (← answers (goal.at.returns-clause-answer c).After-trace_parametric_edge_curve-walked, c.in_ok-walked.was)
+    (ap (λ (g : Page). afterwards (ok (counts g.pen.count g.pen.lines)) g.lists) (rw c.in_ok-walked.was at left))
+
+pub returns-clause-demand : goal.returns-clause-demand
+returns-clause-demand c = demand3 _ _ _
+
+pub returns-clause-numbers : goal.returns-clause-numbers
+returns-clause-numbers c = numbers_met _ _ _

@@ -1,2 +1,0 @@
--- No call here is open: Fronts serves inner contracts only.
-pub mod Fronts

@@ -1,0 +1,40 @@
+-- `edges::events::Events::unique` meets its contract: at each turn what is kept, with what is left from i on, makes the
+-- answer.
+use Rattle.std.proofs.Common.{rules, ◌≡◌, ◌∙◌, sym, ap, get_or}
+use Rattle.float.specs.Consts.{eps}
+use Rattle.edges.specs.Events.{unique}
+use Rattle.edges.specs.Order.{event_at}
+use Rattle.edges.proofs.Kept.{drops, drops_says, keeping_starts, keeping_dropped, keeping_kept, keeping_ends}
+use Rattle.edges.proofs.Kept.{keeping_ordered}
+use Rattle.edges.proofs.events.Events.unique.Goals as goal
+use Rattle.edges.proofs.events.Events.unique.Goals.{After-is_some_and}
+
+pub loop-i-init : goal.loop-i-init
+loop-i-init c = let taken = c.take-found.ensures in rw (taken.value, taken.after) (keeping_starts c.self.invariant)
+
+-- what the test says of the event at i
+test : (c : After-is_some_and) → let l = c.loop-i in
+    c.is_some_and.result ≡ drops (event_at l.self-inside.list (get_or l.self-inside.order l.i 0)) l.last
+unfolding eps
+test c =
+    let s = c.loop-i.self-inside in
+    drops_says c.loop-i.last (event_at s.list (get_or s.order c.loop-i.i 0)) _ c.is_some_and.ensures
+    (λ e k. search rules)
+
+pub loop-i-preserved-then-is_some_and : goal.loop-i-preserved-then-is_some_and
+loop-i-preserved-then-is_some_and c =
+    keeping_dropped c.loop-i.invariant c.loop-i-test.true
+    (sym (test (goal.at.loop-i-preserved-then-is_some_and c).After-is_some_and) ∙ c.if-is_some_and.true)
+
+pub loop-i-preserved : goal.loop-i-preserved
+loop-i-preserved c =
+    keeping_kept c.loop-i.invariant c.swap.new.self (c.swap.ensures.by_index.3 0) c.swap.ensures.permutation
+    c.loop-i-test.true (sym (test (goal.at.loop-i-preserved c).After-is_some_and) ∙ c.if-is_some_and.false)
+
+pub invariant_of-self : goal.invariant_of-self
+invariant_of-self c =
+    keeping_ordered c.loop-i.invariant c.loop-i-test.false (rw c.take-found.ensures.value c.self.invariant.sorted)
+
+pub returns : goal.returns
+returns c =
+    keeping_ends c.loop-i.invariant c.loop-i-test.false ∙ rw c.take-found.ensures.value (ap unique c.self.view_is)

@@ -1,5 +1,0 @@
--- `index_to_c` is given what `map_index_inv` answers of the mapping of the direction, offset and steps.
-use Rattle.merlontrispa.proofs.seams.mt_map_index_inv.Goals as goal
-
-pub returns : goal.returns
-returns c = rw (c.index_to_c.ensures, c.map_index_inv.ensures, c.mapping.ensures)
