@@ -9,6 +9,7 @@ use Rattle.vector.specs.Vectors.{vector}
 use Rattle.refusal.specs.declared.Refusal.TheVariants.{Steps, Length, Coordinate}
 use Rattle.refusal.specs.Refusals.{Check, passed, unless, and_then}
 use Rattle.param.specs.declared.Cells.{Cells}
+use Rattle.param.specs.Param.{cells}
 
 -- the number of point (u, v)
 abbrev pub point_number : ℕ → ℕ → ℕ → ℕ
@@ -50,3 +51,7 @@ Accepted g m n = grid_check g m n passed ≡ passed
 -- what inner functions ask for: a grid of these cells, by its length
 abbrev pub GridFits : List Float → Cells → Type 0
 GridFits g k = (k.m ≤ 255) × (k.n ≤ 255) × (length g ≡ 3 * ((k.m + 1) * (k.n + 1)))
+
+-- what a check hands on: the points and cells of the grid that was given
+abbrev pub IsGiven : List Float → ℕ → ℕ → List Float → Cells → Type 0
+IsGiven g m n points k = (points ≡ g) × (k ≡ cells m n)

@@ -3,9 +3,8 @@
 #![tactic(auto)]
 
 ghost use Rattle.std.specs.Prelude.{◌≡◌, IfOk, length, ◌+◌, ◌*◌, ◌≤◌};
-ghost use Rattle.param.specs.Param.{cells};
 ghost use Rattle.refusal.specs.Refusals.{tested};
-ghost use Rattle.grid.specs.Grid.{point_number, point_at, steps_fit, coordinates_fit, grid_check, GridFits};
+ghost use Rattle.grid.specs.Grid.{point_number, point_at, steps_fit, coordinates_fit, grid_check, GridFits, IsGiven};
 
 use param::Cells;
 use refusal::Refusal;
@@ -18,6 +17,7 @@ pub const MAX_STEPS: usize = 255;
 const MAX_COORDINATE: f64 = 1099511627776.0;
 
 // A list that has three numbers for each point of so many cells.
+// It may have no cell: `path` and `crossing` ask for none, so that only who searches a seam asks for steps.
 #[derive(Clone, Copy)]
 pub struct Grid<'a> {
     pub points: &'a [f64],
@@ -76,7 +76,7 @@ pub fn check_grid<'a>(
     between: Result<(), Refusal>,
 ) -> Result<Grid<'a>, Refusal>
     ensures check { tested result ≡ grid_check points.now m n between }
-    ensures grid { IfOk result (λ g. (g.points.now ≡ points.now) × (g.cells ≡ cells m n)) }
+    ensures grid { IfOk result (λ g. IsGiven points.now m n g.points.now g.cells) }
 {
     if !steps_fit(m, n) {
         return Err(Refusal::Steps);

@@ -2,7 +2,7 @@
 #![tactic(auto)]
 
 ghost use Rattle.std.specs.Prelude.{◌+◌, ◌*◌, ◌≤◌, ◌≡◌, IfOk, length};
-ghost use Rattle.param.specs.Param.{cells};
+ghost use Rattle.grid.specs.Grid.{IsGiven};
 ghost use Rattle.refusal.specs.Refusals.{tested, stated};
 ghost use Rattle.lent.specs.Lent.{afterwards};
 ghost use Rattle.surface.specs.Found.{SurfaceMeets};
@@ -49,7 +49,7 @@ pub fn check_mesh<'a>(
     flipped: &[usize],
 ) -> Result<Grid<'a>, Refusal>
     ensures check { tested result ≡ mesh_check points.now m n tolerances triangles.now flipped.now }
-    ensures grid { IfOk result (λ g. (g.points.now ≡ points.now) × (g.cells ≡ cells m n)) }
+    ensures grid { IfOk result (λ g. IsGiven points.now m n g.points.now g.cells) }
 {
     if !grid::steps_fit(m, n) {
         return Err(Refusal::Steps);

@@ -6,7 +6,7 @@ mod draw;
 
 ghost use Rattle.std.specs.Prelude.{◌≡◌, IfOk};
 ghost use Rattle.refusal.specs.Refusals.{tested, stated};
-ghost use Rattle.param.specs.Param.{cells};
+ghost use Rattle.grid.specs.Grid.{IsGiven};
 ghost use Rattle.lent.specs.Lent.{afterwards};
 ghost use Rattle.path.specs.GridPaths.{paths_check, grid_paths, path_lists};
 ghost use Rattle.path.specs.Line.{line_span, line_at};
@@ -33,7 +33,7 @@ fn check_paths<'a>(
     starts: &[usize],
 ) -> Result<Grid<'a>, Refusal>
     ensures check { tested result ≡ paths_check grid.now m n points.now starts.now }
-    ensures grid { IfOk result (λ g. (g.points.now ≡ grid.now) × (g.cells ≡ cells m n)) }
+    ensures grid { IfOk result (λ g. IsGiven grid.now m n g.points.now g.cells) }
 {
     if !grid::steps_fit(m, n) {
         return Err(Refusal::Steps);

@@ -6,20 +6,20 @@ ghost use Rattle.refusal.specs.Refusals.{number_of};
 
 #[derive(Clone, Copy, Debug, PartialEq, Eq)]
 pub enum Refusal {
-    Steps,
-    Length,
-    Room,
-    Coordinate,
-    Texture,
-    Count,
-    Direction,
-    NotThere,
-    Mark,
-    Sample,
-    NoStep,
-    Full,
-    Tolerance,
-    Mapping,
+    Steps = 1,
+    Length = 2,
+    Room = 3,
+    Coordinate = 4,
+    Texture = 5,
+    Count = 6,
+    Direction = 7,
+    NotThere = 8,
+    Mark = 9,
+    Sample = 10,
+    NoStep = 11,
+    Full = 12,
+    Tolerance = 13,
+    Mapping = 14,
 }
 
 // Its number.
@@ -29,21 +29,6 @@ impl From<Refusal> for u8 {
     fn from(refusal: Refusal) -> u8
         ensures { result ≡ number_of refusal }
     {
-        match refusal {
-            Refusal::Steps => 1,
-            Refusal::Length => 2,
-            Refusal::Room => 3,
-            Refusal::Coordinate => 4,
-            Refusal::Texture => 5,
-            Refusal::Count => 6,
-            Refusal::Direction => 7,
-            Refusal::NotThere => 8,
-            Refusal::Mark => 9,
-            Refusal::Sample => 10,
-            Refusal::NoStep => 11,
-            Refusal::Full => 12,
-            Refusal::Tolerance => 13,
-            Refusal::Mapping => 14,
-        }
+        refusal as u8
     }
 }

@@ -1,7 +1,7 @@
 // The samples of a trace, and the refusals before the walk (Rules 6.1 and 11).
 ghost use Rattle.std.specs.Prelude.{◌<◌, ◌≡◌, IfOk, length, get_or};
 ghost use Rattle.refusal.specs.Refusals.{tested};
-ghost use Rattle.param.specs.Param.{cells};
+ghost use Rattle.grid.specs.Grid.{IsGiven};
 ghost use Rattle.trace.specs.Curve.{SamplesFit, sample_at, param_at, marked_point};
 ghost use Rattle.trace.specs.Trace.{check_lengths, marks_fit, sample_fits, pairs_fit, trace_check};
 
@@ -96,7 +96,7 @@ pub fn check_trace<'a>(
     marks: &'a [u8],
 ) -> Result<(Grid<'a>, Samples<'a>), Refusal>
     ensures check { tested result ≡ trace_check points.now m n tolerances pairs.now marks.now }
-    ensures grid { IfOk result (λ r. (r.0.points.now ≡ points.now) × (r.0.cells ≡ cells m n)) }
+    ensures grid { IfOk result (λ r. IsGiven points.now m n r.0.points.now r.0.cells) }
     ensures samples { IfOk result (λ r. (r.1.pairs.now ≡ pairs.now) × (r.1.marks.now ≡ marks.now)) }
 {
     let samples = Samples::new(pairs, marks);

@@ -6,6 +6,7 @@ ghost use Rattle.std.specs.Float.Ieee.{lt, is_nan};
 ghost use Rattle.float.specs.Sign.{absolute};
 ghost use Rattle.vector.specs.Vectors.{plus, minus, scaled, all_close};
 
+#[repr(C)]
 #[derive(Clone, Copy)]
 pub struct Vector {
     pub x: f64,
@@ -46,7 +47,7 @@ impl Vector {
     }
 
     // Whether two points are close at a tolerance, whatever that is: no difference keeps them apart, and not all three
-    // are NaNs, which f64::max passes over.
+    // are NaNs, which f64::max passes over. Three calls side by side: an array of the differences and `any` say no less.
     #[tactic(auto, using(crate::proofs::Close::close_by_lem))]
     pub fn all_close(self, other: Vector, tolerance: f64) -> bool
         ensures { result ≡ all_close self other tolerance }
