@@ -6,6 +6,6 @@ pub mod Each
 pub mod Order
 pub mod Places
 pub mod Laws
-pub mod Placed
+pub mod Storable
 pub mod Kept
 pub mod Gather

@@ -1,33 +1,27 @@
--- An order of places: a free one is written to, and turned to where its event goes; where that is, by what the last
--- place and a search by halves say; an order in which all are free; and what `swap` leaves of one.
-use Rattle.std.proofs.Common.{◌≡◌, ℕ, suc, ◌+◌, ◌-◌, ◌<◌, ◌≤◌, nat_eq, Bool, true, false, Option, Some, None}
-use Rattle.std.proofs.Common.{List, [], ◌∷◌, ◌++◌, length, take, drop, get_or, map, slice_get, Bor}
-use Rattle.std.proofs.Common.{arith, refl, sym, ◌∙◌, ◌⊎◌, inl, inr, length-append, length-drop}
-use lib.Ieee.{nan}
-use Rattle.std.specs.List.{All}
-use Rattle.std.specs.List.Sorted.{IsPermutation, IsPartitionedBy, IsPartitionPoint}
+-- Events as one list: a value put at a place of both lists is an event put there, and a store to both is a store of an
+-- event. And the place of an event, by what the last lambda and a search by halves say.
+use Rattle.std.proofs.Common.{◌≡◌, ℕ, zero, suc, ◌+◌, ◌-◌, ◌<◌, ◌≤◌, Bool, true, false, not, Option, Some, None}
+use Rattle.std.proofs.Common.{List, [], ◌∷◌, ◌++◌, length, take, drop, get_or, slice_get, Bor}
+use Rattle.std.proofs.Common.{arith, refl, ap, sym, ◌∙◌, length-append, length-drop}
+use lib.Ieee.{Float, nan}
+use Rattle.std.specs.List.Sorted.{IsPartitionedBy, IsPartitionPoint}
 use Rattle.std.specs.Bool.{IsTrue}
 use Rattle.std.specs.Option.{MatchOption, option_copied, option_map_or}
 use Rattle.std.proofs.Math.ListN.{set, length-set}
-use Rattle.std.proofs.Math.Nat.{eq-or-lt_of_le}
-use Rattle.std.proofs.Math.Seq.{take-set-le, take-set-lt, drop-set-lt, take-take, length-take-le, take-append_seam}
-use Rattle.std.proofs.Math.Seq.{drop-append_seam}
-use Rattle.std.proofs.lemmas.List.{take_more_set, drop-append-le, get_or-set_other, get_or-set_same, map-append}
-use Rattle.std.proofs.lemmas.List.{length-map, take-map, drop-map, take_more, get_or-take, get_or_default}
-use Rattle.std.proofs.lemmas.List.{get_or-map, set-get_or}
-use Rattle.std.proofs.lemmas.List.Elements.{All-take}
-use Rattle.std.proofs.lemmas.List.Sorted.{All-permutation, IsPermutation-put_mid}
-use Rattle.std.proofs.lemmas.Map.Keys.{apart_from_distinct, IsDistinct-IsPermutation, IsDistinct-from_apart}
+use Rattle.std.proofs.Math.Seq.{take-set-le, take-take, length-take-le, take-append_seam, drop-append_seam}
+use Rattle.std.proofs.lemmas.List.{drop-append-le, get_or-set_same, take_more, get_or-take}
 use Rattle.std.proofs.lemmas.Slice.{take-put_mid, between_is}
-use borrow.Author.Tests.{eqb-false, ne_eqb, not-true, not-false}
-use borrow.Rule.Slice.PartMut.{mid_of, put_mid, same_len_mid}
+use borrow.Author.Tests.{not-true, not-false}
+use borrow.Rule.Slice.PartMut.{mid_of, put_mid}
 use Rattle.basics.specs.Lists.{put_at}
+use Rattle.float.specs.Order.{total_order}
 use Rattle.edges.specs.declared.event.EdgeEvent.{EdgeEvent}
-use Rattle.edges.specs.declared.event.ParamEdge.TheVariants.{U}
-use Rattle.edges.specs.Events.{event, insert}
-use Rattle.edges.specs.Order.{Placed, event_at, events_in, Ordered}
+use Rattle.edges.specs.declared.side.Side.{Side}
+use Rattle.edges.specs.declared.side.Side.TheVariants as side
+use Rattle.edges.specs.Events.{precedes, insert}
+use Rattle.edges.specs.Side.{edge_of}
+use Rattle.edges.specs.Order.{Placed, event_of, held, events_in, Ordered}
 use Rattle.edges.proofs.Order.{sorted_insert, behind, parted, placed}
-use Rattle.std.proofs.lemmas.Bool.Decides.{nat_tests}
 use Rattle.std.proofs.lemmas.Option.{slice_get-get_or}
 
 -- ---- the end of the front of a list, turned to a place in it
@@ -57,69 +51,112 @@ module _ {A : Type 0} (xs : List A) (count place : ℕ) (d : A) (h : place ≤ c
         turn,
       )
 
--- ---- an event written at a free place
-pub nat_eq_flips : (x y : ℕ) → nat_eq x y ≡ nat_eq y x
-nat_eq_flips x y = grind (arith, nat_tests)
-
--- it leaves the others as they are
-unmoved : (list : List EdgeEvent) (free : ℕ) (e : EdgeEvent) (order : List ℕ) → All (λ place. place ≡ free → ⊥) order →
-    map (event_at (set list free e)) order ≡ map (event_at list) order
-unmoved list free e [] h = refl
-unmoved list free e (p ∷ ps) h =
+-- so a value that was written there stands at the place
+pub put_turned : {A : Type 0} (xs : List A) (count place : ℕ) (x : A) (ys : List A) → place ≤ count →
+    count < length xs →
+    ys ≡ drop (length (mid_of place (count + 1 - place) (set xs count x)) - 1) (mid_of place (count + 1 - place) (set xs count x))
+    ++ take (length (mid_of place (count + 1 - place) (set xs count x)) - 1) (mid_of place (count + 1 - place) (set xs count x)) →
+    take (count + 1) (put_mid place (count + 1 - place) (set xs count x) ys) ≡ put_at place x (take count xs)
+put_turned xs count place x ys h room e =
     rw (
-      get_or-set_other list free p e _ (h 0 0 (omega arith)),
-      unmoved list free e ps (λ i d l. h (suc i) d (omega arith)),
+      turned (set xs count x) count place x h (omega (arith, length-set xs count x)) ys e,
+      get_or-set_same xs count x x room,
+      take-set-le count xs count x (omega arith),
     )
 
-pub events_length : {list : List EdgeEvent} {order : List ℕ} {count : ℕ} → Ordered list order count →
-    length (events_in list order count) ≡ count
-events_length {list} {order} {count} o =
-    length-map (take count order) (event_at list)
-    ∙ length-take-le count order (omega (arith, o.few, o.order_length))
+-- ---- the two lists as one
+pub held_length : (ls : List Float) (ss : List Side) → length ls ≡ length ss → length (held ls ss) ≡ length ls
+unfolding held
+held_length [] ss e = refl
+held_length (l ∷ ls) [] e = absurd (omega arith)
+held_length (l ∷ ls) (s ∷ ss) e = ap suc (held_length ls ss (omega arith))
 
--- and it is turned to where it goes: ys is what the part holds then
-module _ {list : List EdgeEvent} {order : List ℕ} {count : ℕ} (o : Ordered list order count) (place : ℕ) (e : EdgeEvent)
-    (h : place ≤ count) (room : count < 1023) (ys : List ℕ) where
-  abbrev free : ℕ
-  free = get_or order count 0
+pub held_set : (ls : List Float) (ss : List Side) (i : ℕ) (x : Float) (y : Side) → length ls ≡ length ss →
+    held (set ls i x) (set ss i y) ≡ set (held ls ss) i (event_of x y)
+unfolding held
+held_set [] [] i x y e = refl
+held_set [] (s ∷ ss) i x y e = absurd (omega arith)
+held_set (l ∷ ls) [] i x y e = absurd (omega arith)
+held_set (l ∷ ls) (s ∷ ss) zero x y e = refl
+held_set (l ∷ ls) (s ∷ ss) (suc i) x y e = rw (held_set ls ss i x y (omega arith))
 
-  abbrev turning : List ℕ
-  turning = mid_of place (count + 1 - place) order
+held_at : (ls : List Float) (ss : List Side) (i : ℕ) (d : EdgeEvent) (f : Float) (z : Side) → length ls ≡ length ss →
+    i < length ls → get_or (held ls ss) i d ≡ event_of (get_or ls i f) (get_or ss i z)
+unfolding held
+held_at [] ss i d f z e h = absurd (omega arith)
+held_at (l ∷ ls) [] i d f z e h = absurd (omega arith)
+held_at (l ∷ ls) (s ∷ ss) zero d f z e h = refl
+held_at (l ∷ ls) (s ∷ ss) (suc i) d f z e h = held_at ls ss i d f z (omega arith) (omega arith)
 
-  others : All (λ p. p ≡ free → ⊥) (take count order)
-  others i d l q =
-      let n : length (take count order) ≡ count = length-take-le count order (omega arith) in
-      let r : get_or order i 0 ≡ free =
-      get_or_default order i 0 d (omega arith) ∙ sym (get_or-take count order i d (omega arith)) ∙ q in
-      eqb-false (get_or order i 0) free
-      (apart_from_distinct nat_eq order i count 0 o.once (omega arith) (omega arith)) r
+held_put : (p : ℕ) (x : Float) (y : Side) (ls : List Float) (ss : List Side) → length ls ≡ length ss →
+    held (put_at p x ls) (put_at p y ss) ≡ put_at p (event_of x y) (held ls ss)
+unfolding held
+held_put zero x y ls ss e = refl
+held_put (suc p) x y [] [] e = refl
+held_put (suc p) x y [] (s ∷ ss) e = absurd (omega arith)
+held_put (suc p) x y (l ∷ ls) [] e = absurd (omega arith)
+held_put (suc p) x y (l ∷ ls) (s ∷ ss) e = rw (held_put p x y ls ss (omega arith))
 
-  pub inserted : ys ≡ drop (length turning - 1) turning ++ take (length turning - 1) turning →
-      events_in (set list free e) (put_mid place (count + 1 - place) order ys) (count + 1)
-      ≡ put_at place e (events_in list order count)
-  inserted t =
-      rw (
-        turned order count place 0 h (omega arith) ys t,
-        map-append,
-        get_or-set_same list free e (event nan (U 0)) (rw o.list_length (o.places count 0 (omega arith))),
-        ← take-map (event_at (set list free e)) place (take count order),
-        ← drop-map (event_at (set list free e)) place (take count order),
-        unmoved list free e (take count order) others,
-      )
+held_take : (n : ℕ) (ls : List Float) (ss : List Side) → take n (held ls ss) ≡ held (take n ls) (take n ss)
+unfolding held
+held_take zero ls ss = refl
+held_take (suc n) [] ss = refl
+held_take (suc n) (l ∷ ls) [] = refl
+held_take (suc n) (l ∷ ls) (s ∷ ss) = rw (held_take n ls ss)
 
-  pub ordered : ys ≡ drop (length turning - 1) turning ++ take (length turning - 1) turning → IsPermutation turning ys →
-      length ys ≡ length turning → Placed e →
-      put_at place e (events_in list order count) ≡ insert e (events_in list order count) →
-      Ordered (set list free e) (put_mid place (count + 1 - place) order ys) (count + 1)
-  ordered t p l n i =
-      let moved = IsPermutation-put_mid place (count + 1 - place) order ys p in
+pub events_put : (ls : List Float) (ss : List Side) (n p : ℕ) (x : Float) (y : Side) (ms : List Float) (ts : List Side) →
+    length ls ≡ length ss → n ≤ length ls →
+    take (n + 1) ms ≡ put_at p x (take n ls) → take (n + 1) ts ≡ put_at p y (take n ss) →
+    events_in ms ts (n + 1) ≡ put_at p (event_of x y) (events_in ls ss n)
+events_put ls ss n p x y ms ts e h q r =
+    rw (held_take (n + 1) ms ts, q, r, held_take n ls ss)
+    (held_put p x y (take n ls) (take n ss) (length-take-le n ls h ∙ sym (length-take-le n ss (omega arith))))
+
+module _ (ls : List Float) (ss : List Side) (count : ℕ) (e : length ls ≡ length ss) (h : count ≤ length ls) where
+  pub in_length : length (events_in ls ss count) ≡ count
+  in_length = length-take-le count (held ls ss) (omega (arith, held_length ls ss e))
+
+  -- the event at i
+  pub event_in : (i : ℕ) (d : EdgeEvent) (f : Float) (z : Side) → i < count →
+      get_or (events_in ls ss count) i d ≡ event_of (get_or ls i f) (get_or ss i z)
+  event_in i d f z k = get_or-take count (held ls ss) i d k ∙ held_at ls ss i d f z e (omega arith)
+
+pub events_length : {ls : List Float} {ss : List Side} {count : ℕ} → Ordered ls ss count →
+    length (events_in ls ss count) ≡ count
+events_length {ls} {ss} {count} o =
+    in_length ls ss count (omega (arith, o.lambdas_length, o.sides_length)) (omega (arith, o.few, o.lambdas_length))
+
+-- what is read of both lists at i
+pub read_event : {ls : List Float} {ss : List Side} {count : ℕ} → Ordered ls ss count → (i : ℕ) (f : Float) (z : Side) →
+    i < length (events_in ls ss count) → slice_get (events_in ls ss count) i ≡ Some (event_of (get_or (take count ls) i f) (get_or ss i z))
+read_event {ls} {ss} {count} o i f z h =
+    let e : length ls ≡ length ss = omega (arith, o.lambdas_length, o.sides_length) in
+    let n : count ≤ length ls = omega (arith, o.few, o.lambdas_length) in
+    let d = event_of (get_or ls i f) (get_or ss i z) in
+    let k : i < count = omega (arith, events_length o) in
+    rw (get_or-take count ls i f k)
+    (slice_get-get_or (events_in ls ss count) i d h ∙ ap Some (event_in ls ss count e n i d f z k))
+
+-- an event put at a place: side s stands for its side
+module _ {ls : List Float} {ss : List Side} {count : ℕ} (o : Ordered ls ss count) (e : EdgeEvent) where
+  pub inserted : (place : ℕ) (ms : List Float) (ts : List Side) (s : Side) → edge_of s ≡ e.edge →
+      take (count + 1) ms ≡ put_at place e.lambda (take count ls) →
+      take (count + 1) ts ≡ put_at place s (take count ss) →
+      events_in ms ts (count + 1) ≡ put_at place e (events_in ls ss count)
+  inserted place ms ts s q h k =
+      let same : event_of e.lambda s ≡ e = rw q refl in
+      events_put ls ss count place e.lambda s ms ts (omega (arith, o.lambdas_length, o.sides_length))
+      (omega (arith, o.few, o.lambdas_length)) h k
+      ∙ ap (λ (x : EdgeEvent). put_at place x (events_in ls ss count)) same
+
+  pub ordered : (ms : List Float) (ts : List Side) → length ms ≡ 1023 → length ts ≡ 1023 → count < 1023 → Placed e →
+      events_in ms ts (count + 1) ≡ insert e (events_in ls ss count) → Ordered ms ts (count + 1)
+  ordered ms ts l m h n i =
       record {
-        list_length = length-set list free e ∙ o.list_length;
-        order_length = same_len_mid place (count + 1 - place) order ys l ∙ o.order_length;
+        lambdas_length = l;
+        sides_length = m;
         few = omega arith;
-        places = All-permutation (λ k. k < 1023) order _ moved o.places;
-        once = IsDistinct-IsPermutation nat_eq nat_eq_flips order _ moved o.once;
-        sorted = sorted_insert e (events_in list order count) n o.sorted (inserted t ∙ i);
+        sorted = sorted_insert e (events_in ls ss count) n o.sorted i;
       }
 
 -- ---- the last of a list, if there is one, and what a test says of it
@@ -134,32 +171,34 @@ last_says xs test None P e m h = rw (← e) m
 last_says xs test (Some x) P e m h = rw (← e) (h x m)
 
 -- ---- the place of an event, as the code tests for it: behind those that it does not precede
-module _ {list : List EdgeEvent} {order : List ℕ} {count : ℕ} (o : Ordered list order count) (e : EdgeEvent)
-    (n : Placed e) where
-  abbrev found : List ℕ
-  found = take count order
+module _ {ls : List Float} {ss : List Side} {count : ℕ} (o : Ordered ls ss count) (e : EdgeEvent) (n : Placed e) where
+  abbrev found : List Float
+  found = take count ls
 
   abbrev es : List EdgeEvent
-  es = events_in list order count
+  es = events_in ls ss count
 
-  -- what is asked of a place
-  abbrev pub behind_at : ℕ → Bool
-  behind_at k = option_map_or (behind e n) (slice_get list k) true
+  -- what is asked of a lambda
+  abbrev pub behind_at : Float → Bool
+  behind_at l = not (precedes (total_order e.lambda l))
 
-  asked : (i d : ℕ) (x : EdgeEvent) → i < length found → behind_at (get_or found i d) ≡ behind e n (get_or es i x)
+  in_found : length found ≡ count
+  in_found = length-take-le count ls (omega (arith, o.few, o.lambdas_length))
+
+  asked : (i : ℕ) (d : Float) (x : EdgeEvent) → i < length found → behind_at (get_or found i d) ≡ behind e n (get_or es i x)
   asked i d x l =
-      let inside : get_or found i d < length list =
-      rw o.list_length (All-take (λ k. k < 1023) count order o.places i d l) in
+      let k : i < count = omega (arith, in_found) in
       rw (
-        slice_get-get_or list (get_or found i d) (event nan (U 0)) inside,
-        get_or-map (event_at list) found i d x l,
+        get_or-take count ls i d k,
+        event_in ls ss count (omega (arith, o.lambdas_length, o.sides_length)) (omega (arith, o.few, o.lambdas_length))
+            i x d (get_or ss i (side.U 0)) k,
       )
 
   -- where e goes behind the last, it goes to the end
   pub goes_last : option_map_or behind_at (last_of found) true ≡ true →
       (length found ≤ length es) × (put_at (length found) e es ≡ insert e es)
   goes_last t =
-      let l : length es ≡ length found = length-map found (event_at list) in (
+      let l : length es ≡ length found = omega (arith, in_found, events_length o) in (
         omega arith,
         placed e n es (length found) e o.sorted.ascend o.sorted.placed (omega arith) (λ i h. not-true _ (last i h))
             (λ h. absurd (omega arith)),
@@ -168,12 +207,12 @@ module _ {list : List EdgeEvent} {order : List ℕ} {count : ℕ} (o : Ordered l
       last : (i : ℕ) → i + 1 ≡ length found → behind e n (get_or es i e) ≡ true
       last i h =
           let q : length found - 1 ≡ i = omega arith in
-          sym (asked i 0 e (omega arith)) ∙ (rw (q, slice_get-get_or found i 0 (omega arith)) at t)
+          sym (asked i nan e (omega arith)) ∙ (rw (q, slice_get-get_or found i nan (omega arith)) at t)
 
   -- else the search by halves finds where
-  pub parted_places : IsPartitionedBy behind_at found
-  parted_places i j d l h t =
-      let m : length es ≡ length found = length-map found (event_at list) in
+  pub parted_lambdas : IsPartitionedBy behind_at found
+  parted_lambdas i j d l h t =
+      let m : length es ≡ length found = omega (arith, in_found, events_length o) in
       asked i d e (omega arith)
       ∙ parted e n es o.sorted.ascend o.sorted.placed i j e l (omega arith) (sym (asked j d e h) ∙ t)
 
@@ -181,50 +220,9 @@ module _ {list : List EdgeEvent} {order : List ℕ} {count : ℕ} (o : Ordered l
       IsPartitionPoint (λ k. behind_at k ≡ true) (λ k. behind_at k ≡ false) found p →
       (p ≤ length es) × (put_at p e es ≡ insert e es)
   goes_there p h f =
-      let l : length es ≡ length found = length-map found (event_at list) in (
+      let l : length es ≡ length found = omega (arith, in_found, events_length o) in (
         omega arith,
         placed e n es p e o.sorted.ascend o.sorted.placed (omega arith)
-            (λ i q. not-true _ (sym (asked i 0 e (omega arith)) ∙ f.0 i 0 (omega arith) (omega arith)))
-            (λ q. not-false _ (sym (asked p 0 e (omega arith)) ∙ f.1 p 0 (omega arith) (omega arith))),
+            (λ i q. not-true _ (sym (asked i nan e (omega arith)) ∙ f.0 i nan (omega arith) (omega arith)))
+            (λ q. not-false _ (sym (asked p nan e (omega arith)) ∙ f.1 p nan (omega arith) (omega arith))),
       )
-
--- ---- no event: each place is free, and stands where its number says
-pub none_ordered : (list : List EdgeEvent) (order : List ℕ) → length list ≡ 1023 → length order ≡ 1023 →
-    ((k : ℕ) → k < 1023 → get_or order k 0 ≡ k) → Ordered list order 0
-none_ordered list order h l f =
-    record {
-      list_length = h;
-      order_length = l;
-      few = omega arith;
-      places = λ k d q. rw (stands k d (omega arith)) (omega arith);
-      once =
-          IsDistinct-from_apart nat_eq order
-          (λ i j d q r. rw (stands i d (omega arith), stands j d (omega arith)) (ne_eqb i j (λ e. omega arith)));
-      sorted = record { ascend = tt; placed = tt };
-    }
-  where
-    stands : (k d : ℕ) → k < 1023 → get_or order k d ≡ k
-    stands k d q = get_or_default order k d 0 (omega arith) ∙ f k q
-
--- ---- two places change, as `swap` has them: one that is read next comes to the end of those that are kept
-pub swapped : (xs ys : List ℕ) (kept i found : ℕ) → kept ≤ i → i < found → found ≤ length xs →
-    ys ≡ set (set xs kept (get_or xs i 0)) i (get_or xs kept 0) →
-    (take (kept + 1) ys ≡ take kept xs ++ get_or xs i 0 ∷ [])
-    × (drop (i + 1) (take found ys) ≡ drop (i + 1) (take found xs))
-swapped xs ys kept i found h k l e = (
-  rw e (front (eq-or-lt_of_le h)),
-  rw (
-    e,
-    take-set-lt found (set xs kept (get_or xs i 0)) i (get_or xs kept 0) k,
-    take-set-lt found xs kept (get_or xs i 0) (omega arith),
-    drop-set-lt (i + 1) (set (take found xs) kept (get_or xs i 0)) i (get_or xs kept 0) (omega arith),
-    drop-set-lt (i + 1) (take found xs) kept (get_or xs i 0) (omega arith),
-  ),
-)
-  where
-    front : (kept ≡ i) ⊎ (kept < i) → take (kept + 1) (set (set xs kept (get_or xs i 0)) i (get_or xs kept 0))
-        ≡ take kept xs ++ get_or xs i 0 ∷ []
-    front (inl q) = rw (q, set-get_or xs i 0, set-get_or xs i 0) (take_more xs i 0 (omega arith))
-    front (inr q) =
-        rw (take-set-le (kept + 1) (set xs kept (get_or xs i 0)) i (get_or xs kept 0) (omega arith))
-        (take_more_set xs kept (get_or xs i 0) (omega arith))

@@ -1,13 +1,13 @@
--- For inner contracts only: the events of a leg in order, and where they stand (Rules 6.4).
-use Rattle.std.specs.Prelude.{false, List, [], ◌∷◌, ◌≡◌, ℕ, ◌<◌, ◌≤◌, nat_eq, length, take, get_or, map, Float}
-use Rattle.std.specs.List.{All, IsDistinct}
-use Rattle.std.specs.Float.{nan}
+-- For inner contracts only: the events of a leg in order, and where they stand (Rules 6.4). Their lambdas are in one
+-- list and their sides in another, each of 1,023 places, and a count says how many there are.
+use Rattle.std.specs.Prelude.{false, List, [], ◌∷◌, ◌≡◌, ℕ, ◌≤◌, length, take, Float}
 use Rattle.std.specs.Float.Ieee.{is_nan}
 use Rattle.basics.specs.Lists.{Each}
 use Rattle.float.specs.Order.{total_order}
-use Rattle.edges.specs.declared.event.ParamEdge.TheVariants.{U}
 use Rattle.edges.specs.declared.event.EdgeEvent.{EdgeEvent}
+use Rattle.edges.specs.declared.side.Side.{Side}
 use Rattle.edges.specs.Events.{event, precedes}
+use Rattle.edges.specs.Side.{Codable, edge_of}
 
 -- events whose lambdas ascend in the total order, the first not before x
 abbrev pub AscendFrom : Float → List EdgeEvent → Type 0
@@ -22,24 +22,31 @@ Ascend (e ∷ es) = AscendFrom e.lambda es
 abbrev pub Placed : EdgeEvent → Type 0
 Placed e = is_nan e.lambda ≡ false
 
+-- and one that the lists take: its side fits too
+abbrev pub Storable : EdgeEvent → Type 0
+Storable e = Codable e.edge × Placed e
+
 -- such events, in order
 pub record Sorted (es : List EdgeEvent) : Type 0 where
   pub ascend : Ascend es
   pub placed : Each Placed es
 
--- the event at a place of a list
-abbrev pub event_at : List EdgeEvent → ℕ → EdgeEvent
-event_at list place = get_or list place (event nan (U 0))
+abbrev pub event_of : Float → Side → EdgeEvent
+event_of l s = event l (edge_of s)
 
--- the events at the first `count` places of an order
-abbrev pub events_in : List EdgeEvent → List ℕ → ℕ → List EdgeEvent
-events_in list order count = map (event_at list) (take count order)
+-- the events that two lists hold
+unfoldable pub held : List Float → List Side → List EdgeEvent
+held [] ss = []
+held (l ∷ ls) [] = []
+held (l ∷ ls) (s ∷ ss) = event_of l s ∷ held ls ss
 
--- a list of 1,023 places, and an order in which each of them stands once, first those of `count` events in order
-pub record Ordered (list : List EdgeEvent) (order : List ℕ) (count : ℕ) : Type 0 where
-  pub list_length : length list ≡ 1023
-  pub order_length : length order ≡ 1023
+-- the first `count` of them
+abbrev pub events_in : List Float → List Side → ℕ → List EdgeEvent
+events_in lambdas sides count = take count (held lambdas sides)
+
+-- two lists of 1,023 places, of which the first `count` hold events in order
+pub record Ordered (lambdas : List Float) (sides : List Side) (count : ℕ) : Type 0 where
+  pub lambdas_length : length lambdas ≡ 1023
+  pub sides_length : length sides ≡ 1023
   pub few : count ≤ 1023
-  pub places : All (λ place. place < 1023) order
-  pub once : IsDistinct nat_eq order
-  pub sorted : Sorted (events_in list order count)
+  pub sorted : Sorted (events_in lambdas sides count)

@@ -1,13 +1,13 @@
 // The events of a leg, in order (Rules 6.4): each is sorted in as it is found.
-ghost use Rattle.std.specs.Prelude.{◌≡◌, true, List, [], ◌<◌, ◌≤◌, Some, length, drop, slice_get, not};
-ghost use Rattle.std.specs.Option.{option_map_or};
+ghost use Rattle.std.specs.Prelude.{◌≡◌, true, List, [], ◌+◌, ◌<◌, ◌≤◌, Some, length, take, drop, slice_get};
 ghost use Rattle.basics.specs.Lists.{put_at};
 ghost use Rattle.float.specs.Order.{total_order};
 ghost use Rattle.edges.specs.Events.{precedes, insert, pushed, unique, next_lambda, IfEvent};
-ghost use Rattle.edges.specs.Order.{Placed, events_in, Ordered};
+ghost use Rattle.edges.specs.Order.{Placed, Storable, events_in, Ordered};
 ghost use Rattle.edges.specs.declared.event.EdgeEvent.{EdgeEvent};
 
 use crate::event::{EdgeEvent, ParamEdge};
+use crate::side::{Side, side_of};
 use float::consts::EPS;
 use float::order::total_cmp;
 use float::sign::abs;
@@ -16,21 +16,21 @@ use std::marker::Model;
 // As many as a leg can have: its ends, 256 lines of each axis and 509 diagonals.
 const ROOM: usize = 1023;
 
-// Events in order. Each stays in `list` where it was put; `order` has the places of `list`, each once,
-// first those of the events. Where a leg crosses all lines this takes 111 µs, a list in order 430.
+// Events in order, their lambdas in one list and their sides in another: a list of `EdgeEvent` would take 32 KB of
+// stack, and a trace is promised to need 14.
 #[derive(Drop)]
 pub struct Events {
-    list: [EdgeEvent; ROOM],
-    order: [u16; ROOM],
+    lambdas: [f64; ROOM],
+    sides: [Side; ROOM],
     count: usize,
 }
 
 impl Model for Events {
     ghost Value = { List EdgeEvent };
 
-    ghost view = { λ s. events_in s.list s.order s.count };
+    ghost view = { λ s. events_in s.lambdas s.sides s.count };
 
-    ghost invariant = { λ s. Ordered s.list s.order s.count };
+    ghost invariant = { λ s. Ordered s.lambdas s.sides s.count };
 }
 
 // Whether x comes before y in the total order, in which -0.0 comes before 0.0.
@@ -40,31 +40,28 @@ fn precedes(x: f64, y: f64) -> bool
     total_cmp(x, y).is_lt()
 }
 
-// Whether an event at `lambda` goes behind the one at a place of a list. No order has a place outside
-// of its list, but a search asks for an answer for each.
-fn goes_behind(list: &[EdgeEvent], place: u16, lambda: f64) -> bool
-    ensures { result ≡ option_map_or (λ other. not (precedes (total_order lambda other.lambda)))
-        (slice_get list.now place) true }
+// Puts x at a place among the first `count` of a list, and moves up what stands there and after.
+fn put_at<T: Copy>(list: &mut [T], count: usize, place: usize, x: T)
+    requires { (place ≤ count) × (count < length list.old) }
+    ensures long { length list.new ≡ length list.old }
+    ensures put { take (count + 1) list.new ≡ put_at place x (take count list.old) }
 {
-    list.get(place as usize)
-        .is_none_or(|other| !precedes(lambda, other.lambda))
+    list[count] = x;
+    list[place..=count].rotate_right(1);
 }
 
 impl Events {
     pub fn new() -> Events
         ensures { result ≡ [] }
     {
-        let none = EdgeEvent {
-            lambda: 0.0,
-            edge: ParamEdge::U(0),
-        };
         Events {
-            list: [none; ROOM],
-            order: std::array::from_fn(|place| place as u16),
+            lambdas: [0.0; ROOM],
+            sides: [Side::U(0); ROOM],
             count: 0,
         }
     }
 
+    #[tactic(auto, using(crate::proofs::Places::events_length))]
     pub fn len(&self) -> usize
         ensures { result ≡ length self.now }
     {
@@ -76,8 +73,10 @@ impl Events {
         requires { i < length self.now }
         ensures { slice_get self.now i ≡ Some result }
     {
-        let place = self.order[..self.count][i];
-        self.list[place as usize]
+        EdgeEvent {
+            lambda: self.lambdas[..self.count][i],
+            edge: ParamEdge::from(self.sides[i]),
+        }
     }
 
     // The lambda of event i, or 1 past the last.
@@ -105,29 +104,27 @@ impl Events {
         requires { Placed event }
         ensures { (result ≤ length self.now) × (put_at result event self.now ≡ insert event self.now) }
     {
-        let list = &self.list[..];
-        let order = &self.order[..self.count];
-        if order
+        let lambdas = &self.lambdas[..self.count];
+        if lambdas
             .last()
-            .is_none_or(|place| goes_behind(list, *place, event.lambda))
+            .is_none_or(|other| !precedes(event.lambda, *other))
         {
-            order.len()
+            lambdas.len()
         } else {
-            order.partition_point(|place| goes_behind(list, *place, event.lambda))
+            lambdas.partition_point(|other| !precedes(event.lambda, *other))
         }
     }
 
-    // Writes an event at the first free place, and turns that place to where the event goes.
+    // Puts an event in its place.
     #[inline(never)]
     fn insert(&mut self, event: EdgeEvent)
         requires room { length self.old < 1023 }
-        requires lambda { Placed event }
+        requires storable { Storable event }
         ensures { self.new ≡ insert event self.old }
     {
         let place = self.place_of(event);
-        let free = self.order[self.count];
-        self.list[free as usize] = event;
-        self.order[place..=self.count].rotate_right(1);
+        put_at(&mut self.lambdas, self.count, place, event.lambda);
+        put_at(&mut self.sides, self.count, place, side_of(event.edge));
         self.count += 1;
     }
 
@@ -136,7 +133,7 @@ impl Events {
     #[inline(always)]
     pub fn push(&mut self, candidate: Option<EdgeEvent>)
         requires room { length self.old < 1023 }
-        requires lambda { IfEvent Placed candidate }
+        requires storable { IfEvent Storable candidate }
         ensures { self.new ≡ pushed candidate self.old }
     {
         if let Some(event) = candidate {
@@ -149,15 +146,16 @@ impl Events {
         ensures { self.new ≡ unique self.old }
     {
         let found = std::mem::take(&mut self.count);
-        let mut last: Option<EdgeEvent> = None;
+        let mut last: Option<f64> = None;
         for i in 0..found {
-            let event = self.list[self.order[i] as usize];
-            if last.is_some_and(|kept| abs(kept.lambda - event.lambda) < EPS) {
+            let lambda = self.lambdas[i];
+            if last.is_some_and(|kept| abs(kept - lambda) < EPS) {
                 continue;
             }
-            self.order.swap(self.count, i);
+            self.lambdas[self.count] = lambda;
+            self.sides[self.count] = self.sides[i];
             self.count += 1;
-            last = Some(event);
+            last = Some(lambda);
         }
     }
 }

@@ -5,4 +5,5 @@ pub mod cell;
 pub mod event;
 pub mod events;
 pub mod point;
+mod side;
 pub mod sorted;

@@ -14,7 +14,8 @@ use param::{Axis, Cells, Leg};
 
 // The two ends.
 fn push_ends(events: &mut Events, cells: Cells, leg: Leg)
-    requires { length events.old + 2 ≤ 1023 }
+    requires few { (cells.m ≤ 255) × (cells.n ≤ 255) }
+    requires room { length events.old + 2 ≤ 1023 }
     ensures { events.new ≡ sort_into (ends cells leg) events.old }
 {
     events.push(end_candidate(0.0, edge_at_point(cells, leg.a)));
@@ -23,7 +24,8 @@ fn push_ends(events: &mut Events, cells: Cells, leg: Leg)
 
 // The lines of an axis.
 fn push_lines(events: &mut Events, axis: Axis, cells: Cells, leg: Leg)
-    requires { length events.old + (steps_on axis cells + 1) ≤ 1023 }
+    requires few { (cells.m ≤ 255) × (cells.n ≤ 255) }
+    requires room { length events.old + (steps_on axis cells + 1) ≤ 1023 }
     ensures { events.new ≡ sort_into (lines axis cells leg) events.old }
 {
     if EPS < abs(leg.b.along(axis) - leg.a.along(axis)) {

@@ -4,7 +4,7 @@ use mathlib.Core.Path.{◌≡◌, sym, ◌∙◌}
 use lib.Ieee.{lt}
 use Rattle.float.specs.Consts.{eps}
 use Rattle.edges.specs.Events.{change_of_sum, changes}
-use Rattle.edges.proofs.Placed.{diagonal_placed}
+use Rattle.edges.proofs.Storable.{diagonal_storable}
 use Rattle.edges.proofs.Gather.{gather_turn, gather_ends, diagonals_none, diagonals_start}
 use borrow.Author.Rules.{rules}
 use Rattle.edges.proofs.sorted.push_diagonals.Goals as goal
@@ -27,9 +27,10 @@ loop-sum-init c =
           c.first_sum-sum.ensures c.past_sum-sum-end.ensures;
     }
 
-pub push-requires-clause-lambda : goal.push-requires-clause-lambda
-push-requires-clause-lambda c =
-    rw c.diagonal_candidate.ensures (diagonal_placed c.args.cells c.args.leg c.loop-sum.sum)
+pub push-requires-clause-storable : goal.push-requires-clause-storable
+push-requires-clause-storable c =
+    rw c.diagonal_candidate.ensures
+    (diagonal_storable c.args.cells c.requires.few.0 c.requires.few.1 c.args.leg c.loop-sum.sum)
 
 pub loop-sum-preserved : goal.loop-sum-preserved
 loop-sum-preserved c =

@@ -4,7 +4,7 @@ use mathlib.Core.Path.{◌≡◌, sym, ◌∙◌}
 use lib.Ieee.{lt}
 use Rattle.float.specs.Consts.{eps}
 use Rattle.edges.specs.Events.{change, changes}
-use Rattle.edges.proofs.Placed.{line_placed}
+use Rattle.edges.proofs.Storable.{line_storable}
 use Rattle.edges.proofs.Gather.{gather_turn, gather_ends, lines_none, lines_start}
 use borrow.Author.Rules.{rules}
 use Rattle.edges.proofs.sorted.push_lines.Goals as goal
@@ -27,9 +27,11 @@ loop-step-init c =
           (sym (test (goal.at.loop-step-init c).After-abs) ∙ c.if-abs.true) c.steps_on-step-end.ensures;
     }
 
-pub push-requires-clause-lambda : goal.push-requires-clause-lambda
-push-requires-clause-lambda c =
-    let a = c.args in rw c.line_candidate.ensures (line_placed a.axis a.cells a.leg c.loop-step.step)
+pub push-requires-clause-storable : goal.push-requires-clause-storable
+push-requires-clause-storable c =
+    let a = c.args in
+    rw c.line_candidate.ensures
+    (line_storable a.cells c.requires.few.0 c.requires.few.1 a.leg a.axis c.loop-step.step (search rules))
 
 pub loop-step-preserved : goal.loop-step-preserved
 loop-step-preserved c =

@@ -15,14 +15,14 @@ use Rattle.edges.proofs.sorted.sorted_edge_events.Goals.{After-push_ends}
 few_ends : (c : After-push_ends) → length c.push_ends.new.events ≤ 2
 few_ends c = ends_grow c.args.cells c.args.leg [] (rw c.clear.ensures at c.push_ends.ensures)
 
-pub push_lines-requires : goal.push_lines-requires
-push_lines-requires c = omega (arith, few_ends (goal.at.push_lines-requires c).After-push_ends)
+pub push_lines-requires-clause-room : goal.push_lines-requires-clause-room
+push_lines-requires-clause-room c = omega (arith, few_ends (goal.at.push_lines-requires-clause-room c).After-push_ends)
 
-pub push_lines-requires-2 : goal.push_lines-requires-2
-push_lines-requires-2 c =
+pub push_lines-requires-2-clause-room : goal.push_lines-requires-2-clause-room
+push_lines-requires-2-clause-room c =
     omega (
       arith,
-      few_ends (goal.at.push_lines-requires-2 c).After-push_ends,
+      few_ends (goal.at.push_lines-requires-2-clause-room c).After-push_ends,
       lines_grow AxisU c.args.cells c.args.leg c.push_ends.new.events c.push_lines.ensures,
     )
 

@@ -1,9 +1,10 @@
 -- `edges::events::Events::unique` meets its contract: at each turn what is kept, with what is left from i on, makes the
 -- answer.
 use Rattle.std.proofs.Common.{rules, ◌≡◌, ◌∙◌, sym, ap, get_or}
+use lib.Ieee.{nan}
 use Rattle.float.specs.Consts.{eps}
+use Rattle.edges.specs.declared.side.Side.TheVariants as side
 use Rattle.edges.specs.Events.{unique}
-use Rattle.edges.specs.Order.{event_at}
 use Rattle.edges.proofs.Kept.{drops, drops_says, keeping_starts, keeping_dropped, keeping_kept, keeping_ends}
 use Rattle.edges.proofs.Kept.{keeping_ordered}
 use Rattle.edges.proofs.events.Events.unique.Goals as goal
@@ -14,22 +15,21 @@ loop-i-init c = let taken = c.take-found.ensures in rw (taken.value, taken.after
 
 -- what the test says of the event at i
 test : (c : After-is_some_and) → let l = c.loop-i in
-    c.is_some_and.result ≡ drops (event_at l.self-inside.list (get_or l.self-inside.order l.i 0)) l.last
+    c.is_some_and.result ≡ drops (get_or l.self-inside.lambdas l.i nan) l.last
 unfolding eps
 test c =
-    let s = c.loop-i.self-inside in
-    drops_says c.loop-i.last (event_at s.list (get_or s.order c.loop-i.i 0)) _ c.is_some_and.ensures
-    (λ e k. search rules)
+    drops_says c.loop-i.last (get_or c.loop-i.self-inside.lambdas c.loop-i.i nan) _ c.is_some_and.ensures
+    (λ l k. search rules)
 
 pub loop-i-preserved-then-is_some_and : goal.loop-i-preserved-then-is_some_and
 loop-i-preserved-then-is_some_and c =
-    keeping_dropped c.loop-i.invariant c.loop-i-test.true
+    keeping_dropped c.loop-i.invariant nan (side.U 0) c.loop-i-test.true
     (sym (test (goal.at.loop-i-preserved-then-is_some_and c).After-is_some_and) ∙ c.if-is_some_and.true)
 
 pub loop-i-preserved : goal.loop-i-preserved
 loop-i-preserved c =
-    keeping_kept c.loop-i.invariant c.swap.new.self (c.swap.ensures.by_index.3 0) c.swap.ensures.permutation
-    c.loop-i-test.true (sym (test (goal.at.loop-i-preserved c).After-is_some_and) ∙ c.if-is_some_and.false)
+    keeping_kept c.loop-i.invariant nan (side.U 0) c.loop-i-test.true
+    (sym (test (goal.at.loop-i-preserved c).After-is_some_and) ∙ c.if-is_some_and.false)
 
 pub invariant_of-self : goal.invariant_of-self
 invariant_of-self c =

@@ -5,5 +5,5 @@ use Rattle.edges.proofs.events.Events.unique.Given as goal
 abbrev pub invariant-loop-i : goal.invariant-loop-i
 invariant-loop-i l =
     let s = l.initial.self-inside in
-    Keeping (events_in s.list s.order l.found) l.self-inside.list l.self-inside.order l.found l.self-inside.count l.i
-    l.last
+    let now = l.self-inside in
+    Keeping (events_in s.lambdas s.sides l.found) now.lambdas now.sides l.found now.count l.i l.last
