@@ -12,7 +12,6 @@ use lib.ListN.{length, take, drop, get_or, set, length-set, drop_of_length-le}
 use lib.Seq.{drop-cons, take-suc-set, take-set-lt, drop-set-lt}
 use lib.Ieee.{Float}
 use Rattle.edges.specs.declared.event.EdgeEvent.{EdgeEvent}
-use Rattle.edges.specs.declared.side.Side.{Side}
 use Rattle.edges.specs.Events.{close_by, unique_after, unique}
 use Rattle.edges.specs.Order.{Sorted, event_of, held, events_in, Ordered}
 use Rattle.edges.proofs.Places.{held_length, held_set, in_length, event_in}
@@ -46,61 +45,61 @@ none_left (Some l) = refl
 
 -- of the first `found` events, those before i are looked at, and `kept` of them kept, the last at `last`; with what it
 -- makes of the others they are the answer for es
-pub record Keeping (es : List EdgeEvent) (ls : List Float) (ss : List Side) (found kept i : ℕ)
+pub record Keeping (es : List EdgeEvent) (ls : List Float) (cs : List ℕ) (found kept i : ℕ)
     (last : Option Float) : Type 0 where
   pub behind : kept ≤ i
   pub to : i ≤ found
   pub few : found ≤ 1023
   pub lambdas_length : length ls ≡ 1023
-  pub sides_length : length ss ≡ 1023
-  pub answer : unique es ≡ events_in ls ss kept ++ left_by last (drop i (events_in ls ss found))
+  pub codes_length : length cs ≡ 1023
+  pub answer : unique es ≡ events_in ls cs kept ++ left_by last (drop i (events_in ls cs found))
 
-pub keeping_starts : {ls : List Float} {ss : List Side} {found : ℕ} → Ordered ls ss found →
-    Keeping (events_in ls ss found) ls ss found 0 0 None
+pub keeping_starts : {ls : List Float} {cs : List ℕ} {found : ℕ} → Ordered ls cs found →
+    Keeping (events_in ls cs found) ls cs found 0 0 None
 keeping_starts o =
     record {
       behind = omega arith;
       to = omega arith;
       few = o.few;
       lambdas_length = o.lambdas_length;
-      sides_length = o.sides_length;
+      codes_length = o.codes_length;
       answer = refl;
     }
 
-module _ {es : List EdgeEvent} {ls : List Float} {ss : List Side} {found kept i : ℕ} {last : Option Float}
-    (m : Keeping es ls ss found kept i last) where
-  as_long : length ls ≡ length ss
-  as_long = omega (arith, m.lambdas_length, m.sides_length)
+module _ {es : List EdgeEvent} {ls : List Float} {cs : List ℕ} {found kept i : ℕ} {last : Option Float}
+    (m : Keeping es ls cs found kept i last) where
+  as_long : length ls ≡ length cs
+  as_long = omega (arith, m.lambdas_length, m.codes_length)
 
   room : found ≤ length ls
   room = omega (arith, m.few, m.lambdas_length)
 
-  module _ (f : Float) (z : Side) where
+  module _ (f : Float) (z : ℕ) where
     abbrev here : EdgeEvent
-    here = event_of (get_or ls i f) (get_or ss i z)
+    here = event_of (get_or ls i f) (get_or cs i z)
 
-    next : i < found → drop i (events_in ls ss found) ≡ here ∷ drop (i + 1) (events_in ls ss found)
+    next : i < found → drop i (events_in ls cs found) ≡ here ∷ drop (i + 1) (events_in ls cs found)
     next h =
-        let n : i < length (events_in ls ss found) = omega (arith, in_length ls ss found as_long room) in
-        rw (add-one, drop-cons (events_in ls ss found) i here n, event_in ls ss found as_long room i here f z h)
+        let n : i < length (events_in ls cs found) = omega (arith, in_length ls cs found as_long room) in
+        rw (add-one, drop-cons (events_in ls cs found) i here n, event_in ls cs found as_long room i here f z h)
 
-    pub keeping_dropped : i < found → drops (get_or ls i f) last ≡ true → Keeping es ls ss found kept (i + 1) last
+    pub keeping_dropped : i < found → drops (get_or ls i f) last ≡ true → Keeping es ls cs found kept (i + 1) last
     keeping_dropped h t =
         record {
           behind = omega (arith, m.behind);
           to = omega arith;
           few = m.few;
           lambdas_length = m.lambdas_length;
-          sides_length = m.sides_length;
+          codes_length = m.codes_length;
           answer = rw (m.answer, next h, next_left last here, t);
         }
 
     pub keeping_kept : i < found → drops (get_or ls i f) last ≡ false →
-        Keeping es (set ls kept (get_or ls i f)) (set ss kept (get_or ss i z)) found (kept + 1) (i + 1)
+        Keeping es (set ls kept (get_or ls i f)) (set cs kept (get_or cs i z)) found (kept + 1) (i + 1)
         (Some (get_or ls i f))
     keeping_kept h t =
-        let r = held ls ss in
-        let k : kept < length r = omega (arith, m.behind, held_length ls ss as_long, room) in
+        let r = held ls cs in
+        let k : kept < length r = omega (arith, m.behind, held_length ls cs as_long, room) in
         let rest : drop (i + 1) (take found (set r kept here)) ≡ drop (i + 1) (take found r) =
         rw (
           take-set-lt found r kept here (omega (arith, m.behind)),
@@ -111,14 +110,14 @@ module _ {es : List EdgeEvent} {ls : List Float} {ss : List Side} {found kept i 
           to = omega arith;
           few = m.few;
           lambdas_length = length-set ls kept (get_or ls i f) ∙ m.lambdas_length;
-          sides_length = length-set ss kept (get_or ss i z) ∙ m.sides_length;
+          codes_length = length-set cs kept (get_or cs i z) ∙ m.codes_length;
           answer =
               rw (
                 m.answer,
                 next h,
                 next_left last here,
                 t,
-                held_set ls ss kept (get_or ls i f) (get_or ss i z) as_long,
+                held_set ls cs kept (get_or ls i f) (get_or cs i z) as_long,
                 rest,
                 add-one kept,
                 take-suc-set r kept here k,
@@ -126,16 +125,16 @@ module _ {es : List EdgeEvent} {ls : List Float} {ss : List Side} {found kept i 
               );
         }
 
-  pub keeping_ends : found ≤ i → events_in ls ss kept ≡ unique es
+  pub keeping_ends : found ≤ i → events_in ls cs kept ≡ unique es
   keeping_ends h =
-      let past : length (events_in ls ss found) ≤ i = omega (arith, in_length ls ss found as_long room) in
-      rw (m.answer, drop_of_length-le (events_in ls ss found) past, none_left last, append-nil)
+      let past : length (events_in ls cs found) ≤ i = omega (arith, in_length ls cs found as_long room) in
+      rw (m.answer, drop_of_length-le (events_in ls cs found) past, none_left last, append-nil)
 
-  pub keeping_ordered : found ≤ i → Sorted es → Ordered ls ss kept
+  pub keeping_ordered : found ≤ i → Sorted es → Ordered ls cs kept
   keeping_ordered h s =
       record {
         lambdas_length = m.lambdas_length;
-        sides_length = m.sides_length;
+        codes_length = m.codes_length;
         few = omega (arith, m.behind, m.to, m.few);
         sorted = rw (keeping_ends h) (unique_sorted es s);
       }

@@ -1,6 +1,6 @@
 -- Events as one list: a value put at a place of both lists is an event put there, and a store to both is a store of an
 -- event. And the place of an event, by what the last lambda and a search by halves say.
-use Rattle.std.proofs.Common.{◌≡◌, ℕ, zero, suc, ◌+◌, ◌-◌, ◌<◌, ◌≤◌, Bool, true, false, not, Option, Some, None}
+use Rattle.std.proofs.Common.{◌≡◌, ℕ, zero, suc, ◌+◌, ◌-◌, ◌*◌, ◌/◌, ◌%◌, ◌<◌, ◌≤◌, Bool, true, false, not, Option, Some, None}
 use Rattle.std.proofs.Common.{List, [], ◌∷◌, ◌++◌, length, take, drop, get_or, slice_get, Bor}
 use Rattle.std.proofs.Common.{arith, refl, ap, sym, ◌∙◌, length-append, length-drop}
 use lib.Ieee.{Float, nan}
@@ -11,15 +11,15 @@ use Rattle.std.proofs.Math.ListN.{set, length-set}
 use Rattle.std.proofs.Math.Seq.{take-set-le, take-take, length-take-le, take-append_seam, drop-append_seam}
 use Rattle.std.proofs.lemmas.List.{drop-append-le, get_or-set_same, take_more, get_or-take}
 use Rattle.std.proofs.lemmas.Slice.{take-put_mid, between_is}
-use borrow.Author.Tests.{not-true, not-false}
+use borrow.Author.Tests.{lt-ltb, le-ltb, not-true, not-false}
 use borrow.Rule.Slice.PartMut.{mid_of, put_mid}
 use Rattle.basics.specs.Lists.{put_at}
 use Rattle.float.specs.Order.{total_order}
 use Rattle.edges.specs.declared.event.EdgeEvent.{EdgeEvent}
-use Rattle.edges.specs.declared.side.Side.{Side}
-use Rattle.edges.specs.declared.side.Side.TheVariants as side
+use Rattle.edges.specs.declared.event.ParamEdge.{ParamEdge}
+use Rattle.edges.specs.declared.event.ParamEdge.TheVariants.{U, «V», Diagonal}
 use Rattle.edges.specs.Events.{precedes, insert}
-use Rattle.edges.specs.Side.{edge_of}
+use Rattle.edges.specs.Side.{Codable, code_of, edge_of}
 use Rattle.edges.specs.Order.{Placed, event_of, held, events_in, Ordered}
 use Rattle.edges.proofs.Order.{sorted_insert, behind, parted, placed}
 use Rattle.std.proofs.lemmas.Option.{slice_get-get_or}
@@ -65,98 +65,114 @@ put_turned xs count place x ys h room e =
     )
 
 -- ---- the two lists as one
-pub held_length : (ls : List Float) (ss : List Side) → length ls ≡ length ss → length (held ls ss) ≡ length ls
+pub held_length : (ls : List Float) (cs : List ℕ) → length ls ≡ length cs → length (held ls cs) ≡ length ls
 unfolding held
-held_length [] ss e = refl
+held_length [] cs e = refl
 held_length (l ∷ ls) [] e = absurd (omega arith)
-held_length (l ∷ ls) (s ∷ ss) e = ap suc (held_length ls ss (omega arith))
+held_length (l ∷ ls) (c ∷ cs) e = ap suc (held_length ls cs (omega arith))
 
-pub held_set : (ls : List Float) (ss : List Side) (i : ℕ) (x : Float) (y : Side) → length ls ≡ length ss →
-    held (set ls i x) (set ss i y) ≡ set (held ls ss) i (event_of x y)
+pub held_set : (ls : List Float) (cs : List ℕ) (i : ℕ) (x : Float) (y : ℕ) → length ls ≡ length cs →
+    held (set ls i x) (set cs i y) ≡ set (held ls cs) i (event_of x y)
 unfolding held
 held_set [] [] i x y e = refl
-held_set [] (s ∷ ss) i x y e = absurd (omega arith)
+held_set [] (c ∷ cs) i x y e = absurd (omega arith)
 held_set (l ∷ ls) [] i x y e = absurd (omega arith)
-held_set (l ∷ ls) (s ∷ ss) zero x y e = refl
-held_set (l ∷ ls) (s ∷ ss) (suc i) x y e = rw (held_set ls ss i x y (omega arith))
+held_set (l ∷ ls) (c ∷ cs) zero x y e = refl
+held_set (l ∷ ls) (c ∷ cs) (suc i) x y e = rw (held_set ls cs i x y (omega arith))
 
-held_at : (ls : List Float) (ss : List Side) (i : ℕ) (d : EdgeEvent) (f : Float) (z : Side) → length ls ≡ length ss →
-    i < length ls → get_or (held ls ss) i d ≡ event_of (get_or ls i f) (get_or ss i z)
+held_at : (ls : List Float) (cs : List ℕ) (i : ℕ) (d : EdgeEvent) (f : Float) (z : ℕ) → length ls ≡ length cs →
+    i < length ls → get_or (held ls cs) i d ≡ event_of (get_or ls i f) (get_or cs i z)
 unfolding held
-held_at [] ss i d f z e h = absurd (omega arith)
+held_at [] cs i d f z e h = absurd (omega arith)
 held_at (l ∷ ls) [] i d f z e h = absurd (omega arith)
-held_at (l ∷ ls) (s ∷ ss) zero d f z e h = refl
-held_at (l ∷ ls) (s ∷ ss) (suc i) d f z e h = held_at ls ss i d f z (omega arith) (omega arith)
+held_at (l ∷ ls) (c ∷ cs) zero d f z e h = refl
+held_at (l ∷ ls) (c ∷ cs) (suc i) d f z e h = held_at ls cs i d f z (omega arith) (omega arith)
 
-held_put : (p : ℕ) (x : Float) (y : Side) (ls : List Float) (ss : List Side) → length ls ≡ length ss →
-    held (put_at p x ls) (put_at p y ss) ≡ put_at p (event_of x y) (held ls ss)
+held_put : (p : ℕ) (x : Float) (y : ℕ) (ls : List Float) (cs : List ℕ) → length ls ≡ length cs →
+    held (put_at p x ls) (put_at p y cs) ≡ put_at p (event_of x y) (held ls cs)
 unfolding held
-held_put zero x y ls ss e = refl
+held_put zero x y ls cs e = refl
 held_put (suc p) x y [] [] e = refl
-held_put (suc p) x y [] (s ∷ ss) e = absurd (omega arith)
+held_put (suc p) x y [] (c ∷ cs) e = absurd (omega arith)
 held_put (suc p) x y (l ∷ ls) [] e = absurd (omega arith)
-held_put (suc p) x y (l ∷ ls) (s ∷ ss) e = rw (held_put p x y ls ss (omega arith))
+held_put (suc p) x y (l ∷ ls) (c ∷ cs) e = rw (held_put p x y ls cs (omega arith))
 
-held_take : (n : ℕ) (ls : List Float) (ss : List Side) → take n (held ls ss) ≡ held (take n ls) (take n ss)
+held_take : (n : ℕ) (ls : List Float) (cs : List ℕ) → take n (held ls cs) ≡ held (take n ls) (take n cs)
 unfolding held
-held_take zero ls ss = refl
-held_take (suc n) [] ss = refl
+held_take zero ls cs = refl
+held_take (suc n) [] cs = refl
 held_take (suc n) (l ∷ ls) [] = refl
-held_take (suc n) (l ∷ ls) (s ∷ ss) = rw (held_take n ls ss)
+held_take (suc n) (l ∷ ls) (c ∷ cs) = rw (held_take n ls cs)
 
-pub events_put : (ls : List Float) (ss : List Side) (n p : ℕ) (x : Float) (y : Side) (ms : List Float) (ts : List Side) →
-    length ls ≡ length ss → n ≤ length ls →
-    take (n + 1) ms ≡ put_at p x (take n ls) → take (n + 1) ts ≡ put_at p y (take n ss) →
-    events_in ms ts (n + 1) ≡ put_at p (event_of x y) (events_in ls ss n)
-events_put ls ss n p x y ms ts e h q r =
-    rw (held_take (n + 1) ms ts, q, r, held_take n ls ss)
-    (held_put p x y (take n ls) (take n ss) (length-take-le n ls h ∙ sym (length-take-le n ss (omega arith))))
+pub events_put : (ls : List Float) (cs : List ℕ) (n p : ℕ) (x : Float) (y : ℕ) (ms : List Float) (ds : List ℕ) →
+    length ls ≡ length cs → n ≤ length ls →
+    take (n + 1) ms ≡ put_at p x (take n ls) → take (n + 1) ds ≡ put_at p y (take n cs) →
+    events_in ms ds (n + 1) ≡ put_at p (event_of x y) (events_in ls cs n)
+events_put ls cs n p x y ms ds e h q r =
+    rw (held_take (n + 1) ms ds, q, r, held_take n ls cs)
+    (held_put p x y (take n ls) (take n cs) (length-take-le n ls h ∙ sym (length-take-le n cs (omega arith))))
 
-module _ (ls : List Float) (ss : List Side) (count : ℕ) (e : length ls ≡ length ss) (h : count ≤ length ls) where
-  pub in_length : length (events_in ls ss count) ≡ count
-  in_length = length-take-le count (held ls ss) (omega (arith, held_length ls ss e))
+module _ (ls : List Float) (cs : List ℕ) (count : ℕ) (e : length ls ≡ length cs) (h : count ≤ length ls) where
+  pub in_length : length (events_in ls cs count) ≡ count
+  in_length = length-take-le count (held ls cs) (omega (arith, held_length ls cs e))
 
   -- the event at i
-  pub event_in : (i : ℕ) (d : EdgeEvent) (f : Float) (z : Side) → i < count →
-      get_or (events_in ls ss count) i d ≡ event_of (get_or ls i f) (get_or ss i z)
-  event_in i d f z k = get_or-take count (held ls ss) i d k ∙ held_at ls ss i d f z e (omega arith)
+  pub event_in : (i : ℕ) (d : EdgeEvent) (f : Float) (z : ℕ) → i < count →
+      get_or (events_in ls cs count) i d ≡ event_of (get_or ls i f) (get_or cs i z)
+  event_in i d f z k = get_or-take count (held ls cs) i d k ∙ held_at ls cs i d f z e (omega arith)
 
-pub events_length : {ls : List Float} {ss : List Side} {count : ℕ} → Ordered ls ss count →
-    length (events_in ls ss count) ≡ count
-events_length {ls} {ss} {count} o =
-    in_length ls ss count (omega (arith, o.lambdas_length, o.sides_length)) (omega (arith, o.few, o.lambdas_length))
+pub events_length : {ls : List Float} {cs : List ℕ} {count : ℕ} → Ordered ls cs count →
+    length (events_in ls cs count) ≡ count
+events_length {ls} {cs} {count} o =
+    in_length ls cs count (omega (arith, o.lambdas_length, o.codes_length)) (omega (arith, o.few, o.lambdas_length))
 
 -- what is read of both lists at i
-pub read_event : {ls : List Float} {ss : List Side} {count : ℕ} → Ordered ls ss count → (i : ℕ) (f : Float) (z : Side) →
-    i < length (events_in ls ss count) → slice_get (events_in ls ss count) i ≡ Some (event_of (get_or (take count ls) i f) (get_or ss i z))
-read_event {ls} {ss} {count} o i f z h =
-    let e : length ls ≡ length ss = omega (arith, o.lambdas_length, o.sides_length) in
+pub read_event : {ls : List Float} {cs : List ℕ} {count : ℕ} → Ordered ls cs count → (i : ℕ) (f : Float) (z : ℕ) →
+    i < length (events_in ls cs count) → slice_get (events_in ls cs count) i ≡ Some (event_of (get_or (take count ls) i f) (get_or cs i z))
+read_event {ls} {cs} {count} o i f z h =
+    let e : length ls ≡ length cs = omega (arith, o.lambdas_length, o.codes_length) in
     let n : count ≤ length ls = omega (arith, o.few, o.lambdas_length) in
-    let d = event_of (get_or ls i f) (get_or ss i z) in
+    let d = event_of (get_or ls i f) (get_or cs i z) in
     let k : i < count = omega (arith, events_length o) in
     rw (get_or-take count ls i f k)
-    (slice_get-get_or (events_in ls ss count) i d h ∙ ap Some (event_in ls ss count e n i d f z k))
+    (slice_get-get_or (events_in ls cs count) i d h ∙ ap Some (event_in ls cs count e n i d f z k))
 
--- an event put at a place: side s stands for its side
-module _ {ls : List Float} {ss : List Side} {count : ℕ} (o : Ordered ls ss count) (e : EdgeEvent) where
-  pub inserted : (place : ℕ) (ms : List Float) (ts : List Side) (s : Side) → edge_of s ≡ e.edge →
+-- the number of a side says which side it is, since indices are below 256
+pub code_back : (e : ParamEdge) → Codable e → edge_of (code_of e) ≡ e
+unfolding code_of edge_of
+code_back (U u) h = let t : u < 256 = omega arith in simp (lt-ltb u 256 t)
+code_back («V» v) h =
+    let t : 256 ≤ 256 + v = omega arith in
+    let s : 256 + v < 512 = omega arith in
+    let q : 256 + v - 256 ≡ v = omega arith in
+    simp (le-ltb (256 + v) 256 t, lt-ltb (256 + v) 512 s, q)
+code_back (Diagonal u v) h =
+    let t : 256 ≤ 512 + 256 * u + v = omega arith in
+    let s : 512 ≤ 512 + 256 * u + v = omega arith in
+    let q : (512 + 256 * u + v - 512) / 256 ≡ u = omega arith in
+    let r : (512 + 256 * u + v - 512) % 256 ≡ v = omega arith in
+    simp (le-ltb (512 + 256 * u + v) 256 t, le-ltb (512 + 256 * u + v) 512 s, q, r)
+
+-- an event put at a place
+module _ {ls : List Float} {cs : List ℕ} {count : ℕ} (o : Ordered ls cs count) (e : EdgeEvent) where
+  pub inserted : (place : ℕ) (ms : List Float) (ds : List ℕ) (c : ℕ) → c ≡ code_of e.edge → Codable e.edge →
       take (count + 1) ms ≡ put_at place e.lambda (take count ls) →
-      take (count + 1) ts ≡ put_at place s (take count ss) →
-      events_in ms ts (count + 1) ≡ put_at place e (events_in ls ss count)
-  inserted place ms ts s q h k =
-      let same : event_of e.lambda s ≡ e = rw q refl in
-      events_put ls ss count place e.lambda s ms ts (omega (arith, o.lambdas_length, o.sides_length))
+      take (count + 1) ds ≡ put_at place c (take count cs) →
+      events_in ms ds (count + 1) ≡ put_at place e (events_in ls cs count)
+  inserted place ms ds c q f h k =
+      let same : event_of e.lambda c ≡ e = rw (q, code_back e.edge f) refl in
+      events_put ls cs count place e.lambda c ms ds (omega (arith, o.lambdas_length, o.codes_length))
       (omega (arith, o.few, o.lambdas_length)) h k
-      ∙ ap (λ (x : EdgeEvent). put_at place x (events_in ls ss count)) same
+      ∙ ap (λ (x : EdgeEvent). put_at place x (events_in ls cs count)) same
 
-  pub ordered : (ms : List Float) (ts : List Side) → length ms ≡ 1023 → length ts ≡ 1023 → count < 1023 → Placed e →
-      events_in ms ts (count + 1) ≡ insert e (events_in ls ss count) → Ordered ms ts (count + 1)
-  ordered ms ts l m h n i =
+  pub ordered : (ms : List Float) (ds : List ℕ) → length ms ≡ 1023 → length ds ≡ 1023 → count < 1023 → Placed e →
+      events_in ms ds (count + 1) ≡ insert e (events_in ls cs count) → Ordered ms ds (count + 1)
+  ordered ms ds l m h n i =
       record {
         lambdas_length = l;
-        sides_length = m;
+        codes_length = m;
         few = omega arith;
-        sorted = sorted_insert e (events_in ls ss count) n o.sorted i;
+        sorted = sorted_insert e (events_in ls cs count) n o.sorted i;
       }
 
 -- ---- the last of a list, if there is one, and what a test says of it
@@ -171,12 +187,12 @@ last_says xs test None P e m h = rw (← e) m
 last_says xs test (Some x) P e m h = rw (← e) (h x m)
 
 -- ---- the place of an event, as the code tests for it: behind those that it does not precede
-module _ {ls : List Float} {ss : List Side} {count : ℕ} (o : Ordered ls ss count) (e : EdgeEvent) (n : Placed e) where
+module _ {ls : List Float} {cs : List ℕ} {count : ℕ} (o : Ordered ls cs count) (e : EdgeEvent) (n : Placed e) where
   abbrev found : List Float
   found = take count ls
 
   abbrev es : List EdgeEvent
-  es = events_in ls ss count
+  es = events_in ls cs count
 
   -- what is asked of a lambda
   abbrev pub behind_at : Float → Bool
@@ -190,8 +206,8 @@ module _ {ls : List Float} {ss : List Side} {count : ℕ} (o : Ordered ls ss cou
       let k : i < count = omega (arith, in_found) in
       rw (
         get_or-take count ls i d k,
-        event_in ls ss count (omega (arith, o.lambdas_length, o.sides_length)) (omega (arith, o.few, o.lambdas_length))
-            i x d (get_or ss i (side.U 0)) k,
+        event_in ls cs count (omega (arith, o.lambdas_length, o.codes_length)) (omega (arith, o.few, o.lambdas_length))
+            i x d (get_or cs i 0) k,
       )
 
   -- where e goes behind the last, it goes to the end

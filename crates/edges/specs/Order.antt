@@ -1,11 +1,10 @@
 -- For inner contracts only: the events of a leg in order, and where they stand (Rules 6.4). Their lambdas are in one
--- list and their sides in another, each of 1,023 places, and a count says how many there are.
+-- list and the numbers of their sides in another, each of 1,023 places, and a count says how many there are.
 use Rattle.std.specs.Prelude.{false, List, [], ◌∷◌, ◌≡◌, ℕ, ◌≤◌, length, take, Float}
 use Rattle.std.specs.Float.Ieee.{is_nan}
 use Rattle.basics.specs.Lists.{Each}
 use Rattle.float.specs.Order.{total_order}
 use Rattle.edges.specs.declared.event.EdgeEvent.{EdgeEvent}
-use Rattle.edges.specs.declared.side.Side.{Side}
 use Rattle.edges.specs.Events.{event, precedes}
 use Rattle.edges.specs.Side.{Codable, edge_of}
 
@@ -22,7 +21,7 @@ Ascend (e ∷ es) = AscendFrom e.lambda es
 abbrev pub Placed : EdgeEvent → Type 0
 Placed e = is_nan e.lambda ≡ false
 
--- and one that the lists take: its side fits too
+-- and one that the lists take: its side has a number too
 abbrev pub Storable : EdgeEvent → Type 0
 Storable e = Codable e.edge × Placed e
 
@@ -31,22 +30,22 @@ pub record Sorted (es : List EdgeEvent) : Type 0 where
   pub ascend : Ascend es
   pub placed : Each Placed es
 
-abbrev pub event_of : Float → Side → EdgeEvent
-event_of l s = event l (edge_of s)
+abbrev pub event_of : Float → ℕ → EdgeEvent
+event_of l c = event l (edge_of c)
 
 -- the events that two lists hold
-unfoldable pub held : List Float → List Side → List EdgeEvent
-held [] ss = []
+unfoldable pub held : List Float → List ℕ → List EdgeEvent
+held [] cs = []
 held (l ∷ ls) [] = []
-held (l ∷ ls) (s ∷ ss) = event_of l s ∷ held ls ss
+held (l ∷ ls) (c ∷ cs) = event_of l c ∷ held ls cs
 
 -- the first `count` of them
-abbrev pub events_in : List Float → List Side → ℕ → List EdgeEvent
-events_in lambdas sides count = take count (held lambdas sides)
+abbrev pub events_in : List Float → List ℕ → ℕ → List EdgeEvent
+events_in lambdas codes count = take count (held lambdas codes)
 
 -- two lists of 1,023 places, of which the first `count` hold events in order
-pub record Ordered (lambdas : List Float) (sides : List Side) (count : ℕ) : Type 0 where
+pub record Ordered (lambdas : List Float) (codes : List ℕ) (count : ℕ) : Type 0 where
   pub lambdas_length : length lambdas ≡ 1023
-  pub sides_length : length sides ≡ 1023
+  pub codes_length : length codes ≡ 1023
   pub few : count ≤ 1023
-  pub sorted : Sorted (events_in lambdas sides count)
+  pub sorted : Sorted (events_in lambdas codes count)

@@ -6,8 +6,8 @@ ghost use Rattle.edges.specs.Events.{precedes, insert, pushed, unique, next_lamb
 ghost use Rattle.edges.specs.Order.{Placed, Storable, events_in, Ordered};
 ghost use Rattle.edges.specs.declared.event.EdgeEvent.{EdgeEvent};
 
-use crate::event::{EdgeEvent, ParamEdge};
-use crate::side::{Side, side_of};
+use crate::event::EdgeEvent;
+use crate::side::{code_of, edge_of};
 use float::consts::EPS;
 use float::order::total_cmp;
 use float::sign::abs;
@@ -16,21 +16,21 @@ use std::marker::Model;
 // As many as a leg can have: its ends, 256 lines of each axis and 509 diagonals.
 const ROOM: usize = 1023;
 
-// Events in order, their lambdas in one list and their sides in another: a list of `EdgeEvent` would take 32 KB of
-// stack, and a trace is promised to need 14.
+// Events in order, their lambdas in one list and the numbers of their sides in another: a list of `EdgeEvent` would
+// take 32 KB of stack, and a trace is promised to need 14.
 #[derive(Drop)]
 pub struct Events {
     lambdas: [f64; ROOM],
-    sides: [Side; ROOM],
+    codes: [u32; ROOM],
     count: usize,
 }
 
 impl Model for Events {
     ghost Value = { List EdgeEvent };
 
-    ghost view = { λ s. events_in s.lambdas s.sides s.count };
+    ghost view = { λ s. events_in s.lambdas s.codes s.count };
 
-    ghost invariant = { λ s. Ordered s.lambdas s.sides s.count };
+    ghost invariant = { λ s. Ordered s.lambdas s.codes s.count };
 }
 
 // Whether x comes before y in the total order, in which -0.0 comes before 0.0.
@@ -56,7 +56,7 @@ impl Events {
     {
         Events {
             lambdas: [0.0; ROOM],
-            sides: [Side::U(0); ROOM],
+            codes: [0; ROOM],
             count: 0,
         }
     }
@@ -75,7 +75,7 @@ impl Events {
     {
         EdgeEvent {
             lambda: self.lambdas[..self.count][i],
-            edge: ParamEdge::from(self.sides[i]),
+            edge: edge_of(self.codes[i]),
         }
     }
 
@@ -124,7 +124,7 @@ impl Events {
     {
         let place = self.place_of(event);
         put_at(&mut self.lambdas, self.count, place, event.lambda);
-        put_at(&mut self.sides, self.count, place, side_of(event.edge));
+        put_at(&mut self.codes, self.count, place, code_of(event.edge));
         self.count += 1;
     }
 
@@ -153,7 +153,7 @@ impl Events {
                 continue;
             }
             self.lambdas[self.count] = lambda;
-            self.sides[self.count] = self.sides[i];
+            self.codes[self.count] = self.codes[i];
             self.count += 1;
             last = Some(lambda);
         }

@@ -1,40 +1,34 @@
-// A side as a list of events holds it.
+// A side as one number, as a list of events holds it.
 ghost use Rattle.std.specs.Prelude.{◌≡◌};
-ghost use Rattle.edges.specs.Side.{Codable, edge_of};
+ghost use Rattle.edges.specs.Side.{Codable, code_of, edge_of};
 
 use crate::event::ParamEdge;
 
-// A side in three bytes, where `ParamEdge` takes 24: a thread is promised that a trace needs 14 KB of stack, and a list
-// of 1,023 events is most of that. Indices of a grid fit in a byte.
-#[derive(Clone, Copy)]
-pub enum Side {
-    U(u8),
-    V(u8),
-    Diagonal(u8, u8),
-}
-
-// Not `From`, which could ask for no grid.
-pub fn side_of(edge: ParamEdge) -> Side
+// A number and no enum: what stands behind an event moves up at each insertion, and an enum of three bytes takes ten
+// times as long for that. A `ParamEdge` takes 24 bytes, and a trace is promised to need 14 KB of stack.
+#[tactic(auto, unfolding(crate::specs::Side::code_of))]
+pub fn code_of(edge: ParamEdge) -> u32
     requires { Codable edge }
-    ensures { edge_of result ≡ edge }
+    ensures { result ≡ code_of edge }
 {
     match edge {
-        ParamEdge::U(u) => Side::U(u as u8),
-        ParamEdge::V(v) => Side::V(v as u8),
-        ParamEdge::Diagonal(u, v) => Side::Diagonal(u as u8, v as u8),
+        ParamEdge::U(u) => u as u32,
+        ParamEdge::V(v) => 256 + v as u32,
+        ParamEdge::Diagonal(u, v) => 512 + 256 * u as u32 + v as u32,
     }
 }
 
-impl From<Side> for ParamEdge {
-    ghost from_gives = { λ side edge. edge ≡ edge_of side };
-
-    fn from(side: Side) -> ParamEdge
-        ensures { result ≡ edge_of side }
-    {
-        match side {
-            Side::U(u) => ParamEdge::U(u as usize),
-            Side::V(v) => ParamEdge::V(v as usize),
-            Side::Diagonal(u, v) => ParamEdge::Diagonal(u as usize, v as usize),
-        }
+// The side of a number.
+#[tactic(auto, unfolding(crate::specs::Side::edge_of))]
+pub fn edge_of(code: u32) -> ParamEdge
+    ensures { result ≡ edge_of code }
+{
+    if code < 256 {
+        ParamEdge::U(code as usize)
+    } else if code < 512 {
+        ParamEdge::V((code - 256) as usize)
+    } else {
+        let cell = (code - 512) as usize;
+        ParamEdge::Diagonal(cell / 256, cell % 256)
     }
 }

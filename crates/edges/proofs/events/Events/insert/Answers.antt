@@ -1,4 +1,4 @@
--- `edges::events::Events::insert` meets its contract: lambda and side are put at the event's place.
+-- `edges::events::Events::insert` meets its contract: lambda and the number of its side are put at the event's place.
 use Rattle.std.proofs.Common.{◌≡◌, ◌+◌, ◌<◌, ◌≤◌, ◌∙◌, arith}
 use Rattle.edges.specs.Events.{insert}
 use Rattle.edges.specs.Order.{events_in}
@@ -17,7 +17,7 @@ holds : (c : After-put_at-2) → events_in c.put_at.new.list c.put_at-2.new.list
     ≡ insert c.args.event c.args.self.now
 holds c =
     inserted c.self.invariant c.args.event c.place_of-place.result _ _
-    c.side_of.result c.side_of.ensures c.put_at.ensures.put
+    c.code_of.result c.code_of.ensures c.requires.storable.0 c.put_at.ensures.put
     c.put_at-2.ensures.put
     ∙ rw c.self.view_is c.place_of-place.ensures.1
 
@@ -27,14 +27,14 @@ put_at-requires c = let at = (goal.at.put_at-requires c).After-place_of-place in
 
 pub put_at-requires-2 : goal.put_at-requires-2
 put_at-requires-2 c = let at = (goal.at.put_at-requires-2 c).After-place_of-place in
-    (below at, omega (arith, room at, c.self.invariant.sides_length))
+    (below at, omega (arith, room at, c.self.invariant.codes_length))
 
 pub invariant_of-self : goal.invariant_of-self
 invariant_of-self c =
     let o = c.self.invariant in
     let at = goal.at.invariant_of-self c in
     ordered o c.args.event c.put_at.new.list c.put_at-2.new.list (c.put_at.ensures.long ∙ o.lambdas_length)
-    (c.put_at-2.ensures.long ∙ o.sides_length) (room at.After-place_of-place) c.requires.storable.1
+    (c.put_at-2.ensures.long ∙ o.codes_length) (room at.After-place_of-place) c.requires.storable.1
     (rw (← c.self.view_is) at (holds at.After-put_at-2))
 
 pub returns : goal.returns

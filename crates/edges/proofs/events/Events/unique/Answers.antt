@@ -3,7 +3,6 @@
 use Rattle.std.proofs.Common.{rules, ◌≡◌, ◌∙◌, sym, ap, get_or}
 use lib.Ieee.{nan}
 use Rattle.float.specs.Consts.{eps}
-use Rattle.edges.specs.declared.side.Side.TheVariants as side
 use Rattle.edges.specs.Events.{unique}
 use Rattle.edges.proofs.Kept.{drops, drops_says, keeping_starts, keeping_dropped, keeping_kept, keeping_ends}
 use Rattle.edges.proofs.Kept.{keeping_ordered}
@@ -23,12 +22,12 @@ test c =
 
 pub loop-i-preserved-then-is_some_and : goal.loop-i-preserved-then-is_some_and
 loop-i-preserved-then-is_some_and c =
-    keeping_dropped c.loop-i.invariant nan (side.U 0) c.loop-i-test.true
+    keeping_dropped c.loop-i.invariant nan 0 c.loop-i-test.true
     (sym (test (goal.at.loop-i-preserved-then-is_some_and c).After-is_some_and) ∙ c.if-is_some_and.true)
 
 pub loop-i-preserved : goal.loop-i-preserved
 loop-i-preserved c =
-    keeping_kept c.loop-i.invariant nan (side.U 0) c.loop-i-test.true
+    keeping_kept c.loop-i.invariant nan 0 c.loop-i-test.true
     (sym (test (goal.at.loop-i-preserved c).After-is_some_and) ∙ c.if-is_some_and.false)
 
 pub invariant_of-self : goal.invariant_of-self

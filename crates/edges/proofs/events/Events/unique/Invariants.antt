@@ -6,4 +6,4 @@ abbrev pub invariant-loop-i : goal.invariant-loop-i
 invariant-loop-i l =
     let s = l.initial.self-inside in
     let now = l.self-inside in
-    Keeping (events_in s.lambdas s.sides l.found) now.lambdas now.sides l.found now.count l.i l.last
+    Keeping (events_in s.lambdas s.codes l.found) now.lambdas now.codes l.found now.count l.i l.last
