@@ -64,8 +64,8 @@ fn replay(rt: &impl Print, words: &[u64]) -> io::Result<()> {
     println!(rt; "replay: {cases} cases, {differ} differ")
 }
 
-// As much of the input as `text` has room for: the part of it that was read. std reads a list whole or a text to its end
-// alone, so that a loop goes on from what was read.
+// As much of the input as `text` has room for: the part of it that was read. std reads a list whole or a text to its
+// end alone, so that a loop goes on from what was read.
 fn read_full<'a>(reader: &mut impl Read, text: &'a mut [u8]) -> io::Result<&'a [u8]>
     ensures { IfOk result (λ read. length read.now ≤ length text.old) }
 {
