@@ -42,7 +42,7 @@ mesh_check g m n t f = grid_check g m n (room_check (6 * (m * n)) (length t) (2 
 abbrev pub triangulate_grid : List Float → ℕ → ℕ → MeshLists → Afterwards (Answer Meshed) MeshLists
 triangulate_grid g m n lent =
     if_passed (mesh_check g m n lent.triangles lent.flipped) lent
-    (answering (meshed (u_search g m n) (v_search g m n)) (written (surface_of g m n) lent))
+    (answering (meshed (record { u = u_search g m n; v = v_search g m n })) (written (surface_of g m n) lent))
 
 -- `trace_flat`: refusals 1, 2 (grid, then samples), 4, 9 and 10, and the drawing
 abbrev pub trace_check : List Float → ℕ → ℕ → List Float → List ℕ → Check

@@ -4,4 +4,3 @@ pub mod Lines
 pub mod Meshes
 pub mod Seams
 pub mod Textures
-pub mod Vectors

@@ -1,6 +1,5 @@
 -- Rules 4, for C: both seams and the counts of triangles and flipped pairs.
-use Rattle.std.specs.Prelude.{Some, None, Option, Ok, Err, Result}
-use Rattle.cyclic.specs.Mapping.{Seam}
+use Rattle.std.specs.Prelude.{None}
 use Rattle.refusal.specs.Refusals.{Answer, ok, refused}
 use Rattle.cyclic.specs.Search.{searched}
 use Rattle.grid_seams.specs.declared.Seams.{Seams}
@@ -14,7 +13,13 @@ use Rattle.merlontrispa.specs.Seams.{found_seam}
 -- Rules 11.3: a refusal comes with its number alone, so there is no seam, after no comparison, and counts are 0
 abbrev pub mesh_answer : Answer Meshed → MeshAnswer
 mesh_answer (ok c) =
-    record { refusal = 0; u = found_seam c.u; v = found_seam c.v; triangles = c.triangles; pairs = c.pairs }
+    record {
+      refusal = 0;
+      u = found_seam c.seams.u;
+      v = found_seam c.seams.v;
+      triangles = c.counts.triangles;
+      pairs = c.counts.pairs;
+    }
 mesh_answer (refused k) =
     record {
       refusal = k;

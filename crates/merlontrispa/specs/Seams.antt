@@ -1,5 +1,5 @@
 -- Rules 3, for C: a mapping by its direction, offset and steps, and what a search finds.
-use Rattle.std.specs.Prelude.{Some, None, Option, Ok, Err, Result}
+use Rattle.std.specs.Prelude.{Some, None}
 use Rattle.cyclic.specs.Mapping.{Seam}
 use Rattle.std.specs.Prelude.{ℕ, Bool, true, false}
 use Rattle.refusal.specs.Refusals.{Answer, answer_number, values_or}

@@ -116,12 +116,14 @@ pub extern "C" fn mt_get(
 ) -> Part
     ensures { Gets points.now starts.now point_count line_count index result }
 {
-    let length = path::get(points, starts, point_count, line_count, index).len();
     match path::line_span(points, starts, point_count, line_count, index) {
         Ok(span) => Part {
             offset: 3 * span.start,
-            length,
+            length: 3 * (span.end - span.start),
         },
-        Err(_) => Part { offset: 0, length },
+        Err(_) => Part {
+            offset: 0,
+            length: 0,
+        },
     }
 }

@@ -32,10 +32,10 @@ impl From<Result<Meshed, Refusal>> for MeshAnswer {
         match answer {
             Ok(meshed) => MeshAnswer {
                 refusal: 0,
-                u: FoundSeam::from(meshed.u),
-                v: FoundSeam::from(meshed.v),
-                triangles: meshed.triangles,
-                pairs: meshed.pairs,
+                u: FoundSeam::from(meshed.seams.u),
+                v: FoundSeam::from(meshed.seams.v),
+                triangles: meshed.counts.triangles,
+                pairs: meshed.counts.pairs,
             },
             Err(refusal) => MeshAnswer {
                 refusal: u8::from(refusal),

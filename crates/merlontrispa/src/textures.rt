@@ -1,7 +1,7 @@
 // Plans, angles and sample points of textures. A texture goes in as its kind and its numbers: 0 Grid,
 // 1 Swirl with spacing and twist, any other Spiral with spacing and arms.
-// C has no enum with values: a number for the kind, and all that some kind takes, stay parameters side by side.
-// C has no enum with values: an answer is a struct with a refusal's number, and zeros beside one.
+// C has no enum with values: a number for the kind, and all that some kind takes, stay parameters side by side, and an
+// answer is a struct with a refusal's number, and zeros beside one.
 ghost use Rattle.std.specs.Prelude.{◌≡◌};
 ghost use Rattle.refusal.specs.Refusals.{stated};
 ghost use Rattle.texture.specs.Plan.{plan};

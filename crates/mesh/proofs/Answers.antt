@@ -20,7 +20,7 @@ use Rattle.lent.proofs.Laws.{zeroed_filled, answered_in, room_passed}
 use Rattle.grid.specs.Grid.{Accepted}
 use Rattle.grid.proofs.Laws.{grid_passed, grid_accepted, accepted_known}
 use Rattle.surface.specs.Surface.{Shape, Triangle, kept, slots, triangles, flipped}
-use Rattle.surface.specs.Found.{u_search, v_search, surface_with}
+use Rattle.surface.specs.Found.{surface_with}
 use Rattle.surface.proofs.Joinings.{u_of_row, v_of_row}
 use Rattle.grid_seams.specs.declared.Seams.{Seams}
 use Rattle.grid_seams.specs.Seams.{seams_of}
@@ -140,8 +140,7 @@ module _ (g : List Float) (m n : ℕ) (tolerances : Tolerances) (t f : List ℕ)
   pub passed_hands : (t' f' : List ℕ) {s : Seams} {r : MeshCounts} → passed ≡ mesh_check g m n tolerances t f →
       s ≡ seams_of g m n tolerances →
       afterwards r (mesh_lists t' f') ≡ written (surface_with m n s.u.seam s.v.seam) (mesh_lists t f) →
-      Hands (Ok (record { u = s.u; v = s.v; triangles = r.triangles; pairs = r.pairs })) t' f'
+      Hands (Ok (record { seams = s; counts = r })) t' f'
   unfolding triangulate_grid
   passed_hands t' f' e seams w =
-      rw (← e)
-      (answered_in (meshed (u_search g m n tolerances.u) (v_search g m n tolerances.v)) (rw seams) (rw seams at w))
+      rw (← e) (answered_in (meshed (seams_of g m n tolerances)) (rw seams) (rw seams at w))

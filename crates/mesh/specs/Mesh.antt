@@ -5,9 +5,10 @@ use Rattle.tolerance.specs.declared.Tolerances.{Tolerances}
 use Rattle.tolerance.specs.Tolerance.{tolerances_check}
 use Rattle.lent.specs.Lent.{room_check, filled, Afterwards, afterwards, answering, if_passed}
 use Rattle.grid.specs.Grid.{grid_check}
-use Rattle.cyclic.specs.declared.seam.SeamSearch.{SeamSearch}
 use Rattle.surface.specs.Surface.{Triangle, Pair, Shape, triangles, flipped}
-use Rattle.surface.specs.Found.{u_search, v_search, surface_of}
+use Rattle.surface.specs.Found.{surface_of}
+use Rattle.grid_seams.specs.declared.Seams.{Seams}
+use Rattle.grid_seams.specs.Seams.{seams_of}
 use Rattle.mesh.specs.declared.MeshCounts.{MeshCounts}
 use Rattle.mesh.specs.declared.Meshed.{Meshed}
 
@@ -44,12 +45,11 @@ written s lent =
     (filled 0 (pair_numbers (flipped s)) lent.flipped))
 
 -- the counts, with the seams that were found
-abbrev pub meshed : SeamSearch → SeamSearch → MeshCounts → Answer Meshed
-meshed u v c = ok (record { u = u; v = v; triangles = c.triangles; pairs = c.pairs })
+abbrev pub meshed : Seams → MeshCounts → Answer Meshed
+meshed s c = ok (record { seams = s; counts = c })
 
 -- the open call; a refusal leaves the lists as they were (Rules 8.3)
 unfoldable pub triangulate_grid : List Float → ℕ → ℕ → Tolerances → MeshLists → Afterwards (Answer Meshed) MeshLists
 triangulate_grid g m n tolerances lent =
     if_passed (mesh_check g m n tolerances lent.triangles lent.flipped) lent
-    (answering (meshed (u_search g m n tolerances.u) (v_search g m n tolerances.v))
-    (written (surface_of g m n tolerances) lent))
+    (answering (meshed (seams_of g m n tolerances)) (written (surface_of g m n tolerances) lent))

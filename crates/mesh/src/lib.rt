@@ -10,9 +10,9 @@ ghost use Rattle.mesh.specs.Corners.{shape_of};
 ghost use Rattle.mesh.specs.Mesh.{mesh_check, mesh_lists, written, triangulate_grid};
 
 use corner::Surface;
-use cyclic::seam::SeamSearch;
 use flipped::RowStarts;
 use grid::Grid;
+use grid_seams::Seams;
 use refusal::Refusal;
 use tolerance::Tolerances;
 
@@ -24,10 +24,8 @@ mod triangles;
 // Both seams with their comparisons, the count of triangles and the count of flipped pairs.
 #[derive(Clone, Copy)]
 pub struct Meshed {
-    pub u: SeamSearch,
-    pub v: SeamSearch,
-    pub triangles: usize,
-    pub pairs: usize,
+    pub seams: Seams,
+    pub counts: MeshCounts,
 }
 
 // The count of triangles and the count of flipped pairs.
@@ -106,11 +104,8 @@ pub fn triangulate_grid(
         u: seams.u.seam,
         v: seams.v.seam,
     };
-    let counts = triangulate(surface, triangles, flipped);
     Ok(Meshed {
-        u: seams.u,
-        v: seams.v,
-        triangles: counts.triangles,
-        pairs: counts.pairs,
+        seams,
+        counts: triangulate(surface, triangles, flipped),
     })
 }

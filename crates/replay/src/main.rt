@@ -64,10 +64,10 @@ fn replay(rt: &impl Print, words: &[u64]) -> io::Result<()> {
     println!(rt; "replay: {cases} cases, {differ} differ")
 }
 
-// As much of the input as `text` has room for, and how much that is. std reads a list whole or a text to its end alone,
-// so that a loop goes on from what was read.
-fn read_full(reader: &mut impl Read, text: &mut [u8]) -> io::Result<usize>
-    ensures { IfOk result (λ count. count ≤ length text.new) }
+// As much of the input as `text` has room for: the part of it that was read. std reads a list whole or a text to its
+// end alone, so that a loop goes on from what was read.
+fn read_full<'a>(reader: &mut impl Read, text: &'a mut [u8]) -> io::Result<&'a [u8]>
+    ensures { IfOk result (λ read. length read.now ≤ length text.old) }
 {
     let mut count = 0;
     while count < text.len() {
@@ -77,7 +77,7 @@ fn read_full(reader: &mut impl Read, text: &mut [u8]) -> io::Result<usize>
         }
         count += more;
     }
-    Ok(count)
+    Ok(&text[..count])
 }
 
 // The record that is read into the two rooms is replayed. It is given the arrays whole: where `main` cuts a slice of one
@@ -87,8 +87,8 @@ fn replay_input<R: Input + Print>(
     text: &mut [u8; TEXT_ROOM],
     words: &mut [u64; WORD_ROOM],
 ) -> io::Result<()> {
-    let length = read_full(&mut rt.reader(), text)?;
-    let Some(words) = words::read_words(&text[..length], words) else {
+    let text = read_full(&mut rt.reader(), text)?;
+    let Some(words) = words::read_words(text, words) else {
         return println!(rt; "replay: the record is no list of numbers, or too long");
     };
     replay(rt, words)

@@ -18,9 +18,9 @@ pub fn triangulate_grid(case: &[u64]) -> Option<bool> {
     let (m, n) = (number(numbers, 2), number(numbers, 3));
     let answer = mesh::triangulate_grid(grid, m, n, tolerances(numbers), triangles, flipped);
     let told = told(recorded, answer, |meshed| {
-        is_seam(u, meshed.u)
-            && is_seam(v, meshed.v)
-            && is_told(recorded, meshed.triangles, meshed.pairs)
+        is_seam(u, meshed.seams.u)
+            && is_seam(v, meshed.seams.v)
+            && is_told(recorded, meshed.counts.triangles, meshed.counts.pairs)
     });
     Some(told && same(triangles, field(case, 5)?) && same(flipped, field(case, 6)?))
 }

@@ -25,24 +25,30 @@ checks t m n after h =
     (a.0, b.0, c.0, c.1)
 
 module _ (t : ParametricSurfaceTexture) (m n : ℕ) (after : Check) where
-  -- where there is a plan, only the tests after its own are left
-  pub plan_passed : {p : PlanCounts} → ok p ≡ plan t m n → (plan_check t m n after ≡ after) × (p ≡ plan_of t m n)
-  unfolding plan plan_check
-  plan_passed e =
+  -- where a plan's tests are passed, only the tests after them are left
+  pub tests_passed : {A : Type 0} {p a : A} → ok p ≡ passing (plan_check t m n passed) (ok a) →
+      (plan_check t m n after ≡ after) × (p ≡ a)
+  unfolding plan_check
+  tests_passed e =
       let a = answered (plan_check t m n passed) (sym e) in
       let c = checks t m n passed a.0 in
       (rw (c.0, c.1, c.2), a.1)
+
+  -- so where there is a plan
+  pub plan_passed : {p : PlanCounts} → ok p ≡ plan t m n → (plan_check t m n after ≡ after) × (p ≡ plan_of t m n)
+  unfolding plan
+  plan_passed e = tests_passed e
 
   -- where all pass, there is a plan
   pub plan_ok : plan_check t m n after ≡ passed → plan t m n ≡ ok (plan_of t m n)
   unfolding plan plan_check
   plan_ok h = let c = checks t m n after h in rw (c.0, c.1, c.2)
 
-  -- where there is none, its refusal is the answer
-  pub plan_failed : {A : Type 0} {k : ℕ} (z : Answer A) → refused k ≡ plan t m n →
+  -- where one of them refuses, its refusal is the answer
+  pub plan_failed : {A B : Type 0} {k : ℕ} (a : B) (z : Answer A) → refused k ≡ passing (plan_check t m n passed) (ok a) →
       refused k ≡ passing (plan_check t m n after) z
-  unfolding plan plan_check
-  plan_failed z e =
+  unfolding plan_check
+  plan_failed a z e =
       let counts = unless (counts_fit (rays_of m n t) (samples_per_ray m n t)) Count passed in
       let texture = unless (texture_fits t) Texture counts in
       rw (
@@ -50,7 +56,7 @@ module _ (t : ParametricSurfaceTexture) (m n : ℕ) (after : Check) where
         unless_then (texture_fits t) Texture counts after,
         unless_then (steps_fit m n) Steps texture after,
       )
-      (refused_first (plan_check t m n passed) after (plan_of t m n) z e)
+      (refused_first (plan_check t m n passed) after a z e)
 
 -- a test that refuses, whatever is tested after it
 unless_failed : {A : Type 0} (b : Bool) (r : Refusal) (after : Check) (z : Answer A) {k : Refusal} →
@@ -58,9 +64,10 @@ unless_failed : {A : Type 0} (b : Bool) (r : Refusal) (after : Check) (z : Answe
 unless_failed true r after z e = absurd (true≢false (cc))
 unless_failed false r after z e = cc
 
--- where there is a plan, the refusal of the next test is the answer
-pub test_failed : (t : ParametricSurfaceTexture) (m n : ℕ) {p : PlanCounts} → ok p ≡ plan t m n →
+-- where a plan's tests are passed, the refusal of the next test is the answer
+pub test_failed : (t : ParametricSurfaceTexture) (m n : ℕ) {B : Type 0} {p : B} (a : B) →
+    ok p ≡ passing (plan_check t m n passed) (ok a) →
     {A : Type 0} (b : Bool) (r : Refusal) (after : Check) (z : Answer A) {k : Refusal} → Err k ≡ unless b r passed →
     refused (number_of k) ≡ passing (plan_check t m n (unless b r after)) z
-test_failed t m n h b r after z e =
-    rw (plan_passed t m n (unless b r after) h).0 (unless_failed b r after z e)
+test_failed t m n a h b r after z e =
+    rw (tests_passed t m n (unless b r after) h).0 (unless_failed b r after z e)

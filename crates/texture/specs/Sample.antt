@@ -13,6 +13,7 @@ use Rattle.param.specs.declared.ParamPoint.{ParamPoint}
 use Rattle.texture.specs.declared.plan.ParametricSurfaceTexture.{ParametricSurfaceTexture}
 use Rattle.texture.specs.declared.plan.ParametricSurfaceTexture.TheVariants.{Grid, Swirl, Spiral}
 use Rattle.texture.specs.declared.plan.PlanCounts.{PlanCounts}
+use Rattle.texture.specs.declared.sample.Sample.{Sample}
 use Rattle.texture.specs.Plan.{centre, texture_radius, texture_spacing, spiral_turns, plan_check, plan_of}
 
 -- ---- the formulas
@@ -51,6 +52,12 @@ point_of t m n count i cosine sine =
     param (add binary64 (centre m) (mul binary64 cosine r)) (add binary64 (centre n) (mul binary64 sine r))
 
 -- ---- the calls
+
+-- for inner contracts: sample i of a ray, of a texture that has a plan; it need not be there
+abbrev pub sample_of : ParametricSurfaceTexture → ℕ → ℕ → ℕ → ℕ → Answer Sample
+sample_of t m n ray i =
+    passing (plan_check t m n passed)
+    (ok (record { texture = t; cells = record { m = m; n = n }; counts = plan_of t m n; ray = ray; index = i }))
 
 -- Rules 11.1: what refusal 8 asks for: the plan has this ray, and the ray this sample, the last too; Grid has no ray
 abbrev pub is_there : PlanCounts → ℕ → ℕ → Bool

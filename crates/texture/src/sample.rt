@@ -4,7 +4,7 @@ ghost use Rattle.refusal.specs.declared.Refusal.TheVariants as refusals;
 ghost use Rattle.refusal.specs.Refusals.{stated, unless, passed};
 ghost use Rattle.texture.specs.Plan.{centre};
 ghost use Rattle.texture.specs.Sample.{part, base_angle, turn_of, angle_of, distance_of, point_of, is_there};
-ghost use Rattle.texture.specs.Sample.{direction_fits, angle, sample_point};
+ghost use Rattle.texture.specs.Sample.{direction_fits, sample_of, angle, sample_point};
 
 use crate::plan::{
     ParametricSurfaceTexture, PlanCounts, plan, spiral_turns, texture_radius, texture_spacing,
@@ -135,8 +135,29 @@ impl Direction {
     }
 }
 
+// Sample `index` of a ray, where its texture has a plan. Whether it is there is not tested: refusal 7 comes before 8.
+#[tactic(auto, unfolding(crate::specs::Plan::plan))]
+fn sample_of(
+    texture: ParametricSurfaceTexture,
+    m: usize,
+    n: usize,
+    ray: usize,
+    index: usize,
+) -> Result<Sample, Refusal>
+    ensures { stated result ≡ sample_of texture m n ray index }
+{
+    let counts = plan(texture, m, n)?;
+    Ok(Sample {
+        texture,
+        cells: Cells { m, n },
+        counts,
+        ray,
+        index,
+    })
+}
+
 // The angle of a sample of a ray.
-#[tactic(auto, unfolding(crate::specs::Plan::plan, crate::specs::Plan::plan_check, crate::specs::Sample::angle))]
+#[tactic(auto, unfolding(crate::specs::Plan::plan_check, crate::specs::Sample::angle))]
 pub fn angle(
     texture: ParametricSurfaceTexture,
     m: usize,
@@ -146,20 +167,13 @@ pub fn angle(
 ) -> Result<f64, Refusal>
     ensures { stated result ≡ angle texture m n ray sample }
 {
-    let counts = plan(texture, m, n)?;
-    let sample = Sample {
-        texture,
-        cells: Cells { m, n },
-        counts,
-        ray,
-        index: sample,
-    };
+    let sample = sample_of(texture, m, n, ray, sample)?;
     sample.check()?;
     Ok(sample.angle())
 }
 
 // The point of a sample of a ray, from the cosine and the sine of its angle.
-#[tactic(auto, unfolding(crate::specs::Plan::plan, crate::specs::Plan::plan_check, crate::specs::Sample::sample_point))]
+#[tactic(auto, unfolding(crate::specs::Plan::plan_check, crate::specs::Sample::sample_point))]
 pub fn sample_point(
     texture: ParametricSurfaceTexture,
     m: usize,
@@ -171,14 +185,7 @@ pub fn sample_point(
 ) -> Result<ParamPoint, Refusal>
     ensures { stated result ≡ sample_point texture m n ray sample cosine sine }
 {
-    let counts = plan(texture, m, n)?;
-    let sample = Sample {
-        texture,
-        cells: Cells { m, n },
-        counts,
-        ray,
-        index: sample,
-    };
+    let sample = sample_of(texture, m, n, ray, sample)?;
     let direction = Direction { cosine, sine };
     direction.check()?;
     sample.check()?;

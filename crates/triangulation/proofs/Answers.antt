@@ -82,8 +82,7 @@ module _ (g : List Float) (m n : ℕ) (tolerances : Tolerances) where
 
     turn_written : mesh_check g m n tolerances lent.triangles lent.flipped ≡ passed →
         triangulate_in_turn g m n tolerances lent
-        ≡ answering (meshed (u_search g m n tolerances.u) (v_search g m n tolerances.v))
-        (written (surface_of g m n tolerances) lent)
+        ≡ answering (meshed (seams_of g m n tolerances)) (written (surface_of g m n tolerances) lent)
     unfolding triangulate_in_turn
     turn_written e =
         let a = admitted g m n tolerances lent.triangles lent.flipped e in
@@ -101,8 +100,7 @@ module _ (g : List Float) (m n : ℕ) (tolerances : Tolerances) where
         go : (c : Check) → mesh_check g m n tolerances lent.triangles lent.flipped ≡ c →
             triangulate_in_turn g m n tolerances lent
             ≡ if_passed c lent
-            (answering (meshed (u_search g m n tolerances.u) (v_search g m n tolerances.v))
-            (written (surface_of g m n tolerances) lent))
+            (answering (meshed (seams_of g m n tolerances)) (written (surface_of g m n tolerances) lent))
         go (Ok tt) e = turn_written e
         go (Err k) e = turn_refused e
 

@@ -34,7 +34,7 @@ triangulate_seams g m n tolerances u v lent =
 
 -- the counts, with the seams that were found; a refusal has its number and no seam
 abbrev pub with_seams : Seams → Answer MeshCounts → Answer Meshed
-with_seams s (ok c) = meshed s.u s.v c
+with_seams s (ok c) = meshed s c
 with_seams s (refused k) = refused k
 
 -- no seam, after no comparison, for both

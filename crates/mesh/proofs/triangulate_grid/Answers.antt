@@ -34,13 +34,13 @@ invariant_of-surface c =
           (found here.After-search_grid-seams);
     }
 
-pub triangulate-counts-requires-clause-triangle_room : goal.triangulate-counts-requires-clause-triangle_room
-triangulate-counts-requires-clause-triangle_room c =
-    (let_in (goal.at.triangulate-counts-requires-clause-triangle_room c).In_ok-grid).triangle_room
+pub triangulate-requires-clause-triangle_room : goal.triangulate-requires-clause-triangle_room
+triangulate-requires-clause-triangle_room c =
+    (let_in (goal.at.triangulate-requires-clause-triangle_room c).In_ok-grid).triangle_room
 
-pub triangulate-counts-requires-clause-pair_room : goal.triangulate-counts-requires-clause-pair_room
-triangulate-counts-requires-clause-pair_room c =
-    (let_in (goal.at.triangulate-counts-requires-clause-pair_room c).In_ok-grid).pair_room
+pub triangulate-requires-clause-pair_room : goal.triangulate-requires-clause-pair_room
+triangulate-requires-clause-pair_room c =
+    (let_in (goal.at.triangulate-requires-clause-pair_room c).In_ok-grid).pair_room
 
 pub returns-in_err-grid-clause-surface : goal.returns-in_err-grid-clause-surface
 returns-in_err-grid-clause-surface c = surface_meets c.args.points.now c.args.m c.args.n
@@ -48,7 +48,7 @@ returns-in_err-grid-clause-surface c = surface_meets c.args.points.now c.args.m 
 pub returns-clause-handed : goal.returns-clause-handed
 returns-clause-handed c =
     let a = c.args in
-    let r = c.triangulate-counts in
+    let r = c.triangulate in
     passed_hands a.points.now a.m a.n a.tolerances a.triangles.now a.flipped.now r.new.triangles r.new.flipped
     c.in_ok-grid.ensures.check (found (goal.at.returns-clause-handed c).After-search_grid-seams) r.ensures
 

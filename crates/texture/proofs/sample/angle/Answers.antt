@@ -4,8 +4,8 @@ use Rattle.texture.specs.Sample.{angle}
 use Rattle.texture.proofs.Plans.{plan_failed}
 use Rattle.texture.proofs.sample.angle.Goals as goal
 
-pub returns-in_err-counts : goal.returns-in_err-counts
+pub returns-in_err-sample : goal.returns-in_err-sample
 unfolding angle
-returns-in_err-counts c =
+returns-in_err-sample c =
     let p = err_from_is_err_and c.from_residual.result c.from_residual.ensures.1 in
-    rw (p.1, p.2) (plan_failed _ _ _ _ _ c.in_err-counts.ensures)
+    rw (p.1, p.2) (plan_failed _ _ _ _ _ _ c.in_err-sample.ensures)
