@@ -13,5 +13,6 @@ returns g c =
     let l = a.list.now in
     let from : c.min-from.result ≡ min (a.width * a.count) (length l) = omega arith in
     let count : o.place-index ≡ length l - c.min-from.result = omega arith in
-    let whole : replicate o.place-index a.zero ≡ o.place-items = sym o.invariant ∙ take_all o.place-index o.place-items (omega arith) in
+    let whole : replicate o.place-index a.zero ≡ o.place-items =
+    sym o.invariant ∙ take_all o.place-index o.place-items (omega arith) in
     zeroed_past_end l a.zero c.min-from.result (a.width * a.count) o.place-items from (rw (← count) (sym whole))
