@@ -2,3 +2,5 @@
 pub mod Moves
 pub mod Follow
 pub mod Fits
+pub mod Ends
+pub mod Writes

@@ -123,7 +123,7 @@ flush_unless inside g = cond inside (on g) (flush_page g)
 abbrev pub on_page : Float → List (Move TracedPoint) → Page → Outcome Page
 on_page tolerance = run (push_page tolerance) flush_page
 
--- ---- what a sheet keeps, and what it is left to do after the walk
+-- ---- what moves keep of a page, and what is left to do after the walk
 
 -- the points written so far stand in their lists, the pending ones last, and the kept lines in theirs
 abbrev pub PenFits : Lists → Pen → Type 0

@@ -1,11 +1,13 @@
 // The lent lists as the walk fills them (Rules 7.3 to 7.5): points in place, pending ones after the kept ones.
 #![tactic(auto)]
 
-ghost use Rattle.std.specs.Prelude.{◌≡◌, IsTrue};
-ghost use Rattle.page.specs.Page.{lists, PenFits};
+ghost use Rattle.std.specs.Prelude.{◌≡◌, ◌*◌, IsTrue, get_or};
+ghost use Rattle.std.specs.Float.{nan};
+ghost use Rattle.lent.specs.Lent.{zeroed_from};
 
 use crossing::Crossing;
 use refusal::Refusal;
+use vector::Vector;
 
 // A point of a trace: where a leg crosses a side of a triangle, and the number of the sample that the leg leads to.
 #[derive(Clone, Copy)]
@@ -31,13 +33,24 @@ pub struct Sheet<'a> {
     pub fractions: &'a mut [f64],
     pub samples: &'a mut [usize],
     pub pen: Pen,
-    pub ghost pen_fits: { PenFits (lists points.now starts.now sides.now fractions.now samples.now) pen },
+}
+
+// Zero in every place of a list past its first `count` items, each of `width` numbers; none if it is no longer than
+// those. By a loop: `fill` clones, and that a clone of any T cannot fail is not known.
+fn zero_from<T: Copy>(list: &mut [T], width: usize, count: usize, zero: T)
+    ensures { list.new ≡ zeroed_from zero (width * count) list.old }
+{
+    let from = width.saturating_mul(count).min(list.len());
+    for place in &mut list[from..] {
+        *place = zero;
+    }
 }
 
 // Each method says `same_lists`: its contract is all that tells a caller that the lists are the same.
 impl<'a> Sheet<'a> {
-    ghost use Rattle.page.specs.Page.{pen_at, page, has_room, close_to_pending, written, push_page, flush_page};
-    ghost use Rattle.page.specs.Page.{flush_unless, zeroed_past};
+    ghost use Rattle.grid.specs.Grid.{point_at};
+    ghost use Rattle.page.specs.Page.{lists, pen_at, page, has_room, close_to_pending, written, push_page};
+    ghost use Rattle.page.specs.Page.{flush_page, flush_unless, zeroed_past};
     ghost use Rattle.page.specs.Sheets.{page_of, outcome_of, same_lists};
 
     // The pen at the start of the lists.
@@ -85,17 +98,36 @@ impl<'a> Sheet<'a> {
             && count < self.samples.len()
     }
 
+    // Coordinate number k of the points, or NaN past their end.
+    fn coordinate(&self, k: usize) -> f64
+        ensures { result ≡ get_or self.now.points.now k nan }
+    {
+        self.points.get(k).copied().unwrap_or(f64::NAN)
+    }
+
+    // Point number i, of NaN where the list has no such point: no caller is asked that the pen stand in the lists.
+    // Saturated, since 3 * i may not fit: no list reaches so far.
+    fn point(&self, i: usize) -> Vector
+        ensures { result ≡ point_at self.now.points.now i }
+    {
+        let at = i.saturating_mul(3);
+        Vector {
+            x: self.coordinate(at),
+            y: self.coordinate(at.saturating_add(1)),
+            z: self.coordinate(at.saturating_add(2)),
+        }
+    }
+
     // Whether there is a pending point, and the last one is close to c by the tolerance.
     fn close_to_pending(&self, c: TracedPoint, tolerance: f64) -> bool
         ensures { result ≡ close_to_pending tolerance c (page_of self.now) }
     {
         let Pen { count, start, .. } = self.pen;
-        start < count
-            && grid::point_at(self.points, count - 1).all_close(c.crossing.point, tolerance)
+        start < count && self.point(count - 1).all_close(c.crossing.point, tolerance)
     }
 
     // One more pending point.
-    #[tactic(auto, unfolding(crate::specs::Page::written))]
+    #[tactic(auto, using(crate::proofs::Writes::two_written, crate::proofs::Writes::three_written), unfolding(crate::specs::Page::written))]
     fn write(&mut self, c: TracedPoint)
         requires { IsTrue (has_room (page_of self.old)) }
         ensures same { same_lists self.old self.new }
@@ -103,11 +135,8 @@ impl<'a> Sheet<'a> {
     {
         let i = self.pen.count;
         let Crossing { p, q, t, point } = c.crossing;
-        self.points[3 * i] = point.x;
-        self.points[3 * i + 1] = point.y;
-        self.points[3 * i + 2] = point.z;
-        self.sides[2 * i] = p;
-        self.sides[2 * i + 1] = q;
+        self.points[3 * i..3 * i + 3].copy_from_slice(&[point.x, point.y, point.z]);
+        self.sides[2 * i..2 * i + 2].copy_from_slice(&[p, q]);
         self.fractions[i] = t;
         self.samples[i] = c.sample;
         self.pen.count += 1;
@@ -140,7 +169,7 @@ impl<'a> Sheet<'a> {
             start,
             lines,
         } = self.pen;
-        if count - start < 2 {
+        if count.saturating_sub(start) < 2 {
             self.pen.count = start;
             return Ok(());
         }
@@ -168,10 +197,10 @@ impl<'a> Sheet<'a> {
         ensures page { page_of self.new ≡ zeroed_past (page_of self.old) }
     {
         let Pen { count, lines, .. } = self.pen;
-        self.points[3 * count..].fill(0.0);
-        self.starts[lines..].fill(0);
-        self.sides[2 * count..].fill(0);
-        self.fractions[count..].fill(0.0);
-        self.samples[count..].fill(0);
+        zero_from(self.points, 3, count, 0.0);
+        zero_from(self.starts, 1, lines, 0);
+        zero_from(self.sides, 2, count, 0);
+        zero_from(self.fractions, 1, count, 0.0);
+        zero_from(self.samples, 1, count, 0);
     }
 }

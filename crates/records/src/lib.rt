@@ -38,8 +38,7 @@ fn flatten(records: &[Sample], pairs: &mut [f64; MAX_NUMBERS], marks: &mut [u8; 
     ensures marks { take (length records.now) marks.new ≡ marks_of records.now }
 {
     for (i, sample) in records.iter().enumerate() {
-        pairs[2 * i] = sample.point.u;
-        pairs[2 * i + 1] = sample.point.v;
+        pairs[2 * i..2 * i + 2].copy_from_slice(&[sample.point.u, sample.point.v]);
         marks[i] = sample.mark;
     }
 }

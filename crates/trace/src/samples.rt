@@ -30,10 +30,7 @@ pub struct Samples<'a> {
 fn sample_fits(sample: Option<ParamPoint>) -> bool
     ensures { result ≡ sample_fits sample }
 {
-    match sample {
-        None => true,
-        Some(point) => at_most(point.u, MAX_SAMPLE) && at_most(point.v, MAX_SAMPLE),
-    }
+    sample.is_none_or(|point| at_most(point.u, MAX_SAMPLE) && at_most(point.v, MAX_SAMPLE))
 }
 
 impl<'a> Samples<'a> {

@@ -50,10 +50,9 @@ fn decide(grid: &Grid<'_>, leg: Leg, previous: f64, event: EdgeEvent, next: f64)
     let before = between_inside(cells, leg, previous, event.lambda, here);
     let inside = between_inside(cells, leg, event.lambda, next, leg.b);
     let point = if before || inside {
-        match edge_point(grid, event.edge, here) {
-            Some(crossing) => Ok(Some(crossing)),
-            None => Err(Refusal::NoStep),
-        }
+        edge_point(grid, event.edge, here)
+            .map(Some)
+            .ok_or(Refusal::NoStep)
     } else {
         Ok(None)
     };
