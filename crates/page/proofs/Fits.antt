@@ -19,7 +19,7 @@ use Rattle.page.proofs.Moves.{Any, any_pushed, Holding, run_keeps}
 -- what a written point, a kept line and a dropped line each leave true
 module _ (P : Page → Type 0)
     (point : (c : TracedPoint) (g : Page) → P g → has_room g ≡ true → P (written c g))
-    (line : (g : Page) → P g → ltb g.pen.lines (length g.lists.starts) ≡ true → P (kept g))
+    (line : (g : Page) → P g → P (kept g))
     (drop : (g : Page) → P g → P (dropped g))
     (tolerance : Float)
   where
@@ -34,38 +34,37 @@ module _ (P : Page → Type 0)
 
     flush_keeps : (g : Page) → P g → Holding P (flush_page g)
     unfolding flush_page
-    flush_keeps g h = go (leb (g.pen.start + 2) g.pen.count) (ltb g.pen.lines (length g.lists.starts)) refl
+    flush_keeps g h = go (leb (g.pen.start + 2) g.pen.count) (ltb g.pen.lines (length g.lists.starts))
       where
-        go : (a b : Bool) → ltb g.pen.lines (length g.lists.starts) ≡ b →
-            Holding P (cond a (cond b (on (kept g)) (off Full g)) (on (dropped g)))
-        go true true e = line g h e
-        go true false e = tt
-        go false b e = drop g h
+        go : (a b : Bool) → Holding P (cond a (cond b (on (kept g)) (off Full g)) (on (dropped g)))
+        go true true = line g h
+        go true false = tt
+        go false b = drop g h
 
     moves_keep : (ms : List (Move TracedPoint)) (g : Page) → P g → Holding P (on_page tolerance ms g)
     moves_keep ms g h =
         run_keeps Any P (push_page tolerance) flush_page (λ c good. push_keeps c) flush_keeps (any_pushed ms) g h
 
--- ---- the points written so far stand in their lists, and the kept lines in theirs
+-- ---- the points written so far stand in their list
 
 abbrev pub Fitting : Page → Type 0
-Fitting g = PenFits g.lists g.pen
+Fitting g = PenFits g.lists.points g.pen
 
 written_fits : (c : TracedPoint) (g : Page) → Fitting g → has_room g ≡ true → Fitting (written c g)
 unfolding written
 written_fits c g h e =
-    let r = ltb-true g.pen.count (point_room g.lists) e in
-    simp length-set (omega arith, omega arith, h.2, omega arith, omega arith, omega arith)
+    let r = ltb-true g.pen.count (point_room g.lists) e in (omega arith, simp length-set (omega arith))
 
-kept_fits : (g : Page) → Fitting g → ltb g.pen.lines (length g.lists.starts) ≡ true → Fitting (kept g)
+kept_fits : (g : Page) → Fitting g → Fitting (kept g)
 unfolding kept
-kept_fits g h e =
-    let r = ltb-true g.pen.lines (length g.lists.starts) e in
-    simp length-set (omega arith, h.1, omega arith, h.3, h.4, h.5)
+kept_fits g h = (omega arith, h.1)
 
 dropped_fits : (g : Page) → Fitting g → Fitting (dropped g)
 unfolding dropped
-dropped_fits g h = (omega arith, omega arith, h.2, omega arith, omega arith, omega arith)
+dropped_fits g h = (omega arith, omega arith)
+
+pub push_fits : (tolerance : Float) (c : TracedPoint) (g : Page) → Fitting g → Holding Fitting (push_page tolerance c g)
+push_fits = push_keeps Fitting written_fits kept_fits dropped_fits
 
 pub moves_fit : (tolerance : Float) (ms : List (Move TracedPoint)) (g : Page) → Fitting g →
     Holding Fitting (on_page tolerance ms g)
@@ -119,4 +118,4 @@ module _ (l : Lists) where
 
   pub moves_sized : (tolerance : Float) (ms : List (Move TracedPoint)) (g : Page) → SizedPage l g →
       Holding (SizedPage l) (on_page tolerance ms g)
-  moves_sized = moves_keep (SizedPage l) (λ c g h e. written_sized c g h) (λ g h e. kept_sized g h) dropped_sized
+  moves_sized = moves_keep (SizedPage l) (λ c g h e. written_sized c g h) kept_sized dropped_sized

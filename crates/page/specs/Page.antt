@@ -125,13 +125,11 @@ on_page tolerance = run (push_page tolerance) flush_page
 
 -- ---- what moves keep of a page, and what is left to do after the walk
 
--- the points written so far stand in their lists, the pending ones last, and the kept lines in theirs
-abbrev pub PenFits : Lists → Pen → Type 0
-PenFits l pen =
-    (pen.start ≤ pen.count) × (3 * pen.count ≤ length l.points) × (pen.lines ≤ length l.starts)
-    × (2 * pen.count ≤ length l.sides) × (pen.count ≤ length l.fractions) × (pen.count ≤ length l.samples)
+-- the points written so far stand in their list, the pending ones last: so much every move keeps
+abbrev pub PenFits : List Float → Pen → Type 0
+PenFits points pen = (pen.start ≤ pen.count) × (3 * pen.count ≤ length points)
 
--- every place past those points and lines is made zero
+-- every place past the points and the lines is made zero
 abbrev pub zeroed_past : Page → Page
 zeroed_past g =
     page
