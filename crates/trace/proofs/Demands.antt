@@ -4,18 +4,20 @@
 use Rattle.std.specs.Prelude.{Some, None, Option}
 use Rattle.cyclic.specs.Mapping.{Seam}
 use mathlib.Core.Path.{◌≡◌, refl}
+use mathlib.Core.Bool.{true}
 use mathlib.Core.List.{List}
 use Prim.Native.Nat.{ℕ, ◌+◌, ◌*◌, ◌≤◌, ◌<◌}
 use native.Mathlib.Omega.{arith}
 use lib.Ieee.{Float}
 use Rattle.basics.proofs.Lists.{each_implies}
 use Rattle.tolerance.specs.declared.Tolerances.{Tolerances}
-use Rattle.grid.specs.Grid.{point_number, point_at}
+use Rattle.grid.specs.Grid.{point_number, point_at, Accepted}
 use Rattle.grid.proofs.Laws.{accepted_known, point_below}
 use Rattle.surface.specs.Surface.{Shape, GridEdge, along_u, along_v, falls, rises, StepsAround, Meets}
-use Rattle.surface.specs.Found.{u_search, v_search, surface_with}
+use Rattle.surface.specs.Found.{u_search, v_search, surface_with, CoveredJoining}
+use Rattle.surface.specs.Given.{seams_fit}
 use Rattle.surface.proofs.Demand as surface
-use Rattle.surface.proofs.Joinings.{surface_meets}
+use Rattle.surface.proofs.Joinings.{found_fits, given_meets}
 use Rattle.param.specs.declared.Leg.{Leg}
 use Rattle.param.specs.Param.{cells}
 use Rattle.edges.specs.Events.{sorted_edge_events, Inside, OnGrid}
@@ -33,7 +35,7 @@ use Rattle.walk.proofs.Pushed.{GoodEdge, GoodEvents}
 use Rattle.trace.specs.Curve.{samples_of}
 use Rattle.trace.specs.Drawing.{room_in}
 use Rattle.trace.specs.Trace.{drawing_of, trace_flat}
-use Rattle.trace.specs.Demand.{EachPoint, Made, OnSide, Demand3}
+use Rattle.trace.specs.Demand.{EachPoint, Made, OnSide, DemandMet, Demand3}
 use Rattle.trace.proofs.Pushed.{trace_good}
 use Rattle.trace.proofs.Drawn.{GoodDrawing, drawn_good}
 use Rattle.trace.proofs.Points.{Stands, each_point}
@@ -143,19 +145,27 @@ module _ (g : List Float) (m n : ℕ) (hm : m ≤ 255) (hn : n ≤ 255) (su sv :
       (λ c from l i at. rw (at.p_is, at.q_is)
       (surface.traced s meets around c.crossing.p c.crossing.q from.edge))
 
--- Rules 5.4 and 5.5: demand 3
+-- ---- Rules 5.4 and 5.5: demand 3
+
+-- of two seams that fit the grid
+pub fitting_met : (g : List Float) (m n : ℕ) → Accepted g m n → (t : Tolerances) (u v : Seam) →
+    seams_fit g m n t u v ≡ true → CoveredJoining u v → DemandMet g m n u v
+fitting_met g m n accepted t u v fit covered =
+    let steps = (accepted_known g m n accepted).steps in
+    let meets = given_meets g m n accepted t u v fit covered in
+    record {
+      surface = meets;
+      points = λ around. points_on_sides g m n steps.m_most steps.n_most u v meets around;
+    }
+
+-- the seams that are found are such seams
 pub demand3 : (g : List Float) (m n : ℕ) → Demand3 g m n
 demand3 g m n accepted =
     let steps = (accepted_known g m n accepted).steps in
     record {
       made = points_made g m n steps.m_most steps.n_most None None;
+      given = fitting_met g m n accepted;
       covered =
-          λ t covered.
-          let meets = surface_meets g m n accepted t covered in
-          record {
-            surface = meets;
-            points =
-                λ around. points_on_sides g m n steps.m_most steps.n_most (u_search g m n t.u).seam
-                (v_search g m n t.v).seam meets around;
-          };
+          λ t covered. fitting_met g m n accepted t (u_search g m n t.u).seam (v_search g m n t.v).seam
+          (found_fits g m n t steps.m_least steps.n_least) covered;
     }

@@ -1,6 +1,7 @@
--- Rules 5.5 and 5.4: demand 3, whole, of every accepted grid, all tolerances and all samples. Its triangles, flipped
--- pairs and traced points are those that the contracts of `triangulate_grid` and `trace_flat` cite.
-use Rattle.std.specs.Prelude.{◌≡◌, List, ℕ, ◌+◌, ◌*◌, ◌<◌, get_or, Float}
+-- Rules 5.5 and 5.4: demand 3, whole, of every accepted grid, all seams that fit it, all tolerances and all samples.
+-- Its triangles, flipped pairs and traced points are those that the contracts of `triangulate_seams`,
+-- `triangulate_grid` and `trace_flat` cite.
+use Rattle.std.specs.Prelude.{◌≡◌, true, List, ℕ, ◌+◌, ◌*◌, ◌<◌, get_or, Float}
 use Rattle.std.specs.Float.{nan}
 use Rattle.refusal.specs.Refusals.{Answer, ok, refused}
 use Rattle.tolerance.specs.declared.Tolerances.{Tolerances}
@@ -8,8 +9,10 @@ use Rattle.lent.specs.declared.Counts.{Counts}
 use Rattle.lent.specs.Lent.{Afterwards}
 use Rattle.grid.specs.Grid.{point_at, Accepted}
 use Rattle.crossing.specs.Crossing.{blend}
+use Rattle.cyclic.specs.Mapping.{Seam}
 use Rattle.surface.specs.Surface.{Shape, triangles, Owns, StepsAround, Meets, Jₙ}
-use Rattle.surface.specs.Found.{surface_of, CoveredGrid}
+use Rattle.surface.specs.Found.{u_search, v_search, surface_with, CoveredJoining, CoveredGrid}
+use Rattle.surface.specs.Given.{seams_fit}
 use Rattle.page.specs.Page.{Lists}
 use Rattle.trace.specs.Trace.{trace_flat}
 
@@ -46,21 +49,23 @@ EndsOfSide s a b = (i : ℕ) × Owns (triangles s) a b i
 abbrev pub OnSide : Shape → Lists → ℕ → Type 0
 OnSide s l i = EndsOfSide s (Jₙ s (p_of l i)) (Jₙ s (q_of l i))
 
--- of a covered joining that is found at tolerances t: its sides and flipped pairs (Rules 5.4), and the points of every
--- trace across it, whatever its own tolerances, the samples and the lists lent; where a seam joins, 2 steps around are
--- needed, for with 1 J can take p and q to one point
-pub record DemandMet (g : List Float) (m n : ℕ) (t : Tolerances) : Type 0 where
-  pub surface : Meets (surface_of g m n t)
-  pub points : StepsAround 2 (surface_of g m n t) →
+-- of two seams: the sides and flipped pairs of the surface that they make (Rules 5.4), and the points of every trace
+-- across it, whatever its tolerances, the samples and the lists lent; where a seam joins, 2 steps around are needed,
+-- for with 1 J can take p and q to one point
+pub record DemandMet (g : List Float) (m n : ℕ) (u v : Seam) : Type 0 where
+  pub surface : Meets (surface_with m n u v)
+  pub points : StepsAround 2 (surface_with m n u v) →
       (tolerances : Tolerances) (pairs : List Float) (marks : List ℕ) (l : Lists) →
-      EachPoint (OnSide (surface_of g m n t)) (trace_flat g m n tolerances pairs marks l)
+      EachPoint (OnSide (surface_with m n u v)) (trace_flat g m n tolerances pairs marks l)
 
--- of an accepted grid: the points of every trace were made from their p and q; and the above, if the seams found at
--- whatever tolerances are a covered joining
+-- of an accepted grid: the points of every trace were made from their p and q; and the above of seams that are a
+-- covered joining, of any two that fit the grid at whatever tolerances, and of the two that are found there
 pub record GridMet (g : List Float) (m n : ℕ) : Type 0 where
   pub made : (tolerances : Tolerances) (pairs : List Float) (marks : List ℕ) (l : Lists) →
       EachPoint (Made g m n) (trace_flat g m n tolerances pairs marks l)
-  pub covered : (t : Tolerances) → CoveredGrid g m n t → DemandMet g m n t
+  pub given : (t : Tolerances) (u v : Seam) → seams_fit g m n t u v ≡ true → CoveredJoining u v → DemandMet g m n u v
+  pub covered : (t : Tolerances) → CoveredGrid g m n t →
+      DemandMet g m n (u_search g m n t.u).seam (v_search g m n t.v).seam
 
 -- demand 3
 abbrev pub Demand3 : List Float → ℕ → ℕ → Type 0
