@@ -7,7 +7,8 @@ use Rattle.tolerance.specs.Tolerance.{every_eps, tolerances_check}
 use Rattle.tolerance.specs.Table.{eps_fits}
 use Rattle.cyclic.specs.Search.{rows_check, new_vector}
 use Rattle.surface.specs.Found.{u_search, v_search}
-use Rattle.mesh.specs.Mesh.{mesh_check, triangulate_grid}
+use Rattle.mesh.specs.Mesh.{mesh_check}
+use Rattle.triangulation.proofs.Answers.{in_turn_lem}
 use Rattle.trace.specs.Trace.{check_lengths, trace_check, trace_flat}
 use Rattle.at_eps.specs.AtEps.{SameAtEps}
 
@@ -15,10 +16,10 @@ every_fits : tolerances_check every_eps ≡ passed
 every_fits = rw eps_fits
 
 pub same_at_eps : SameAtEps
-unfolding rows_check new_vector u_search v_search mesh_check triangulate_grid trace_check trace_flat
+unfolding rows_check new_vector u_search v_search mesh_check trace_check trace_flat
 same_at_eps =
     record {
       rows = λ a b. rw eps_fits;
-      triangles = λ g m n lent. rw every_fits;
+      triangles = λ g m n lent. rw (in_turn_lem g m n every_eps lent, every_fits);
       trace = λ g m n pairs marks l. rw (every_fits, then_nothing (check_lengths pairs marks));
     }

@@ -3,7 +3,8 @@ use Rattle.std.specs.Prelude.{ℕ, ◌≡◌, List, Float}
 use Rattle.float.specs.Consts.{eps}
 use Rattle.tolerance.specs.Tolerance.{every_eps}
 use Rattle.cyclic.specs.Search.{new_vector}
-use Rattle.mesh.specs.Mesh.{MeshLists, triangulate_grid}
+use Rattle.mesh.specs.Mesh.{MeshLists}
+use Rattle.triangulation.specs.Triangulation.{triangulate_grid}
 use Rattle.page.specs.Page.{Lists}
 use Rattle.trace.specs.Trace.{trace_flat}
 use Rattle.at_eps.specs.Before as before

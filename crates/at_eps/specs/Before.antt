@@ -11,8 +11,9 @@ use Rattle.cyclic.specs.declared.seam.SeamSearch.{SeamSearch}
 use Rattle.cyclic.specs.Search.{close_at, search, row_fits}
 use Rattle.surface.specs.Surface.{Shape}
 use Rattle.surface.specs.Found.{column, row, surface_with}
-use Rattle.mesh.specs.declared.Meshed.{Meshed}
-use Rattle.mesh.specs.Mesh.{MeshLists, written, meshed}
+use Rattle.mesh.specs.Mesh.{MeshLists, written}
+use Rattle.triangulation.specs.declared.Meshed.{Meshed}
+use Rattle.triangulation.specs.Triangulation.{meshed}
 use Rattle.page.specs.Page.{Lists}
 use Rattle.trace.specs.Drawing.{room_in}
 use Rattle.trace.specs.Trace.{check_lengths, marks_fit, pairs_fit, drawing_of, finished}

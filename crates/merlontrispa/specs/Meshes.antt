@@ -4,7 +4,7 @@ use Rattle.refusal.specs.Refusals.{Answer, ok, refused}
 use Rattle.cyclic.specs.Search.{searched}
 use Rattle.grid_seams.specs.declared.Seams.{Seams}
 use Rattle.mesh.specs.declared.MeshCounts.{MeshCounts}
-use Rattle.mesh.specs.declared.Meshed.{Meshed}
+use Rattle.triangulation.specs.declared.Meshed.{Meshed}
 use Rattle.merlontrispa.specs.declared.found.SeamsAnswer.{SeamsAnswer}
 use Rattle.merlontrispa.specs.declared.given.CountsAnswer.{CountsAnswer}
 use Rattle.merlontrispa.specs.declared.meshes.MeshAnswer.{MeshAnswer}

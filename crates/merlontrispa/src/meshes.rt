@@ -6,13 +6,14 @@ ghost use Rattle.lent.specs.Lent.{afterwards, answering};
 ghost use Rattle.tolerance.specs.Tolerance.{tolerances};
 ghost use Rattle.surface.specs.Found.{SurfaceMeets};
 ghost use Rattle.refusal.specs.Refusals.{stated};
-ghost use Rattle.mesh.specs.Mesh.{mesh_lists, triangulate_grid};
+ghost use Rattle.mesh.specs.Mesh.{mesh_lists};
+ghost use Rattle.triangulation.specs.Triangulation.{triangulate_grid};
 ghost use Rattle.merlontrispa.specs.Meshes.{mesh_answer};
 
 use crate::seams::{FoundSeam, no_seam};
 use crate::tolerances::tolerances_from_c;
-use mesh::Meshed;
 use refusal::Refusal;
+use triangulation::Meshed;
 
 // Both seams and the counts of triangles and flipped pairs, or the number of a refusal.
 #[repr(C)]
@@ -66,5 +67,5 @@ pub extern "C" fn mt_triangulate_grid(
     ensures surface { SurfaceMeets grid.now m n }
 {
     let tolerances = tolerances_from_c(u_tolerance, v_tolerance, line_tolerance);
-    MeshAnswer::from(mesh::triangulate_grid(grid, m, n, tolerances, triangles, flipped))
+    MeshAnswer::from(triangulation::triangulate_grid(grid, m, n, tolerances, triangles, flipped))
 }

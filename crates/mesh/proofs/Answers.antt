@@ -1,7 +1,6 @@
--- The open call's answer and lists: its refusals in order, what is known where none applies, and the lists that are
--- handed over.
-use Rattle.std.specs.Prelude.{Ok, Err, Result}
-use Rattle.refusal.specs.Refusals.{passed, stated}
+-- The tests and the lists of both triangulations: what is known where no test refuses, and the lists that are handed
+-- over.
+use Rattle.refusal.specs.Refusals.{passed}
 use Prim.Native.Nat.{ℕ, ◌+◌, ◌-◌, ◌*◌, ◌≤◌}
 use mathlib.Core.Path.{◌≡◌, sym, ap, ◌∙◌}
 use mathlib.Core.List.{List}
@@ -11,24 +10,15 @@ use lib.Seq.{length-take-le}
 use native.Mathlib.Omega.{arith}
 use borrow.Rule.Slice.PartMut.{mid_of, put_mid}
 use Rattle.std.proofs.lemmas.Grind.{common_steps}
-use Rattle.refusal.specs.declared.Refusal.{Refusal}
 use Rattle.refusal.proofs.Laws.{then_passed}
 use Rattle.tolerance.specs.declared.Tolerances.{Tolerances}
 use Rattle.tolerance.specs.Tolerance.{tolerances_check}
 use Rattle.lent.specs.Lent.{room_check, filled, zeroed_from, afterwards}
-use Rattle.lent.proofs.Laws.{zeroed_filled, answered_in, room_passed}
+use Rattle.lent.proofs.Laws.{zeroed_filled, room_passed}
 use Rattle.grid.specs.Grid.{Accepted}
-use Rattle.grid.proofs.Laws.{grid_passed, grid_accepted, accepted_known}
+use Rattle.grid.proofs.Laws.{grid_passed, grid_accepted}
 use Rattle.surface.specs.Surface.{Shape, Triangle, kept, slots, triangles, flipped}
-use Rattle.surface.specs.Found.{surface_with}
-use Rattle.surface.proofs.Joinings.{u_of_row, v_of_row}
-use Rattle.grid_seams.specs.declared.Seams.{Seams}
-use Rattle.grid_seams.specs.Seams.{seams_of}
-use Rattle.mesh.specs.declared.MeshCounts.{MeshCounts}
-use Rattle.mesh.specs.declared.Meshed.{Meshed}
-use Rattle.mesh.specs.Mesh.{triangle_numbers, pair_numbers, mesh_check, mesh_lists, meshed, written}
-use Rattle.mesh.specs.Mesh.{triangulate_grid}
-use Rattle.mesh.specs.Bounded.{Bounded}
+use Rattle.mesh.specs.Mesh.{triangle_numbers, pair_numbers, mesh_check, mesh_lists, written}
 use Rattle.mesh.specs.Held.{triangles_in, pairs_in}
 use Rattle.mesh.proofs.Holding.{triangles_held, pairs_held}
 use Rattle.mesh.proofs.Cells.{held_triangles}
@@ -55,21 +45,6 @@ admitted g m n tolerances t f h =
       tolerable = own.0;
       triangle_room = room.0;
       pair_room = room.1;
-    }
-
--- The seams that are found fit the grid
-
-pub found_bounded : (g : List Float) (m n : ℕ) (tolerances : Tolerances) {s : Seams} →
-    Accepted g m n → s ≡ seams_of g m n tolerances → Bounded m n s.u.seam s.v.seam
-found_bounded g m n tolerances {s} h e =
-    let k = (accepted_known g m n h).steps in
-    record {
-      m_least = k.m_least;
-      m_most = k.m_most;
-      n_least = k.n_least;
-      n_most = k.n_most;
-      u_maps = rw e (u_of_row g m n tolerances.u k.n_least);
-      v_maps = rw e (v_of_row g m n tolerances.v k.m_least);
     }
 
 -- Filled lists
@@ -126,21 +101,3 @@ lists_written s t f t' f' {rest} {rest'} k p ts tk tl tr ps pk pl pr =
       held_triangles k t' all,
       held_pairs p f' ps,
     )
-
-module _ (g : List Float) (m n : ℕ) (tolerances : Tolerances) (t f : List ℕ) where
-  -- the answer a, with the lists t' and f', where t and f were lent
-  abbrev Hands : Result Meshed Refusal → List ℕ → List ℕ → Type 0
-  Hands a t' f' =
-      afterwards (stated a) (mesh_lists t' f') ≡ triangulate_grid g m n tolerances (mesh_lists t f)
-
-  pub refused_hands : {k : Refusal} → Err k ≡ mesh_check g m n tolerances t f → Hands (Err k) t f
-  unfolding triangulate_grid
-  refused_hands e = rw (← e)
-
-  pub passed_hands : (t' f' : List ℕ) {s : Seams} {r : MeshCounts} → passed ≡ mesh_check g m n tolerances t f →
-      s ≡ seams_of g m n tolerances →
-      afterwards r (mesh_lists t' f') ≡ written (surface_with m n s.u.seam s.v.seam) (mesh_lists t f) →
-      Hands (Ok (record { seams = s; counts = r })) t' f'
-  unfolding triangulate_grid
-  passed_hands t' f' e seams w =
-      rw (← e) (answered_in (meshed (seams_of g m n tolerances)) (rw seams) (rw seams at w))

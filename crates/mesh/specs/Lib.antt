@@ -1,4 +1,4 @@
--- The contract of the open call cites Mesh. Bounded, Corners, Held, Writers and Rims serve inner contracts only.
+-- The contracts of the open calls of `triangulation` cite Mesh. Bounded, Corners, Held, Writers and Rims serve inner contracts only.
 pub mod Mesh
 pub mod Bounded
 pub mod Corners

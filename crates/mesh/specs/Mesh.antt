@@ -1,16 +1,12 @@
--- Rules 4, 8 and 11 of `triangulate_grid`: what it answers and leaves in the two lent lists, or which refusal it gives.
+-- Rules 4, 8 and 11 of both triangulations: the refusals before 14, and what is left in the two lent lists.
 use Rattle.std.specs.Prelude.{ℕ, ◌+◌, ◌*◌, List, [], ◌∷◌, length, Float}
-use Rattle.refusal.specs.Refusals.{Check, Answer, ok, and_then}
+use Rattle.refusal.specs.Refusals.{Check, and_then}
 use Rattle.tolerance.specs.declared.Tolerances.{Tolerances}
 use Rattle.tolerance.specs.Tolerance.{tolerances_check}
-use Rattle.lent.specs.Lent.{room_check, filled, Afterwards, afterwards, answering, if_passed}
+use Rattle.lent.specs.Lent.{room_check, filled, Afterwards, afterwards}
 use Rattle.grid.specs.Grid.{grid_check}
 use Rattle.surface.specs.Surface.{Triangle, Pair, Shape, triangles, flipped}
-use Rattle.surface.specs.Found.{surface_of}
-use Rattle.grid_seams.specs.declared.Seams.{Seams}
-use Rattle.grid_seams.specs.Seams.{seams_of}
 use Rattle.mesh.specs.declared.MeshCounts.{MeshCounts}
-use Rattle.mesh.specs.declared.Meshed.{Meshed}
 
 -- the numbers of the points of each triangle in turn
 unfoldable pub triangle_numbers : List Triangle → List ℕ
@@ -43,13 +39,3 @@ written s lent =
     afterwards (record { triangles = length (triangles s); pairs = length (flipped s) })
     (mesh_lists (filled 0 (triangle_numbers (triangles s)) lent.triangles)
     (filled 0 (pair_numbers (flipped s)) lent.flipped))
-
--- the counts, with the seams that were found
-abbrev pub meshed : Seams → MeshCounts → Answer Meshed
-meshed s c = ok (record { seams = s; counts = c })
-
--- the open call; a refusal leaves the lists as they were (Rules 8.3)
-unfoldable pub triangulate_grid : List Float → ℕ → ℕ → Tolerances → MeshLists → Afterwards (Answer Meshed) MeshLists
-triangulate_grid g m n tolerances lent =
-    if_passed (mesh_check g m n tolerances lent.triangles lent.flipped) lent
-    (answering (meshed (seams_of g m n tolerances)) (written (surface_of g m n tolerances) lent))

@@ -1,18 +1,16 @@
-// Triangles and flipped pairs of a grid, from the seams that are found in it (Rules 4).
+// Triangles and flipped pairs of a surface into lent lists, and the tests before that (Rules 4).
 #![tactic(auto)]
 
 ghost use Rattle.std.specs.Prelude.{◌+◌, ◌*◌, ◌≤◌, ◌≡◌, IfOk, length};
 ghost use Rattle.grid.specs.Grid.{IsGiven};
-ghost use Rattle.refusal.specs.Refusals.{tested, stated};
+ghost use Rattle.refusal.specs.Refusals.{tested};
 ghost use Rattle.lent.specs.Lent.{afterwards};
-ghost use Rattle.surface.specs.Found.{SurfaceMeets};
 ghost use Rattle.mesh.specs.Corners.{shape_of};
-ghost use Rattle.mesh.specs.Mesh.{mesh_check, mesh_lists, written, triangulate_grid};
+ghost use Rattle.mesh.specs.Mesh.{mesh_check, mesh_lists, written};
 
 use corner::Surface;
 use flipped::RowStarts;
 use grid::Grid;
-use grid_seams::Seams;
 use refusal::Refusal;
 use tolerance::Tolerances;
 
@@ -20,13 +18,6 @@ pub mod corner;
 mod flipped;
 mod pairs;
 mod triangles;
-
-// Both seams with their comparisons, the count of triangles and the count of flipped pairs.
-#[derive(Clone, Copy)]
-pub struct Meshed {
-    pub seams: Seams,
-    pub counts: MeshCounts,
-}
 
 // The count of triangles and the count of flipped pairs.
 #[derive(Clone, Copy)]
@@ -76,36 +67,4 @@ pub fn triangulate(surface: Surface, triangles: &mut [usize], flipped: &mut [usi
         triangles: count,
         pairs,
     }
-}
-
-// The triangles and flipped pairs of a grid of m by n steps into the two lists, for the seams that are found in it at
-// the tolerances. That of lines is tested and not used. It is not the two calls in turn, since these go through the
-// coordinates twice (docs/DECISIONS.md).
-// The clause surface stands on each open call, as a project rule has it.
-#[tactic(auto, unfolding(crate::specs::Mesh::triangulate_grid))]
-pub fn triangulate_grid(
-    points: &[f64],
-    m: usize,
-    n: usize,
-    tolerances: Tolerances,
-    triangles: &mut [usize],
-    flipped: &mut [usize],
-) -> Result<Meshed, Refusal>
-    ensures handed { afterwards (stated result) (mesh_lists triangles.new flipped.new)
-        ≡ triangulate_grid points.now m n tolerances
-        (mesh_lists triangles.old flipped.old) }
-    ensures surface { SurfaceMeets points.now m n }
-{
-    let grid = check_mesh(points, m, n, tolerances, triangles, flipped)?;
-    let seams = grid_seams::search_grid(&grid, tolerances);
-    let surface = Surface {
-        m,
-        n,
-        u: seams.u.seam,
-        v: seams.v.seam,
-    };
-    Ok(Meshed {
-        seams,
-        counts: triangulate(surface, triangles, flipped),
-    })
 }

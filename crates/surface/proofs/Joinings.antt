@@ -1,7 +1,6 @@
--- Demand 3 for the seams that are found. A search tries offsets below the steps of its rows only, so a mapping that it
--- finds has its row's steps and an offset below them; with that, a covered joining (Rules 5.2) makes a shape that the
--- theorem is proved for.
-use Prim.Native.Nat.{ℕ, ◌+◌, ◌*◌, ◌≤◌}
+-- Demand 3 for seams that fit, given or found. A mapping that fits has its row's steps and an offset below them; with
+-- that, a covered joining (Rules 5.2) makes a shape that the theorem is proved for. What a search finds fits.
+use Prim.Native.Nat.{ℕ, ◌≤◌}
 use mathlib.Core.Path.{◌≡◌, refl, ap}
 use mathlib.Core.Bool.{true}
 use mathlib.Core.Logic.{inl, inr}
@@ -16,32 +15,16 @@ use Rattle.cyclic.specs.declared.mapping.CyclicMapping.{CyclicMapping}
 use Rattle.cyclic.specs.declared.mapping.CyclicMapping.TheVariants.{Forward, Reverse}
 use Rattle.cyclic.specs.Mapping.{Seam, steps_of}
 use Rattle.cyclic.specs.Mapping as mapping
-use Rattle.cyclic.specs.Search.{Row, row_of, Closeness, close_at, search_rows}
+use Rattle.cyclic.specs.Search.{Row, Closeness, close_at}
 use Rattle.cyclic.specs.Fits.{seam_fits}
-use Rattle.cyclic.proofs.Laws.{found_steps, found_below}
 use Rattle.cyclic.proofs.Fits.{fits_known}
 use Rattle.surface.specs.Surface.{forward, inverse, Meets}
 use Rattle.surface.specs.Found.{column, row, u_search, v_search, of_mapping, surface_with, ForwardAtZero}
 use Rattle.surface.specs.Found.{CoveredJoining, SurfaceMeets, Maps}
 use Rattle.surface.specs.Given.{seams_fit, GivenMeets}
 use Rattle.surface.proofs.Covered.{Covered, neither, only_u, only_v, both_u, both_v}
-use Rattle.surface.proofs.Searches.{u_search_lem, v_search_lem, found_in}
+use Rattle.surface.proofs.Searches.{found_in}
 use Rattle.surface.proofs.Demand.{covered_meets}
-
--- ---- what a search finds
-
-found_of_row : (close : Closeness) (a b : Row) (steps : ℕ) → 1 ≤ steps → Maps (search_rows close a b steps).seam steps
-found_of_row close a b steps h = go (search_rows close a b steps).seam refl
-  where
-    go : (s : Seam) → (search_rows close a b steps).seam ≡ s → Maps s steps
-    go None e = tt
-    go (Some k) e = (found_steps close a b steps e, found_below close a b steps h e)
-
-pub u_of_row : (g : List Float) (m n : ℕ) (t : Float) → 1 ≤ n → Maps (u_search g m n t).seam n
-u_of_row g m n t h = rw (u_search_lem g m n t h) (found_of_row (close_at t) (row_of g 0 1) (row_of g (m * (n + 1)) 1) n h)
-
-pub v_of_row : (g : List Float) (m n : ℕ) (t : Float) → 1 ≤ m → Maps (v_search g m n t).seam m
-v_of_row g m n t h = rw (v_search_lem g m n t h) (found_of_row (close_at t) (row_of g 0 (n + 1)) (row_of g n (n + 1)) m h)
 
 -- the inverse image that a surface takes is the mapping's own
 pub inverse_of : (k : CyclicMapping) (b : ℕ) → inverse (of_mapping k) (steps_of k) b ≡ mapping.inverse k b
@@ -69,13 +52,6 @@ covered m n (Some (Reverse o k)) (Some j) p q (inr c) = both_u (omega (arith, c.
 pub joining_meets : (m n : ℕ) (su sv : Seam) → 1 ≤ m → 1 ≤ n → Maps su n → Maps sv m → CoveredJoining su sv →
     Meets (surface_with m n su sv)
 joining_meets m n su sv hm hn p q c = covered_meets (surface_with m n su sv) hm hn (covered m n su sv p q c)
-
--- demand 3 of the surface of a grid, with the seams that are found in it, whatever the tolerances
-pub surface_meets : (g : List Float) (m n : ℕ) → SurfaceMeets g m n
-surface_meets g m n a t c =
-    let s = (accepted_known g m n a).steps in
-    joining_meets m n (u_search g m n t.u).seam (v_search g m n t.v).seam s.m_least s.n_least
-    (u_of_row g m n t.u s.n_least) (v_of_row g m n t.v s.m_least) c
 
 -- ---- seams that fit
 
@@ -109,3 +85,9 @@ given_meets g m n a t u v fit c =
     let s = (accepted_known g m n a).steps in
     let maps = given_map g m n t u v fit in
     joining_meets m n u v s.m_least s.n_least maps.0 maps.1 c
+
+-- the seams that are found are such seams, whatever the tolerances
+pub surface_meets : (g : List Float) (m n : ℕ) → SurfaceMeets g m n
+surface_meets g m n a t c =
+    let s = (accepted_known g m n a).steps in
+    given_meets g m n a t (u_search g m n t.u).seam (v_search g m n t.v).seam (found_fits g m n t s.m_least s.n_least) c

@@ -1,3 +1,3 @@
--- The contract of `triangulate_seams` cites Triangulation. Table has known results, and no contract cites it.
+-- The contracts of both calls cite Triangulation. Table has known results, and no contract cites it.
 pub mod Triangulation
 pub mod Table

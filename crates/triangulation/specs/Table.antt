@@ -1,11 +1,13 @@
--- The known results of Rules 4.5, by computation: whole calls over seams that are given.
+-- The known results of Rules 4.5, by computation: whole calls over seams that are given, and which of the refusals of the
+-- two calls in turn is handed on.
 use Rattle.std.specs.Prelude.{ℕ, ◌≡◌, refl, Bool, true, List, [], ◌∷◌, ◌++◌, Float, replicate, Some, None}
+use Rattle.std.specs.Float.{nan}
 use Rattle.std.specs.Float.Ieee.{of_bits, lt, le, neg, sub, round}
-use Rattle.float.specs.Consts.{eps, zero64, one64}
+use Rattle.float.specs.Consts.{eps, zero64, one64, half64}
 use Rattle.float.specs.Sign.{absolute, is_finite}
 use Rattle.float.specs.Order.{larger}
 use Rattle.refusal.specs.Refusals.{ok, refused}
-use Rattle.tolerance.specs.Tolerance.{every_eps}
+use Rattle.tolerance.specs.Tolerance.{tolerances, every_eps}
 use Rattle.lent.specs.Lent.{afterwards}
 use Rattle.vector.specs.Vectors.{all_close}
 use Rattle.grid.specs.Grid.{point_at, coordinates_fit, grid_check}
@@ -13,19 +15,20 @@ use Rattle.cyclic.specs.declared.mapping.CyclicMapping.TheVariants.{Forward, Rev
 use Rattle.cyclic.specs.Mapping as mapping
 use Rattle.cyclic.specs.Search.{try_from, closed}
 use Rattle.cyclic.specs.Fits.{seam_fits}
-use Rattle.cyclic.specs.Table.{along, two64, nine64, round_row}
+use Rattle.cyclic.specs.Table.{along, two64, nine64, round_row, open_row, open_row_further}
 use Rattle.surface.specs.Surface.{corner_by, corner, half_of, slot, slots, kept, triangles, triangle_number, step_on}
 use Rattle.surface.specs.Surface.{low_u, high_u, low_v, high_v, process, flipped}
 use Rattle.surface.specs.Given.{seams_fit}
+use Rattle.grid_seams.specs.Seams.{find_seams}
 use Rattle.mesh.specs.Mesh.{MeshLists, mesh_lists, triangle_numbers, pair_numbers, mesh_check}
-use Rattle.triangulation.specs.Triangulation.{given_check, triangulate_seams}
+use Rattle.triangulation.specs.Triangulation.{given_check, triangulate_seams, triangulate_grid}
 
 -- `unfolding computed` opens every definition that a closed result of this file needs
 unfoldable computed : Bool
 unfolding mapping.image mapping.inverse try_from closed seam_fits seams_fit point_at coordinates_fit grid_check all_close
     larger absolute is_finite eps of_bits lt le neg sub round corner_by corner half_of slot slots kept triangles
     triangle_number step_on low_u high_u low_v high_v process flipped triangle_numbers pair_numbers mesh_check given_check
-    triangulate_seams
+    triangulate_seams find_seams triangulate_grid
 computed = true
 
 -- the two lists, as long as the call asks for, of 7s
@@ -62,8 +65,24 @@ shifted :
 unfolding computed
 shifted = (refl, refl)
 
+-- 1 by 3 steps at 1/2: each point is close to its image, and a is open
+open_a : (triangulate_seams (open_row ++ open_row_further) 1 3 (tolerances half64 half64 half64) (Some (Forward 2 3)) None
+    (lent 18 8)).answer
+    ≡ refused 14
+unfolding computed
+open_a = refl
+
 -- one cell without seams
 no_seam : triangulate_seams (replicate 12 zero64) 1 1 every_eps None None (lent 6 4)
     ≡ afterwards (ok (record { triangles = 2; pairs = 0 })) (mesh_lists (0 ∷ 2 ∷ 1 ∷ 2 ∷ 3 ∷ 1 ∷ []) (replicate 4 0))
 unfolding computed
 no_seam = refl
+
+-- one cell with a NaN, and lists without room: the first call gives 4, and both in turn 3
+abbrev with_nan : List Float
+with_nan = nan ∷ replicate 11 zero64
+
+room_first : (find_seams with_nan 1 1 every_eps ≡ refused 4)
+    × (triangulate_grid with_nan 1 1 every_eps (lent 5 4) ≡ afterwards (refused 3) (lent 5 4))
+unfolding computed
+room_first = (refl, refl)

@@ -1,4 +1,5 @@
--- Rules 4, 8 and 11 of `triangulate_seams`: what it answers and leaves in the two lent lists, or which refusal it gives.
+-- Rules 4, 8 and 11 of `triangulate_seams` and `triangulate_grid`: what they answer and leave in the two lent lists, or
+-- which refusal they give.
 use Rattle.std.specs.Prelude.{ℕ, List, Float, None}
 use Rattle.refusal.specs.declared.Refusal.TheVariants.{Mapping}
 use Rattle.refusal.specs.Refusals.{Check, passed, Answer, ok, refused, values_or, unless, and_then}
@@ -11,8 +12,8 @@ use Rattle.surface.specs.Given.{seams_fit}
 use Rattle.grid_seams.specs.declared.Seams.{Seams}
 use Rattle.grid_seams.specs.Seams.{find_seams}
 use Rattle.mesh.specs.declared.MeshCounts.{MeshCounts}
-use Rattle.mesh.specs.declared.Meshed.{Meshed}
-use Rattle.mesh.specs.Mesh.{MeshLists, written, mesh_check, meshed}
+use Rattle.mesh.specs.Mesh.{MeshLists, written, mesh_check}
+use Rattle.triangulation.specs.declared.Meshed.{Meshed}
 
 -- ---- refusals
 
@@ -32,7 +33,11 @@ triangulate_seams g m n tolerances u v lent =
 
 -- ---- over the seams that are found
 
--- the counts, with the seams that were found; a refusal has its number and no seam
+-- the counts, with the seams that were found
+abbrev pub meshed : Seams → MeshCounts → Answer Meshed
+meshed s c = ok (record { seams = s; counts = c })
+
+-- the same of an answer: a refusal has its number and no seam
 abbrev pub with_seams : Seams → Answer MeshCounts → Answer Meshed
 with_seams s (ok c) = meshed s c
 with_seams s (refused k) = refused k
@@ -41,9 +46,9 @@ with_seams s (refused k) = refused k
 abbrev pub no_seams : Seams
 no_seams = record { u = searched None 0; v = searched None 0 }
 
--- Rules 4.5: `find_seams`, and `triangulate_seams` with what it found. Where the first is refused nothing was found, and
--- the number is that of the second: so 3 comes before 4. It is `triangulate_grid` (`in_turn_lem` of the proofs).
-unfoldable pub triangulate_in_turn : List Float → ℕ → ℕ → Tolerances → MeshLists → Afterwards (Answer Meshed) MeshLists
-triangulate_in_turn g m n tolerances lent =
+-- Rules 4.5: the open call `triangulate_grid`: `find_seams`, and `triangulate_seams` with what it found. Where the
+-- first is refused nothing was found, and the number is that of the second: so 3 comes before 4.
+unfoldable pub triangulate_grid : List Float → ℕ → ℕ → Tolerances → MeshLists → Afterwards (Answer Meshed) MeshLists
+triangulate_grid g m n tolerances lent =
     let seams = values_or no_seams (find_seams g m n tolerances) in
     answering (with_seams seams) (triangulate_seams g m n tolerances seams.u.seam seams.v.seam lent)

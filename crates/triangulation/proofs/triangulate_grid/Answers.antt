@@ -1,12 +1,14 @@
--- `mesh::triangulate_grid` meets its contract: the refusals in order, then the seams, then the lists; and demand 3 of
--- the grid's lists.
+-- `triangulation::triangulate_grid` meets its contract: the tests of both calls at once, then the seams, then the lists,
+-- which is the two calls in turn; and demand 3 of the grid's lists.
 use Rattle.std.proofs.Common.{◌≡◌, sym}
+use Rattle.std.proofs.lemmas.Result.{err_from_is_err_and}
 use Rattle.grid.proofs.Laws.{accepted_known}
 use Rattle.grid_seams.specs.Seams.{seams_of}
 use Rattle.surface.proofs.Joinings.{surface_meets}
-use Rattle.mesh.proofs.Answers.{Admitted, admitted, found_bounded, passed_hands}
-use Rattle.mesh.proofs.triangulate_grid.Goals as goal
-use Rattle.mesh.proofs.triangulate_grid.Goals.{In_ok-grid, After-search_grid-seams}
+use Rattle.mesh.proofs.Answers.{Admitted, admitted}
+use Rattle.triangulation.proofs.Answers.{found_bounded, refused_hands, passed_hands}
+use Rattle.triangulation.proofs.triangulate_grid.Goals as goal
+use Rattle.triangulation.proofs.triangulate_grid.Goals.{In_ok-grid, After-search_grid-seams}
 
 -- no refusal applies
 let_in : (e : In_ok-grid) → let a = e.args in Admitted a.points.now a.m a.n a.tolerances a.triangles.now a.flipped.now
@@ -41,6 +43,13 @@ triangulate-requires-clause-triangle_room c =
 pub triangulate-requires-clause-pair_room : goal.triangulate-requires-clause-pair_room
 triangulate-requires-clause-pair_room c =
     (let_in (goal.at.triangulate-requires-clause-pair_room c).In_ok-grid).pair_room
+
+pub returns-in_err-grid-clause-handed : goal.returns-in_err-grid-clause-handed
+returns-in_err-grid-clause-handed c =
+    let a = c.args in
+    let p = err_from_is_err_and c.from_residual.result c.from_residual.ensures.1 in
+    rw (p.1, p.2)
+    (refused_hands a.points.now a.m a.n a.tolerances a.triangles.now a.flipped.now c.in_err-grid.ensures.check)
 
 pub returns-in_err-grid-clause-surface : goal.returns-in_err-grid-clause-surface
 returns-in_err-grid-clause-surface c = surface_meets c.args.points.now c.args.m c.args.n
