@@ -16,14 +16,8 @@ pub fn triangulate_grid(case: &[u64]) -> Option<bool> {
     let triangles = part(field(case, 5)?, &mut triangles)?;
     let flipped = part(field(case, 6)?, &mut flipped)?;
     let (m, n) = (number(numbers, 2), number(numbers, 3));
-    let answer = triangulation::triangulate_grid(
-        grid,
-        m,
-        n,
-        tolerances(numbers),
-        triangles,
-        flipped,
-    );
+    let tolerances = tolerances(numbers);
+    let answer = triangulation::triangulate_grid(grid, m, n, tolerances, triangles, flipped);
     let told = told(recorded, answer, |meshed| {
         is_seam(u, meshed.seams.u)
             && is_seam(v, meshed.seams.v)
