@@ -36,7 +36,8 @@ pub struct Sheet<'a> {
 }
 
 // Zero in every place of a list past its first `count` items, each of `width` numbers; none if it is no longer than
-// those. By a loop: `fill` clones, and that a clone of any T cannot fail is not known.
+// those. By a loop, since one function serves f64 and usize: `fill` clones, and of any T the check does not know that
+// a clone cannot fail.
 fn zero_from<T: Copy>(list: &mut [T], width: usize, count: usize, zero: T)
     ensures { list.new ≡ zeroed_from zero (width * count) list.old }
 {
