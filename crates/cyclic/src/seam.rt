@@ -161,6 +161,7 @@ impl TwoRows<'_> {
     pub fn search(&self, tolerance: f64) -> SeamSearch
         ensures { result ≡ search_rows (close_at tolerance) (row_a self.now) (row_b self.now) self.now.steps }
     {
+        // Named once for the loops.
         let steps = self.steps;
         let ends = self.closed(tolerance);
         let end = if ends.fits { steps } else { 1 };

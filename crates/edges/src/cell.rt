@@ -39,7 +39,7 @@ fn on_diagonal(point: ParamPoint, u: usize, v: usize) -> bool
     within(s, 1.0) & (within(t, 1.0) & (abs(s + t - 1.0) < EPS))
 }
 
-// The cell of two indices, where the point is on its diagonal.
+// The cell of two indices, where the point is on its diagonal. A cell stays two numbers, as `ParamEdge` has it.
 #[tactic(auto, unfolding(crate::specs::Cell::try_cell))]
 fn try_cell(point: ParamPoint, i: Option<usize>, j: Option<usize>) -> Option<(usize, usize)>
     ensures { result ≡ try_cell point i j }

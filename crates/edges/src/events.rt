@@ -40,7 +40,8 @@ fn precedes(x: f64, y: f64) -> bool
     total_cmp(x, y).is_lt()
 }
 
-// Puts x at a place among the first `count` of a list, and moves up what stands there and after.
+// Puts x at a place among the first `count` of a list, and moves up what stands there and after. The count goes beside
+// the list, since what is moved ends at a place that is free.
 fn put_at<T: Copy>(list: &mut [T], count: usize, place: usize, x: T)
     requires { (place ≤ count) × (count < length list.old) }
     ensures long { length list.new ≡ length list.old }

@@ -53,7 +53,7 @@ fn seam_fits(rows: &TwoRows<'_>, tolerance: f64, seam: Option<CyclicMapping>) ->
         && points_fit(rows, tolerance, mapping)
 }
 
-// Whether both fit, each at its tolerance.
+// Whether both fit, each at its tolerance. Tolerances and seams go side by side, as in the open call and in C.
 #[tactic(auto, unfolding(surface::specs::Given::seams_fit))]
 pub fn seams_fit(
     grid: &Grid<'_>,

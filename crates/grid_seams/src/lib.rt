@@ -26,14 +26,13 @@ fn u_rows<'a>(grid: &Grid<'a>) -> TwoRows<'a>
     ensures { AreRows (column grid.now.points.now grid.now.cells.n 0)
         (column grid.now.points.now grid.now.cells.n grid.now.cells.m) grid.now.cells.n result }
 {
-    let cells = grid.cells;
     TwoRows {
         a: grid.points,
         a_start: 0,
         b: grid.points,
-        b_start: cells.m * (cells.n + 1),
+        b_start: grid.cells.m * (grid.cells.n + 1),
         stride: 1,
-        steps: cells.n,
+        steps: grid.cells.n,
     }
 }
 
@@ -43,14 +42,13 @@ fn v_rows<'a>(grid: &Grid<'a>) -> TwoRows<'a>
     ensures { AreRows (row grid.now.points.now grid.now.cells.n 0)
         (row grid.now.points.now grid.now.cells.n grid.now.cells.n) grid.now.cells.m result }
 {
-    let cells = grid.cells;
     TwoRows {
         a: grid.points,
         a_start: 0,
         b: grid.points,
-        b_start: cells.n,
-        stride: cells.n + 1,
-        steps: cells.m,
+        b_start: grid.cells.n,
+        stride: grid.cells.n + 1,
+        steps: grid.cells.m,
     }
 }
 

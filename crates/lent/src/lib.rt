@@ -1,8 +1,9 @@
-// Rules 8: lists that a caller lends for output: whether they have room, and how much a call drew into them.
+// Rules 8: lists that a caller lends for output: whether they have room, zero past what a call writes, and how much a call
+// drew into them.
 #![tactic(auto)]
 
 ghost use Rattle.std.specs.Prelude.{◌≡◌};
-ghost use Rattle.lent.specs.Lent.{room_check};
+ghost use Rattle.lent.specs.Lent.{room_check, zeroed_from};
 
 use refusal::Refusal;
 
@@ -21,5 +22,16 @@ pub fn check_room(need: usize, have: usize, need_too: usize, have_too: usize) ->
         Ok(())
     } else {
         Err(Refusal::Room)
+    }
+}
+
+// Zero from place `from` on; none where the list ends before it. By a loop, since one function serves f64 and usize:
+// `fill` clones, and of any T the check does not know that a clone cannot fail.
+pub fn zero_from<T: Copy>(list: &mut [T], from: usize, zero: T)
+    ensures { list.new ≡ zeroed_from zero from list.old }
+{
+    let from = from.min(list.len());
+    for place in &mut list[from..] {
+        *place = zero;
     }
 }

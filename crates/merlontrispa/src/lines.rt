@@ -1,6 +1,7 @@
 // Grid lines, and a line as a part of the points.
 // C passes a grid, and lines with their counts, one by one: they stay parameters side by side.
-// C has no enum with values: an answer is a struct with a refusal's number, and zeros beside one.
+// C has no enum with values: an answer is a struct with a refusal's number, and zeros beside one; each has a name of its
+// own in the header.
 ghost use Rattle.std.specs.Prelude.{◌≡◌};
 ghost use Rattle.lent.specs.Lent.{afterwards, answering};
 ghost use Rattle.refusal.specs.Refusals.{stated};
@@ -105,7 +106,8 @@ pub extern "C" fn mt_line_span(
     SpanAnswer::from(path::line_span(points, starts, point_count, line_count, index))
 }
 
-// What `get` hands back, as a part of the points: a reference cannot be handed to C.
+// What `get` hands back, as a part of the points: a reference cannot be handed to C. No `From`: that the products fit is
+// known of a line's span alone.
 #[unsafe(no_mangle)]
 pub extern "C" fn mt_get(
     points: &[f64],

@@ -5,6 +5,7 @@ ghost use Rattle.mesh.specs.Bounded.{Bounded, Maps-prop};
 use cyclic::mapping::CyclicMapping;
 
 // A grid's steps, and two seams of its own lines.
+// m and n and no Cells, as the definitions over a surface have them.
 #[derive(Clone, Copy)]
 pub struct Surface {
     pub m: usize,

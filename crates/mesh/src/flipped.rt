@@ -37,7 +37,7 @@ struct RimCounts<'a> {
 }
 
 impl Surface {
-    // The seam of an axis.
+    // The seam of an axis. As in `Axis`: of a pair of both the fields would lose their names.
     fn seam(self, axis: Axis) -> Option<CyclicMapping>
         ensures { result ≡ seam_at axis self }
     {
@@ -161,21 +161,20 @@ impl RowStarts<'_> {
         ensures pairs { pairs_in result list.new ≡ allFlipped (shape_of self.now.surface) }
         ensures held { 2 * result ≤ length list.new }
     {
-        let surface = self.surface;
         let mut low = [0usize; 256];
         let mut high = [0usize; 256];
         self.count_row(0, &mut low);
-        self.count_row(surface.m - 1, &mut high);
+        self.count_row(self.surface.m - 1, &mut high);
         let mut pairs = Pairs { list, count: 0 };
         RimCounts {
-            surface,
+            surface: self.surface,
             axis: Axis::AxisU,
             low: &low,
             high: &high,
         }
         .flip_seam(&mut pairs);
         RimCounts {
-            surface,
+            surface: self.surface,
             axis: Axis::AxisV,
             low: self.starts,
             high: self.starts,

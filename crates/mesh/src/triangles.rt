@@ -99,6 +99,7 @@ impl Triangles<'_> {
         ensures same { same_triangles self.old self.new }
         ensures held { HoldsSlots self.new (2 * (u * self.old.surface.n + (v + 1))) }
     {
+        // A copy, since `add` takes the whole of `self`.
         let surface = self.surface;
         self.add(surface.triangle(u, v, Half::First));
         self.add(surface.triangle(u, v, Half::Second));

@@ -1,9 +1,8 @@
 // The lent lists as the walk fills them (Rules 7.3 to 7.5): points in place, pending ones after the kept ones.
 #![tactic(auto)]
 
-ghost use Rattle.std.specs.Prelude.{◌≡◌, ◌*◌, IsTrue, get_or};
+ghost use Rattle.std.specs.Prelude.{◌≡◌, IsTrue, get_or};
 ghost use Rattle.std.specs.Float.{nan};
-ghost use Rattle.lent.specs.Lent.{zeroed_from};
 
 use crossing::Crossing;
 use refusal::Refusal;
@@ -33,17 +32,6 @@ pub struct Sheet<'a> {
     pub fractions: &'a mut [f64],
     pub samples: &'a mut [usize],
     pub pen: Pen,
-}
-
-// Zero in every place of a list past its first `count` items, each of `width` numbers; none if it is no longer than
-// those. By a loop: `fill` clones, and that a clone of any T cannot fail is not known.
-fn zero_from<T: Copy>(list: &mut [T], width: usize, count: usize, zero: T)
-    ensures { list.new ≡ zeroed_from zero (width * count) list.old }
-{
-    let from = width.saturating_mul(count).min(list.len());
-    for place in &mut list[from..] {
-        *place = zero;
-    }
 }
 
 // Each method says `same_lists`: its contract is all that tells a caller that the lists are the same.
@@ -191,16 +179,17 @@ impl<'a> Sheet<'a> {
         if inside { Ok(()) } else { self.flush_segment() }
     }
 
-    // Every place past the points and the lines so far is made zero.
+    // Every place past the points and the lines so far is made zero. Saturated, as in `point`.
+    #[tactic(auto, using(crate::proofs::Ends::same_zeroes))]
     pub fn zero_rest(&mut self)
         ensures same { same_lists self.old self.new }
         ensures page { page_of self.new ≡ zeroed_past (page_of self.old) }
     {
         let Pen { count, lines, .. } = self.pen;
-        zero_from(self.points, 3, count, 0.0);
-        zero_from(self.starts, 1, lines, 0);
-        zero_from(self.sides, 2, count, 0);
-        zero_from(self.fractions, 1, count, 0.0);
-        zero_from(self.samples, 1, count, 0);
+        lent::zero_from(self.points, count.saturating_mul(3), 0.0);
+        lent::zero_from(self.starts, lines, 0);
+        lent::zero_from(self.sides, count.saturating_mul(2), 0);
+        lent::zero_from(self.fractions, count, 0.0);
+        lent::zero_from(self.samples, count, 0);
     }
 }

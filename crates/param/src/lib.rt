@@ -24,7 +24,7 @@ pub struct Leg {
 }
 
 // The cells that a leg runs across: m steps in u, n in v.
-// No bound in them: all that make cells would have to show it, where three functions of `edges` ask for it.
+// No bound in them: `param_in_bounds` and others ask for none, and a type may ask no more of their callers.
 #[derive(Clone, Copy)]
 pub struct Cells {
     pub m: usize,

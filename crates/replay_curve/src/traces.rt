@@ -3,7 +3,7 @@ use cases::answers::told;
 use cases::lists::{part, read, same};
 use cases::rooms::{self, MARK_ROOM, PAIR_ROOM};
 use cases::words::{field, is_told, number, tolerances};
-use page::{Pen, Sheet};
+use page::Sheet;
 
 // The call on a sheet, and whether it answers what is recorded.
 fn is_drawn(case: &[u64], sheet: &mut Sheet<'_>) -> Option<bool> {
@@ -34,14 +34,7 @@ pub fn trace_flat(case: &[u64]) -> Option<bool> {
     let sides = part(field(case, 7)?, &mut sides)?;
     let fractions = part(field(case, 8)?, &mut fractions)?;
     let samples = part(field(case, 9)?, &mut samples)?;
-    let mut sheet = Sheet {
-        points,
-        starts,
-        sides,
-        fractions,
-        samples,
-        pen: Pen::default(),
-    };
+    let mut sheet = Sheet::new(points, starts, sides, fractions, samples);
     let drawn = is_drawn(case, &mut sheet)?;
     let Sheet {
         points,

@@ -26,6 +26,7 @@ pub fn triangulate_grid(case: &[u64]) -> Option<bool> {
     Some(told && same(triangles, field(case, 5)?) && same(flipped, field(case, 6)?))
 }
 
+// It begins as the one above: a struct of what both read would name and fill each list for two calls.
 pub fn triangulate_seams(case: &[u64]) -> Option<bool> {
     let mut grid = rooms::floats();
     let mut triangles = rooms::numbers();
@@ -33,8 +34,7 @@ pub fn triangulate_seams(case: &[u64]) -> Option<bool> {
     let numbers = field(case, 0)?;
     let recorded = field(case, 2)?;
     let grid = read(field(case, 1)?, &mut grid)?;
-    let u = given_seam(field(case, 3)?)?;
-    let v = given_seam(field(case, 4)?)?;
+    let (u, v) = (given_seam(field(case, 3)?), given_seam(field(case, 4)?));
     let triangles = part(field(case, 5)?, &mut triangles)?;
     let flipped = part(field(case, 6)?, &mut flipped)?;
     let (m, n) = (number(numbers, 2), number(numbers, 3));

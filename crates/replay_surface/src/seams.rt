@@ -32,20 +32,28 @@ pub fn map_index_inv(case: &[u64]) -> Option<bool> {
     is_index(case, mapping(numbers).map_index_inv(number(numbers, 5)))
 }
 
-// A recorded seam: its direction (0 for none, 1 forward, 2 reverse), offset and steps, both zero for none. None where
-// it is none of these.
-pub fn given_seam(words: &[u64]) -> Option<Option<CyclicMapping>> {
-    match (word(words, 0), number(words, 1), number(words, 2)) {
-        (0, 0, 0) => Some(None),
-        (1, offset, steps) => Some(Some(CyclicMapping::Forward(offset, steps))),
-        (2, offset, steps) => Some(Some(CyclicMapping::Reverse(offset, steps))),
-        _ => None,
+// A seam that is recorded as given: its direction (0 for none, 1 forward, any other reverse), offset and steps. C says the
+// same by two flags.
+pub fn given_seam(words: &[u64]) -> Option<CyclicMapping> {
+    let (offset, steps) = (number(words, 1), number(words, 2));
+    match word(words, 0) {
+        0 => None,
+        1 => Some(CyclicMapping::Forward(offset, steps)),
+        _ => Some(CyclicMapping::Reverse(offset, steps)),
     }
 }
 
-// Whether a search is the recorded one: a seam, and the count of comparisons.
+// Whether a search is the recorded one: a seam, by its numbers, which are zero for none, and the count of comparisons.
 pub fn is_seam(recorded: &[u64], search: SeamSearch) -> bool {
-    given_seam(recorded) == Some(search.seam) && word(recorded, 3) == search.comparisons
+    let (direction, offset, steps) = match search.seam {
+        None => (0, 0, 0),
+        Some(CyclicMapping::Forward(offset, steps)) => (1, offset, steps),
+        Some(CyclicMapping::Reverse(offset, steps)) => (2, offset, steps),
+    };
+    word(recorded, 0) == direction
+        && number(recorded, 1) == offset
+        && number(recorded, 2) == steps
+        && word(recorded, 3) == search.comparisons
 }
 
 pub fn new_vector(case: &[u64]) -> Option<bool> {

@@ -72,7 +72,8 @@ fn samples_along(length: f64, spacing: f64) -> f64
     up_from(2.0, length / clamp(spacing, 0.05, 0.5))
 }
 
-// As many rays as keep the spacing between neighbours on the circle; at least 1.
+// As many rays as keep the spacing between neighbours on the circle; at least 1. Cells and spacing go side by side here
+// and below, as the rule's formulas have them.
 #[tactic(auto, unfolding(crate::specs::Plan::swirl_rays, float::specs::Consts::tau))]
 fn swirl_rays(cells: Cells, spacing: f64) -> f64
     ensures { result ≡ swirl_rays cells.m cells.n spacing }

@@ -45,10 +45,9 @@ fn decide(grid: &Grid<'_>, leg: Leg, previous: f64, event: EdgeEvent, next: f64)
     requires { Inside grid.now.cells event.edge }
     ensures { result ≡ decide grid.now.points.now grid.now.cells leg previous event next }
 {
-    let cells = grid.cells;
     let here = leg.at(event.lambda);
-    let before = between_inside(cells, leg, previous, event.lambda, here);
-    let inside = between_inside(cells, leg, event.lambda, next, leg.b);
+    let before = between_inside(grid.cells, leg, previous, event.lambda, here);
+    let inside = between_inside(grid.cells, leg, event.lambda, next, leg.b);
     let point = if before || inside {
         edge_point(grid, event.edge, here)
             .map(Some)
