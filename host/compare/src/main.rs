@@ -14,9 +14,8 @@
 //! as `--shrink` says, printed by its bits, and written to difference.txt or the file that
 //! `--write` names. `--replay` runs the written case alone: status 1 while it differs, 0 when it
 //! does no longer. `--bytes` runs one case that the bytes of a file choose (`-` is stdin), as a
-//! fuzzer wants it. `--record` writes the cases that `crates/replay` runs, and says what they, and
-//! those that it leaves out, reach. Where the sources of the original are absent nothing is compared,
-//! and the status is 2.
+//! fuzzer wants it. `--record` writes the cases that `crates/replay` runs, and says what they
+//! reach. Where the sources of the original are absent nothing is compared, and the status is 2.
 
 use std::process::ExitCode;
 

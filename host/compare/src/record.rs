@@ -3,8 +3,7 @@
 //! A case is one call: its inputs, the answer of the original or a refusal of Rules 11, and every
 //! lent list afterwards. Inputs are made at random from a seed, and one is kept if it reaches
 //! something that few of those before it reach. What has to be reached is listed here, and the
-//! command fails where it is not. The last cases, of seams that are found and given, are made and
-//! held to that like the others, but not written: `crates/replay` does not run them yet (issue 21).
+//! command fails where it is not.
 //!
 //! The text is of numbers to the base 16. A field is a count and as many numbers, on a line of its
 //! own; a case is a field, which begins with its count. Field 0 has the number of cases. In a case
@@ -301,8 +300,6 @@ pub fn bits(x: f64) -> u64 {
 pub struct Record {
     seed: u64,
     cases: Vec<Recorded>,
-    /// How many of the cases are written: the first ones.
-    written: usize,
     reached: BTreeMap<String, u32>,
 }
 
@@ -312,7 +309,6 @@ impl Record {
         let mut record = Self {
             seed,
             cases: Vec::new(),
-            written: 0,
             reached: BTreeMap::new(),
         };
         seams::record(&mut record);
@@ -321,7 +317,6 @@ impl Record {
         traces::record(&mut record);
         textures::record(&mut record);
         vectors::record(&mut record);
-        record.written = record.cases.len();
         meshes::given::record(&mut record);
         record
     }
@@ -352,9 +347,8 @@ impl Record {
         self.cases.push(case);
     }
 
-    /// How many cases are written, and how many are made and left out.
-    pub fn counts(&self) -> [usize; 2] {
-        [self.written, self.cases.len() - self.written]
+    pub fn len(&self) -> usize {
+        self.cases.len()
     }
 
     /// How many cases reach each thing, line by line.
@@ -365,7 +359,7 @@ impl Record {
             .collect()
     }
 
-    /// What no case reaches, written or left out.
+    /// What no case reaches.
     pub fn missing(&self) -> Vec<String> {
         let refusals = REFUSALS.iter().flat_map(|&(call, numbers)| {
             let refused = numbers
@@ -389,9 +383,8 @@ impl Record {
     }
 
     pub fn text(&self) -> String {
-        let cases = &self.cases[..self.written];
-        let mut text = line(&[cases.len() as u64]);
-        for case in cases {
+        let mut text = line(&[self.cases.len() as u64]);
+        for case in &self.cases {
             text += &format!("{:X}\n", case.length());
             text.extend(case.fields.iter().map(|field| line(field)));
         }
@@ -425,19 +418,7 @@ mod tests {
             record.text() == committed("stdin"),
             "compare --record FILE makes another"
         );
-        let [written, _] = record.counts();
-        let expected = format!("replay: {written} cases, 0 differ\n");
+        let expected = format!("replay: {} cases, 0 differ\n", record.len());
         assert_eq!(committed("stdout"), expected);
-    }
-
-    /// So what other calls have to reach is reached by cases that are written.
-    #[test]
-    fn what_is_left_out_is_of_seams_found_and_given() {
-        let record = Record::new(SEED);
-        let left_out = &record.cases[record.written..];
-        assert!(!left_out.is_empty());
-        for case in left_out {
-            assert!(matches!(case.call, FindSeams | TriangulateSeams));
-        }
     }
 }

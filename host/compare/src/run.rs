@@ -61,8 +61,7 @@ fn record(seed: u64, file: &str) -> Result<ExitCode, String> {
         return Err(format!("no case reaches {}", missing.join("; ")));
     }
     fs::write(file, record.text()).map_err(|fault| format!("{file}: {fault}"))?;
-    let [written, left_out] = record.counts();
-    println!("compare: {written} cases recorded, {left_out} of seams found and given left out");
+    println!("compare: {} cases recorded", record.len());
     Ok(ExitCode::SUCCESS)
 }
 
