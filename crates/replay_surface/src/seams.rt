@@ -62,19 +62,21 @@ pub fn new_vector(case: &[u64]) -> Option<bool> {
     let a = read(field(case, 1)?, &mut a)?;
     let b = read(field(case, 2)?, &mut b)?;
     let tolerance = float(field(case, 0)?, 2);
-    let seam = field(case, 4)?;
     let answer = CyclicMapping::new_vector(a, b, tolerance);
-    Some(told(field(case, 3)?, answer, |search| is_seam(seam, search)))
+    // A refusal has no field after it.
+    Some(told(field(case, 3)?, answer, |search| {
+        field(case, 4).is_some_and(|seam| is_seam(seam, search))
+    }))
 }
 
 pub fn find_seams(case: &[u64]) -> Option<bool> {
     let mut grid = rooms::floats();
     let numbers = field(case, 0)?;
     let grid = read(field(case, 1)?, &mut grid)?;
-    let (u, v) = (field(case, 3)?, field(case, 4)?);
     let (m, n) = (number(numbers, 2), number(numbers, 3));
     let answer = grid_seams::find_seams(grid, m, n, tolerances(numbers));
     Some(told(field(case, 2)?, answer, |seams| {
-        is_seam(u, seams.u) && is_seam(v, seams.v)
+        field(case, 3).is_some_and(|u| is_seam(u, seams.u))
+            && field(case, 4).is_some_and(|v| is_seam(v, seams.v))
     }))
 }
