@@ -4,3 +4,4 @@ pub mod Lines
 pub mod Meshes
 pub mod Seams
 pub mod Textures
+pub mod Vectors

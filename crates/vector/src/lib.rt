@@ -6,7 +6,6 @@ ghost use Rattle.std.specs.Float.Ieee.{lt, is_nan};
 ghost use Rattle.float.specs.Sign.{absolute};
 ghost use Rattle.vector.specs.Vectors.{plus, minus, scaled, all_close};
 
-#[repr(C)]
 #[derive(Clone, Copy)]
 pub struct Vector {
     pub x: f64,

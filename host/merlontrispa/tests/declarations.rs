@@ -197,16 +197,19 @@ fn refusals() -> Vec<(String, u8, String)> {
 fn the_library_has_the_names_and_numbers_of_the_refusals() {
     let source = read("crates/refusal/src/lib.rt");
     let source = without(&source, "//", "\n");
-    let arms = source.split("Refusal::").skip(1).map(|rest| {
-        let (arm, _) = rest.split_once(',').expect("the end of an arm");
-        let (name, number) = arm.split_once(" => ").expect("a number");
+    let (_, variants) = source
+        .split_once("pub enum Refusal {")
+        .expect("the refusals");
+    let (variants, _) = variants.split_once(",\n}").expect("the last refusal");
+    let variants = variants.split(',').map(|variant| {
+        let (name, number) = variant.trim().split_once(" = ").expect("a number");
         (name.to_owned(), number.parse().expect("a u8"))
     });
-    let arms: Vec<(String, u8)> = arms.collect();
+    let variants: Vec<(String, u8)> = variants.collect();
     let ours = refusals()
         .into_iter()
         .map(|(name, number, _)| (name, number));
-    assert_eq!(arms, ours.collect::<Vec<_>>());
+    assert_eq!(variants, ours.collect::<Vec<_>>());
 }
 
 #[test]
