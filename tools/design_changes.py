@@ -10,7 +10,9 @@ import sys
 import tempfile
 import textwrap
 
-sys.path.insert(0, "/opt/rattle/port")
+# The kit's own folder: that of the page that `rt doc` names.
+KIT = os.path.dirname(subprocess.run(["rt", "doc"], capture_output=True, text=True, check=True).stdout.strip())
+sys.path.insert(0, os.path.join(KIT, "port"))
 import contracts  # noqa: E402
 
 BASE = sys.argv[1] if len(sys.argv) > 1 else "186f8010"
