@@ -2,7 +2,7 @@
 -- make the answer.
 use Rattle.std.specs.Prelude.{Option, Some, None}
 use Rattle.std.specs.Option.{MatchOption, option_map_or}
-use mathlib.Core.Path.{◌≡◌, refl, ◌∙◌}
+use mathlib.Core.Path.{◌≡◌, refl}
 use mathlib.Core.Bool.{Bool, true, false, cond}
 use mathlib.Core.List.{List, [], ◌∷◌, ◌++◌, append_assoc, append-nil}
 use Prim.Native.Nat.{ℕ, ◌+◌, ◌<◌, ◌≤◌}
@@ -13,9 +13,8 @@ use lib.Seq.{drop-cons, take-suc-set, take-set-lt, drop-set-lt}
 use lib.Ieee.{Float}
 use Rattle.edges.specs.declared.event.EdgeEvent.{EdgeEvent}
 use Rattle.edges.specs.Events.{close_by, unique_after, unique}
-use Rattle.edges.specs.Order.{Sorted, event_of, held, events_in, Ordered}
+use Rattle.edges.specs.Order.{event_of, held, events_in}
 use Rattle.edges.proofs.Places.{held_length, held_set, in_length, event_in}
-use Rattle.edges.proofs.Laws.{unique_sorted}
 
 -- what the last lambda of those kept, if there is one, makes of the events that are left
 abbrev pub left_by : Option Float → List EdgeEvent → List EdgeEvent
@@ -49,48 +48,39 @@ pub record Keeping (es : List EdgeEvent) (ls : List Float) (cs : List ℕ) (foun
     (last : Option Float) : Type 0 where
   pub behind : kept ≤ i
   pub to : i ≤ found
-  pub few : found ≤ 1023
-  pub lambdas_length : length ls ≡ 1023
-  pub codes_length : length cs ≡ 1023
+  pub as_long : length ls ≡ length cs
+  pub room : found ≤ length ls
   pub answer : unique es ≡ events_in ls cs kept ++ left_by last (drop i (events_in ls cs found))
 
-pub keeping_starts : {ls : List Float} {cs : List ℕ} {found : ℕ} → Ordered ls cs found →
+pub keeping_starts : (ls : List Float) (cs : List ℕ) (found : ℕ) → length ls ≡ length cs → found ≤ length ls →
     Keeping (events_in ls cs found) ls cs found 0 0 None
-keeping_starts o =
+keeping_starts ls cs found e h =
     record {
       behind = omega arith;
       to = omega arith;
-      few = o.few;
-      lambdas_length = o.lambdas_length;
-      codes_length = o.codes_length;
+      as_long = e;
+      room = h;
       answer = refl;
     }
 
 module _ {es : List EdgeEvent} {ls : List Float} {cs : List ℕ} {found kept i : ℕ} {last : Option Float}
     (m : Keeping es ls cs found kept i last) where
-  as_long : length ls ≡ length cs
-  as_long = omega (arith, m.lambdas_length, m.codes_length)
-
-  room : found ≤ length ls
-  room = omega (arith, m.few, m.lambdas_length)
-
   module _ (f : Float) (z : ℕ) where
     abbrev here : EdgeEvent
     here = event_of (get_or ls i f) (get_or cs i z)
 
     next : i < found → drop i (events_in ls cs found) ≡ here ∷ drop (i + 1) (events_in ls cs found)
     next h =
-        let n : i < length (events_in ls cs found) = omega (arith, in_length ls cs found as_long room) in
-        rw (add-one, drop-cons (events_in ls cs found) i here n, event_in ls cs found as_long room i here f z h)
+        let n : i < length (events_in ls cs found) = omega (arith, in_length ls cs found m.as_long m.room) in
+        rw (add-one, drop-cons (events_in ls cs found) i here n, event_in ls cs found m.as_long m.room i here f z h)
 
     pub keeping_dropped : i < found → drops (get_or ls i f) last ≡ true → Keeping es ls cs found kept (i + 1) last
     keeping_dropped h t =
         record {
           behind = omega (arith, m.behind);
           to = omega arith;
-          few = m.few;
-          lambdas_length = m.lambdas_length;
-          codes_length = m.codes_length;
+          as_long = m.as_long;
+          room = m.room;
           answer = rw (m.answer, next h, next_left last here, t);
         }
 
@@ -99,7 +89,7 @@ module _ {es : List EdgeEvent} {ls : List Float} {cs : List ℕ} {found kept i :
         (Some (get_or ls i f))
     keeping_kept h t =
         let r = held ls cs in
-        let k : kept < length r = omega (arith, m.behind, held_length ls cs as_long, room) in
+        let k : kept < length r = omega (arith, m.behind, held_length ls cs m.as_long, m.room) in
         let rest : drop (i + 1) (take found (set r kept here)) ≡ drop (i + 1) (take found r) =
         rw (
           take-set-lt found r kept here (omega (arith, m.behind)),
@@ -108,16 +98,15 @@ module _ {es : List EdgeEvent} {ls : List Float} {cs : List ℕ} {found kept i :
         record {
           behind = omega (arith, m.behind);
           to = omega arith;
-          few = m.few;
-          lambdas_length = length-set ls kept (get_or ls i f) ∙ m.lambdas_length;
-          codes_length = length-set cs kept (get_or cs i z) ∙ m.codes_length;
+          as_long = omega (arith, m.as_long, length-set ls kept (get_or ls i f), length-set cs kept (get_or cs i z));
+          room = omega (arith, m.room, length-set ls kept (get_or ls i f));
           answer =
               rw (
                 m.answer,
                 next h,
                 next_left last here,
                 t,
-                held_set ls cs kept (get_or ls i f) (get_or cs i z) as_long,
+                held_set ls cs kept (get_or ls i f) (get_or cs i z) m.as_long,
                 rest,
                 add-one kept,
                 take-suc-set r kept here k,
@@ -127,14 +116,5 @@ module _ {es : List EdgeEvent} {ls : List Float} {cs : List ℕ} {found kept i :
 
   pub keeping_ends : found ≤ i → events_in ls cs kept ≡ unique es
   keeping_ends h =
-      let past : length (events_in ls cs found) ≤ i = omega (arith, in_length ls cs found as_long room) in
+      let past : length (events_in ls cs found) ≤ i = omega (arith, in_length ls cs found m.as_long m.room) in
       rw (m.answer, drop_of_length-le (events_in ls cs found) past, none_left last, append-nil)
-
-  pub keeping_ordered : found ≤ i → Sorted es → Ordered ls cs kept
-  keeping_ordered h s =
-      record {
-        lambdas_length = m.lambdas_length;
-        codes_length = m.codes_length;
-        few = omega (arith, m.behind, m.to, m.few);
-        sorted = rw (keeping_ends h) (unique_sorted es s);
-      }

@@ -33,8 +33,8 @@ use Rattle.edges.specs.Cell.{diagonal_cell_at}
 use Rattle.edges.specs.Events.{event, edge_at_point, end_candidate, lambda_at, line_at, line_crossing, change}
 use Rattle.edges.specs.Events.{diagonal_event, diagonal_crossing, sum_of, change_of_sum, candidates, precedes}
 use Rattle.edges.specs.Events.{sort_into, close_by, unique_after, unique, sorted_edge_events, IfEvent, OnGrid}
-use Rattle.edges.specs.Order.{AscendFrom, Ascend, Placed, Sorted}
-use Rattle.edges.proofs.Order.{not_precedes_transitive, sort_ascends}
+use Rattle.edges.specs.Order.{AscendFrom, Ascend, Placed, Storable, Sorted}
+use Rattle.edges.proofs.Order.{not_precedes_transitive, sort_ascends, sorted_placed}
 use Rattle.edges.proofs.Grid.{on_line_lem, end_on_grid, line_on_grid, diagonal_on_grid}
 use Rattle.edges.proofs.Each.{each_event, each_candidate, each_sort, each_unique, length_sort, length_unique}
 use Rattle.edges.proofs.Each.{length_candidates}
@@ -169,7 +169,10 @@ kept_ascend (e ∷ es) n h =
 -- so that events in order stay so
 pub unique_sorted : (es : List EdgeEvent) → Sorted es → Sorted (unique es)
 unique_sorted es s =
-    record { ascend = (kept_ascend es s.placed s.ascend).0; placed = each_unique Placed es s.placed }
+    record {
+      ascend = (kept_ascend es (sorted_placed s) s.ascend).0;
+      storable = each_unique Storable es s.storable;
+    }
 
 module _ (k : Cells) (leg : Leg) where
   kept_in_order : Ascend (sorted_edge_events k leg) × Apart (sorted_edge_events k leg)

@@ -1,6 +1,7 @@
 -- Laws that belong to no one function.
 pub mod Steps
 pub mod Index
+pub mod Codes
 pub mod Grid
 pub mod Each
 pub mod Order

@@ -13,11 +13,12 @@ use Rattle.float.specs.Order.{total_order}
 use Rattle.std.specs.declared.cmp.Ordering.{Ordering}
 use Rattle.std.specs.declared.cmp.Ordering.TheVariants.{Less, Equal, Greater}
 use Rattle.basics.specs.Lists.{put_at, Each}
+use Rattle.basics.proofs.Lists.{each_implies}
 use Rattle.basics.proofs.Tests.{cannot, cond_case}
 use Rattle.float.proofs.Orders.{less_greater, not_less_transitive}
 use Rattle.edges.specs.declared.event.EdgeEvent.{EdgeEvent}
 use Rattle.edges.specs.Events.{precedes, insert, sort_into}
-use Rattle.edges.specs.Order.{AscendFrom, Ascend, Placed, Sorted}
+use Rattle.edges.specs.Order.{AscendFrom, Ascend, Placed, Storable, Sorted}
 use Rattle.edges.proofs.Each.{each_insert}
 
 -- ---- `precedes` is an order of lambdas
@@ -64,10 +65,17 @@ sort_ascends [] acc h = h
 sort_ascends (e ∷ es) acc h = sort_ascends es (insert e acc) (insert_ascends e acc h)
 
 -- ---- sorted events stay so
-pub sorted_insert : (e : EdgeEvent) (acc : List EdgeEvent) {r : List EdgeEvent} → Placed e → Sorted acc →
+pub sorted_none : Sorted []
+sorted_none = record { ascend = tt; storable = tt }
+
+pub sorted_insert : (e : EdgeEvent) (acc : List EdgeEvent) {r : List EdgeEvent} → Storable e → Sorted acc →
     r ≡ insert e acc → Sorted r
 sorted_insert e acc h s q =
-    rw q (record { ascend = insert_ascends e acc s.ascend; placed = each_insert Placed e acc h s.placed })
+    rw q (record { ascend = insert_ascends e acc s.ascend; storable = each_insert Storable e acc h s.storable })
+
+-- none of them is a NaN
+pub sorted_placed : {es : List EdgeEvent} → Sorted es → Each Placed es
+sorted_placed {es} s = each_implies Storable Placed (λ e h. h.1) es s.storable
 
 -- ---- the place of an event
 tail_ascends : (x : Float) (es : List EdgeEvent) → AscendFrom x es → Ascend es

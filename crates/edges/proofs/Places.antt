@@ -1,68 +1,99 @@
--- Events as one list: a value put at a place of both lists is an event put there, and a store to both is a store of an
--- event. And the place of an event, by what the last lambda and a search by halves say.
-use Rattle.std.proofs.Common.{◌≡◌, ℕ, zero, suc, ◌+◌, ◌-◌, ◌*◌, ◌/◌, ◌%◌, ◌<◌, ◌≤◌, Bool, true, false, not, Option, Some, None}
-use Rattle.std.proofs.Common.{List, [], ◌∷◌, ◌++◌, length, take, drop, get_or, slice_get, Bor}
-use Rattle.std.proofs.Common.{arith, refl, ap, sym, ◌∙◌, length-append, length-drop}
+-- Events as one list: a store to both lists is a store of an event. Room for a value is made by moving up what stands
+-- from its place on; and a value put at a place of both lists is an event put there. And the place of an event, by what
+-- the last lambda and a search by halves say.
+use Rattle.std.proofs.Common.{◌≡◌, ℕ, zero, suc, ◌+◌, ◌-◌, ◌<◌, ◌≤◌, Bool, true, false, Option, Some, None}
+use Rattle.std.proofs.Common.{List, [], ◌∷◌, length, take, drop, get_or, slice_get, Bor}
+use Rattle.std.proofs.Common.{arith, refl, ap, sym, ◌∙◌}
+use native.Mathlib.Numerals.{add-one}
+use lib.ListN.{set, length-set, drop_of_length-le}
+use lib.Seq.{drop-cons, get_or-take, get_or-set_same, set_split, take-take, take-set-le, take-set-lt, drop-set-lt}
+use lib.Seq.{length-take-le}
 use lib.Ieee.{Float, nan}
 use Rattle.std.specs.List.Sorted.{IsPartitionedBy, IsPartitionPoint}
 use Rattle.std.specs.Bool.{IsTrue}
 use Rattle.std.specs.Option.{MatchOption, option_copied, option_map_or}
-use Rattle.std.proofs.Math.ListN.{set, length-set}
-use Rattle.std.proofs.Math.Seq.{take-set-le, take-take, length-take-le, take-append_seam, drop-append_seam}
-use Rattle.std.proofs.lemmas.List.{drop-append-le, get_or-set_same, take_more, get_or-take}
-use Rattle.std.proofs.lemmas.Slice.{take-put_mid, between_is}
-use borrow.Author.Tests.{lt-ltb, le-ltb, not-true, not-false}
-use borrow.Rule.Slice.PartMut.{mid_of, put_mid}
+use Rattle.std.proofs.lemmas.Option.{slice_get-get_or}
+use borrow.Author.Tests.{not-true, not-false}
 use Rattle.basics.specs.Lists.{put_at}
 use Rattle.float.specs.Order.{total_order}
 use Rattle.edges.specs.declared.event.EdgeEvent.{EdgeEvent}
-use Rattle.edges.specs.declared.event.ParamEdge.{ParamEdge}
-use Rattle.edges.specs.declared.event.ParamEdge.TheVariants.{U, «V», Diagonal}
 use Rattle.edges.specs.Events.{precedes, insert}
-use Rattle.edges.specs.Side.{Codable, code_of, edge_of}
-use Rattle.edges.specs.Order.{Placed, event_of, held, events_in, Ordered}
-use Rattle.edges.proofs.Order.{sorted_insert, behind, parted, placed}
-use Rattle.std.proofs.lemmas.Option.{slice_get-get_or}
+use Rattle.edges.specs.Side.{code_of}
+use Rattle.edges.specs.Order.{Placed, Storable, Sorted, is_behind, event_of, held, events_in, PlaceOf, Ordered}
+use Rattle.edges.proofs.Codes.{event_back}
+use Rattle.edges.proofs.Order.{sorted_placed, parted, placed}
 
--- ---- the end of the front of a list, turned to a place in it
-module _ {A : Type 0} (xs : List A) (count place : ℕ) (d : A) (h : place ≤ count) (room : count < length xs) where
-  abbrev part : List A
-  part = mid_of place (count + 1 - place) xs
+-- ---- room is made at `place` among the first `count`: from the back, each is moved up by one
 
-  part_is : part ≡ drop place (take count xs) ++ get_or xs count d ∷ []
-  part_is =
-      let l : place ≤ length (take count xs) = omega (arith, length-take-le count xs (omega arith)) in
-      rw (between_is xs place (count + 1), take_more xs count d room)
-      (drop-append-le place (take count xs) (get_or xs count d ∷ []) l)
+-- so far those from i on are moved
+pub record Moving {A : Type 0} (xs : List A) (count place : ℕ) (ys : List A) (i : ℕ) : Type 0 where
+  pub from : place ≤ i
+  pub to : i ≤ count
+  pub as_long : length ys ≡ length xs
+  pub below : take i ys ≡ take i xs
+  pub above : drop (i + 1) (take (count + 1) ys) ≡ drop i (take count xs)
 
-  pub turned : (ys : List A) → ys ≡ drop (length part - 1) part ++ take (length part - 1) part →
-      take (count + 1) (put_mid place (count + 1 - place) xs ys) ≡ put_at place (get_or xs count d) (take count xs)
-  turned ys e =
-      let rest = drop place (take count xs) in
-      let x = get_or xs count d in
-      let n : length (take count xs) ≡ count = length-take-le count xs (omega arith) in
-      let k : length (rest ++ x ∷ []) - 1 ≡ length rest = simp length-append (omega arith) in
-      let turn : ys ≡ x ∷ rest =
-      rw (e, part_is, k, drop-append_seam rest (x ∷ []), take-append_seam rest (x ∷ [])) in
-      let m : count + 1 ≡ place + length ys = rw turn (simp length-drop (omega arith)) in
+module _ {A : Type 0} {xs : List A} {count place : ℕ} (room : count < length xs) where
+  pub moving_starts : place ≤ count → Moving xs count place xs count
+  moving_starts h =
+      let m : length (take (count + 1) xs) ≤ count + 1 = omega (arith, length-take-le (count + 1) xs (omega arith)) in
+      let n : length (take count xs) ≤ count = omega (arith, length-take-le count xs (omega arith)) in
+      record {
+        from = h;
+        to = omega arith;
+        as_long = refl;
+        below = refl;
+        above = drop_of_length-le (take (count + 1) xs) m ∙ sym (drop_of_length-le (take count xs) n);
+      }
+
+  pub moving_turn : {ys : List A} {i : ℕ} (d : A) → Moving xs count place ys i → place < i →
+      Moving xs count place (set ys i (get_or ys (i - 1) d)) (i - 1)
+  moving_turn {ys} {i} d m h =
+      let j = i - 1 in
+      let x = get_or ys j d in
+      let t = take (count + 1) ys in
+      let old = take count xs in
+      let e : j + 1 ≡ i = omega arith in
+      let before : j < i = omega arith in
+      let counted : j < count = omega arith in
+      let stood : x ≡ get_or old j d = rw (← get_or-take i ys j d, m.below, get_or-take i xs j d, get_or-take count xs j d) in
+      let fits : i < length t = omega (arith, length-take-le (count + 1) ys (omega arith)) in
+      let moved : drop i (take (count + 1) (set ys i x)) ≡ x ∷ drop (i + 1) t =
       rw (
-        take-put_mid place (count + 1 - place) xs ys (count + 1) m (omega arith),
-        ← take-take place count xs h,
-        turn,
-      )
+        take-set-lt (count + 1) ys i x (omega arith),
+        drop-cons (set t i x) i d (omega (arith, length-set t i x)),
+        get_or-set_same t i x d fits,
+        drop-set-lt (suc i) t i x (omega arith),
+        add-one i,
+      ) in
+      let next : drop j old ≡ get_or old j d ∷ drop (j + 1) old =
+      rw add-one (drop-cons old j d (omega (arith, length-take-le count xs (omega arith)))) in
+      record {
+        from = omega arith;
+        to = omega arith;
+        as_long = length-set ys i x ∙ m.as_long;
+        below =
+            take-set-le j ys i x (omega arith) ∙ sym (take-take j i ys (omega arith)) ∙ ap (take j) m.below
+            ∙ take-take j i xs (omega arith);
+        above = rw (next, ← stood, e, moved, m.above);
+      }
 
--- so a value that was written there stands at the place
-pub put_turned : {A : Type 0} (xs : List A) (count place : ℕ) (x : A) (ys : List A) → place ≤ count →
-    count < length xs →
-    ys ≡ drop (length (mid_of place (count + 1 - place) (set xs count x)) - 1) (mid_of place (count + 1 - place) (set xs count x))
-    ++ take (length (mid_of place (count + 1 - place) (set xs count x)) - 1) (mid_of place (count + 1 - place) (set xs count x)) →
-    take (count + 1) (put_mid place (count + 1 - place) (set xs count x) ys) ≡ put_at place x (take count xs)
-put_turned xs count place x ys h room e =
-    rw (
-      turned (set xs count x) count place x h (omega (arith, length-set xs count x)) ys e,
-      get_or-set_same xs count x x room,
-      take-set-le count xs count x (omega arith),
-    )
+  pub moving_ends : {ys : List A} {i : ℕ} (x : A) → Moving xs count place ys i → i ≤ place →
+      take (count + 1) (set ys place x) ≡ put_at place x (take count xs)
+  moving_ends {ys} {i} x m h =
+      let e : i ≡ place = omega arith in
+      let t = take (count + 1) ys in
+      let fits : place < length t = omega (arith, length-take-le (count + 1) ys (omega arith)) in
+      rw (
+        take-set-lt (count + 1) ys place x (omega arith),
+        set_split t place x,
+        take-take place (count + 1) ys (omega arith),
+        ← e,
+        m.below,
+        take-take i count xs (omega arith),
+        ← add-one i,
+        m.above,
+      )
 
 -- ---- the two lists as one
 pub held_length : (ls : List Float) (cs : List ℕ) → length ls ≡ length cs → length (held ls cs) ≡ length ls
@@ -127,53 +158,15 @@ events_length {ls} {cs} {count} o =
     in_length ls cs count (omega (arith, o.lambdas_length, o.codes_length)) (omega (arith, o.few, o.lambdas_length))
 
 -- what is read of both lists at i
-pub read_event : {ls : List Float} {cs : List ℕ} {count : ℕ} → Ordered ls cs count → (i : ℕ) (f : Float) (z : ℕ) →
-    i < length (events_in ls cs count) → slice_get (events_in ls cs count) i ≡ Some (event_of (get_or (take count ls) i f) (get_or cs i z))
-read_event {ls} {cs} {count} o i f z h =
+pub read_event : {ls : List Float} {cs : List ℕ} {count : ℕ} → Ordered ls cs count → (i : ℕ) →
+    i < length (events_in ls cs count) →
+    slice_get (events_in ls cs count) i ≡ Some (event_of (get_or ls i nan) (get_or cs i 0))
+read_event {ls} {cs} {count} o i h =
     let e : length ls ≡ length cs = omega (arith, o.lambdas_length, o.codes_length) in
     let n : count ≤ length ls = omega (arith, o.few, o.lambdas_length) in
-    let d = event_of (get_or ls i f) (get_or cs i z) in
+    let d = event_of (get_or ls i nan) (get_or cs i 0) in
     let k : i < count = omega (arith, events_length o) in
-    rw (get_or-take count ls i f k)
-    (slice_get-get_or (events_in ls cs count) i d h ∙ ap Some (event_in ls cs count e n i d f z k))
-
--- the number of a side says which side it is, since indices are below 256
-pub code_back : (e : ParamEdge) → Codable e → edge_of (code_of e) ≡ e
-unfolding code_of edge_of
-code_back (U u) h = let t : u < 256 = omega arith in simp (lt-ltb u 256 t)
-code_back («V» v) h =
-    let t : 256 ≤ 256 + v = omega arith in
-    let s : 256 + v < 512 = omega arith in
-    let q : 256 + v - 256 ≡ v = omega arith in
-    simp (le-ltb (256 + v) 256 t, lt-ltb (256 + v) 512 s, q)
-code_back (Diagonal u v) h =
-    let t : 256 ≤ 512 + 256 * u + v = omega arith in
-    let s : 512 ≤ 512 + 256 * u + v = omega arith in
-    let q : (512 + 256 * u + v - 512) / 256 ≡ u = omega arith in
-    let r : (512 + 256 * u + v - 512) % 256 ≡ v = omega arith in
-    simp (le-ltb (512 + 256 * u + v) 256 t, le-ltb (512 + 256 * u + v) 512 s, q, r)
-
--- an event put at a place
-module _ {ls : List Float} {cs : List ℕ} {count : ℕ} (o : Ordered ls cs count) (e : EdgeEvent) where
-  pub inserted : (place : ℕ) (ms : List Float) (ds : List ℕ) (c : ℕ) → c ≡ code_of e.edge → Codable e.edge →
-      take (count + 1) ms ≡ put_at place e.lambda (take count ls) →
-      take (count + 1) ds ≡ put_at place c (take count cs) →
-      events_in ms ds (count + 1) ≡ put_at place e (events_in ls cs count)
-  inserted place ms ds c q f h k =
-      let same : event_of e.lambda c ≡ e = rw (q, code_back e.edge f) refl in
-      events_put ls cs count place e.lambda c ms ds (omega (arith, o.lambdas_length, o.codes_length))
-      (omega (arith, o.few, o.lambdas_length)) h k
-      ∙ ap (λ (x : EdgeEvent). put_at place x (events_in ls cs count)) same
-
-  pub ordered : (ms : List Float) (ds : List ℕ) → length ms ≡ 1023 → length ds ≡ 1023 → count < 1023 → Placed e →
-      events_in ms ds (count + 1) ≡ insert e (events_in ls cs count) → Ordered ms ds (count + 1)
-  ordered ms ds l m h n i =
-      record {
-        lambdas_length = l;
-        codes_length = m;
-        few = omega arith;
-        sorted = sorted_insert e (events_in ls cs count) n o.sorted i;
-      }
+    slice_get-get_or (events_in ls cs count) i d h ∙ ap Some (event_in ls cs count e n i d nan 0 k)
 
 -- ---- the last of a list, if there is one, and what a test says of it
 abbrev pub last_of : {A : Type 0} → List A → Option A
@@ -186,59 +179,66 @@ pub last_says : {A : Type 0} (xs : List A) (test : A → Bool) (r : Option (Bor 
 last_says xs test None P e m h = rw (← e) m
 last_says xs test (Some x) P e m h = rw (← e) (h x m)
 
--- ---- the place of an event, as the code tests for it: behind those that it does not precede
-module _ {ls : List Float} {cs : List ℕ} {count : ℕ} (o : Ordered ls cs count) (e : EdgeEvent) (n : Placed e) where
+-- ---- the place of a lambda, as the code tests for it: behind those that it does not precede
+module _ (l : Float) (ls : List Float) where
+  -- where l goes behind the last, it goes to the end
+  pub goes_last : option_map_or (is_behind l) (last_of ls) true ≡ true → PlaceOf l ls (length ls) (length ls)
+  goes_last t =
+      record {
+        most = omega arith;
+        after = λ i h. not-true _ (last i h);
+        before = λ h. absurd (omega arith);
+      }
+    where
+      last : (i : ℕ) → i + 1 ≡ length ls → is_behind l (get_or ls i nan) ≡ true
+      last i h =
+          let q : length ls - 1 ≡ i = omega arith in
+          rw (q, slice_get-get_or ls i nan (omega arith)) at t
+
+  -- else the search by halves finds where
+  pub goes_there : (p : ℕ) → p ≤ length ls →
+      IsPartitionPoint (λ k. is_behind l k ≡ true) (λ k. is_behind l k ≡ false) ls p → PlaceOf l ls (length ls) p
+  goes_there p h f =
+      record {
+        most = h;
+        after = λ i q. not-true _ (f.0 i nan (omega arith) (omega arith));
+        before = λ q. not-false _ (f.1 p nan (omega arith) (omega arith));
+      }
+
+-- ---- an event put where its lambda's place is
+module _ (ls : List Float) (cs : List ℕ) (count : ℕ) (same : length ls ≡ length cs) (room : count ≤ length ls)
+    (s : Sorted (events_in ls cs count)) (e : EdgeEvent) where
   abbrev found : List Float
   found = take count ls
 
   abbrev es : List EdgeEvent
   es = events_in ls cs count
 
-  -- what is asked of a lambda
-  abbrev pub behind_at : Float → Bool
-  behind_at l = not (precedes (total_order e.lambda l))
-
   in_found : length found ≡ count
-  in_found = length-take-le count ls (omega (arith, o.few, o.lambdas_length))
+  in_found = length-take-le count ls room
 
-  asked : (i : ℕ) (d : Float) (x : EdgeEvent) → i < length found → behind_at (get_or found i d) ≡ behind e n (get_or es i x)
+  asked : (i : ℕ) (d : Float) (x : EdgeEvent) → i < length found → get_or found i d ≡ (get_or es i x).lambda
   asked i d x l =
       let k : i < count = omega (arith, in_found) in
-      rw (
-        get_or-take count ls i d k,
-        event_in ls cs count (omega (arith, o.lambdas_length, o.codes_length)) (omega (arith, o.few, o.lambdas_length))
-            i x d (get_or cs i 0) k,
-      )
+      rw (get_or-take count ls i d k, event_in ls cs count same room i x d (get_or cs i 0) k)
 
-  -- where e goes behind the last, it goes to the end
-  pub goes_last : option_map_or behind_at (last_of found) true ≡ true →
-      (length found ≤ length es) × (put_at (length found) e es ≡ insert e es)
-  goes_last t =
-      let l : length es ≡ length found = omega (arith, in_found, events_length o) in (
-        omega arith,
-        placed e n es (length found) e o.sorted.ascend o.sorted.placed (omega arith) (λ i h. not-true _ (last i h))
-            (λ h. absurd (omega arith)),
-      )
-    where
-      last : (i : ℕ) → i + 1 ≡ length found → behind e n (get_or es i e) ≡ true
-      last i h =
-          let q : length found - 1 ≡ i = omega arith in
-          sym (asked i nan e (omega arith)) ∙ (rw (q, slice_get-get_or found i nan (omega arith)) at t)
+  pub parted_lambdas : Placed e → IsPartitionedBy (is_behind e.lambda) found
+  parted_lambdas n i j d l h t =
+      let x : EdgeEvent = e in
+      let m : length es ≡ length found = omega (arith, in_found, in_length ls cs count same room) in
+      ap (is_behind e.lambda) (asked i d x (omega arith))
+      ∙ parted e n es s.ascend (sorted_placed s) i j x l (omega arith)
+      (sym (ap (is_behind e.lambda) (asked j d x h)) ∙ t)
 
-  -- else the search by halves finds where
-  pub parted_lambdas : IsPartitionedBy behind_at found
-  parted_lambdas i j d l h t =
-      let m : length es ≡ length found = omega (arith, in_found, events_length o) in
-      asked i d e (omega arith)
-      ∙ parted e n es o.sorted.ascend o.sorted.placed i j e l (omega arith) (sym (asked j d e h) ∙ t)
-
-  pub goes_there : (p : ℕ) → p ≤ length found →
-      IsPartitionPoint (λ k. behind_at k ≡ true) (λ k. behind_at k ≡ false) found p →
-      (p ≤ length es) × (put_at p e es ≡ insert e es)
-  goes_there p h f =
-      let l : length es ≡ length found = omega (arith, in_found, events_length o) in (
-        omega arith,
-        placed e n es p e o.sorted.ascend o.sorted.placed (omega arith)
-            (λ i q. not-true _ (sym (asked i nan e (omega arith)) ∙ f.0 i nan (omega arith) (omega arith)))
-            (λ q. not-false _ (sym (asked p nan e (omega arith)) ∙ f.1 p nan (omega arith) (omega arith))),
-      )
+  pub inserted : (place : ℕ) (ms : List Float) (ds : List ℕ) {c : ℕ} → Storable e → c ≡ code_of e.edge →
+      PlaceOf e.lambda found (length found) place →
+      take (count + 1) ms ≡ put_at place e.lambda (take count ls) →
+      take (count + 1) ds ≡ put_at place c (take count cs) →
+      events_in ms ds (count + 1) ≡ insert e es
+  inserted place ms ds {c} n q f h k =
+      let m : length es ≡ length found = omega (arith, in_found, in_length ls cs count same room) in
+      events_put ls cs count place e.lambda c ms ds same room h k
+      ∙ ap (λ (x : EdgeEvent). put_at place x es) (event_back e q n.0)
+      ∙ placed e n.1 es place e s.ascend (sorted_placed s) (omega (arith, f.most))
+      (λ i g. ap (λ x. precedes (total_order e.lambda x)) (sym (asked i nan e (omega (arith, f.most)))) ∙ f.after i g)
+      (λ g. ap (λ x. precedes (total_order e.lambda x)) (sym (asked place nan e (omega arith))) ∙ f.before (omega arith))

@@ -2,7 +2,6 @@
 -- fits, and its lambda is from 0 to 1, so no NaN.
 use Rattle.std.specs.Prelude.{Option, Some, None}
 use Prim.Native.Nat.{ℕ, ◌≤◌}
-use native.Mathlib.Omega.{arith}
 use native.Mathlib.Nat.{le_trans}
 use lib.Dec.{lit≤}
 use lib.Ieee.{Float}
@@ -14,21 +13,13 @@ use Rattle.param.specs.declared.Leg.{Leg}
 use Rattle.param.specs.declared.Cells.{Cells}
 use Rattle.param.specs.declared.Axis.{Axis}
 use Rattle.param.specs.Param.{along, steps_on}
-use Rattle.edges.specs.declared.event.ParamEdge.{ParamEdge}
-use Rattle.edges.specs.declared.event.ParamEdge.TheVariants.{U, «V», Diagonal}
 use Rattle.edges.specs.declared.event.EdgeEvent.{EdgeEvent}
 use Rattle.edges.specs.Events.{edge_at_point, end_candidate, lambda_at, change, line_candidate, sum_of, change_of_sum}
-use Rattle.edges.specs.Events.{diagonal_candidate, Inside, IfEvent, OnGrid}
-use Rattle.edges.specs.Side.{Codable}
+use Rattle.edges.specs.Events.{diagonal_candidate, IfEvent, OnGrid}
 use Rattle.edges.specs.Order.{Storable}
+use Rattle.edges.proofs.Codes.{inside_codable}
 use Rattle.edges.proofs.Grid.{end_on_grid, line_on_grid, diagonal_on_grid}
 use Rattle.edges.proofs.Laws.{ZeroToOne, OnLeg, normalized, end_on_leg, line_on_leg, diagonal_on_leg}
-
--- a side of a grid of at most 255 steps fits
-inside_codable : (k : Cells) (e : ParamEdge) → k.m ≤ 255 → k.n ≤ 255 → Inside k e → Codable e
-inside_codable k (U u) hm hn h = omega arith
-inside_codable k («V» v) hm hn h = omega arith
-inside_codable k (Diagonal u v) hm hn h = (omega arith, omega arith)
 
 module _ (k : Cells) (hm : k.m ≤ 255) (hn : k.n ≤ 255) where
   storable : (c : Option EdgeEvent) → IfEvent (OnGrid k) c → IfEvent OnLeg c → IfEvent Storable c

@@ -1,6 +1,7 @@
 -- For inner contracts only: the events of a leg in order, and where they stand (Rules 6.4). Their lambdas are in one
 -- list and the numbers of their sides in another, each of 1,023 places, and a count says how many there are.
-use Rattle.std.specs.Prelude.{false, List, [], ◌∷◌, ◌≡◌, ℕ, ◌≤◌, length, take, Float}
+use Rattle.std.specs.Prelude.{Bool, true, false, not, List, [], ◌∷◌, ◌≡◌, ℕ, ◌+◌, ◌≤◌, ◌<◌, length, take, get_or, Float}
+use Rattle.std.specs.Float.{nan}
 use Rattle.std.specs.Float.Ieee.{is_nan}
 use Rattle.basics.specs.Lists.{Each}
 use Rattle.float.specs.Order.{total_order}
@@ -28,7 +29,18 @@ Storable e = Codable e.edge × Placed e
 -- such events, in order
 pub record Sorted (es : List EdgeEvent) : Type 0 where
   pub ascend : Ascend es
-  pub placed : Each Placed es
+  pub storable : Each Storable es
+
+-- what l goes behind in an order: what it does not precede
+abbrev pub is_behind : Float → Float → Bool
+is_behind l other = not (precedes (total_order l other))
+
+-- a place among the first `count` lambdas: l does not precede the one before it, and precedes the one that stands
+-- there
+pub record PlaceOf (l : Float) (lambdas : List Float) (count place : ℕ) : Type 0 where
+  pub most : place ≤ count
+  pub after : (i : ℕ) → i + 1 ≡ place → precedes (total_order l (get_or lambdas i nan)) ≡ false
+  pub before : place < count → precedes (total_order l (get_or lambdas place nan)) ≡ true
 
 abbrev pub event_of : Float → ℕ → EdgeEvent
 event_of l c = event l (edge_of c)

@@ -5,5 +5,6 @@ pub mod cell;
 pub mod event;
 pub mod events;
 pub mod point;
+pub mod scratch;
 mod side;
 pub mod sorted;

@@ -1,39 +1,20 @@
--- `edges::events::Events::unique` meets its contract: at each turn what is kept, with what is left from i on, makes the
--- answer.
-use Rattle.std.proofs.Common.{rules, ◌≡◌, ◌∙◌, sym, ap, get_or}
-use lib.Ieee.{nan}
-use Rattle.float.specs.Consts.{eps}
+-- `edges::events::Events::unique` meets its contract: it is that of the two lists, and what is kept stays in order.
+use Rattle.std.proofs.Common.{rules, ap, ◌∙◌, arith}
 use Rattle.edges.specs.Events.{unique}
-use Rattle.edges.proofs.Kept.{drops, drops_says, keeping_starts, keeping_dropped, keeping_kept, keeping_ends}
-use Rattle.edges.proofs.Kept.{keeping_ordered}
+use Rattle.edges.specs.Order.{events_in}
+use Rattle.edges.proofs.Laws.{unique_sorted}
 use Rattle.edges.proofs.events.Events.unique.Goals as goal
-use Rattle.edges.proofs.events.Events.unique.Goals.{After-is_some_and}
-
-pub loop-i-init : goal.loop-i-init
-loop-i-init c = let taken = c.take-found.ensures in rw (taken.value, taken.after) (keeping_starts c.self.invariant)
-
--- what the test says of the event at i
-test : (c : After-is_some_and) → let l = c.loop-i in
-    c.is_some_and.result ≡ drops (get_or l.self-inside.lambdas l.i nan) l.last
-unfolding eps
-test c =
-    drops_says c.loop-i.last (get_or c.loop-i.self-inside.lambdas c.loop-i.i nan) _ c.is_some_and.ensures
-    (λ l k. search rules)
-
-pub loop-i-preserved-then-is_some_and : goal.loop-i-preserved-then-is_some_and
-loop-i-preserved-then-is_some_and c =
-    keeping_dropped c.loop-i.invariant nan 0 c.loop-i-test.true
-    (sym (test (goal.at.loop-i-preserved-then-is_some_and c).After-is_some_and) ∙ c.if-is_some_and.true)
-
-pub loop-i-preserved : goal.loop-i-preserved
-loop-i-preserved c =
-    keeping_kept c.loop-i.invariant nan 0 c.loop-i-test.true
-    (sym (test (goal.at.loop-i-preserved c).After-is_some_and) ∙ c.if-is_some_and.false)
 
 pub invariant_of-self : goal.invariant_of-self
 invariant_of-self c =
-    keeping_ordered c.loop-i.invariant c.loop-i-test.false (rw c.take-found.ensures.value c.self.invariant.sorted)
+    let s = c.self.inside in
+    let o = c.self.invariant in
+    record {
+      lambdas_length = search rules;
+      codes_length = search rules;
+      few = omega (arith, o.few, c.unique-self-inside.ensures.0);
+      sorted = rw c.unique-self-inside.ensures.1 (unique_sorted (events_in s.lambdas s.codes s.count) o.sorted);
+    }
 
 pub returns : goal.returns
-returns c =
-    keeping_ends c.loop-i.invariant c.loop-i-test.false ∙ rw c.take-found.ensures.value (ap unique c.self.view_is)
+returns c = c.unique-self-inside.ensures.1 ∙ ap unique c.self.view_is
