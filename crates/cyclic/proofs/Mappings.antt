@@ -8,11 +8,12 @@ use native.Mathlib.Omega.{arith}
 use mathlib.Core.Path.{◌≡◌, refl, ◌∙◌}
 use mathlib.Core.Logic.{◌⊎◌, inl, inr, ⊎_elim}
 use mathlib.Core.Bool.{Bool, true, false, not, ◌&&◌, and-false, cond}
-use lib.Dec.{eqb, ltb}
-use borrow.Author.Tests.{ltb-true, ltb-false, eq-eqb, ne_eqb}
+use lib.Dec.{eqb, ltb, leb}
+use borrow.Author.Tests.{ltb-true, ltb-false, leb-true, eq-eqb, ne_eqb}
+use Rattle.basics.proofs.Tests.{and_both}
 use Rattle.cyclic.specs.declared.mapping.CyclicMapping.{CyclicMapping}
 use Rattle.cyclic.specs.declared.mapping.CyclicMapping.TheVariants.{Forward, Reverse}
-use Rattle.cyclic.specs.Mapping.{image, inverse, offset_of, steps_of, is_reverse, HasIndex}
+use Rattle.cyclic.specs.Mapping.{image, inverse, offset_of, steps_of, is_reverse, usable, HasIndex}
 
 -- one of three
 abbrev OneOf : Type 0 → Type 0 → Type 0 → Type 0
@@ -36,15 +37,15 @@ wrapped x n h = go (ltb x n) refl
 
 -- The definitions, at offset 0 and at others
 
-forward_zero : (o n j : ℕ) → o ≡ 0 → image (Forward o n) j ≡ j
+pub forward_zero : (o n j : ℕ) → o ≡ 0 → image (Forward o n) j ≡ j
 unfolding image
 forward_zero o n j z = rw (eq-eqb o 0 z)
 
-forward_other : (o n j : ℕ) → (o ≡ 0 → ⊥) → image (Forward o n) j ≡ (o + j) % n
+pub forward_other : (o n j : ℕ) → (o ≡ 0 → ⊥) → image (Forward o n) j ≡ (o + j) % n
 unfolding image
 forward_other o n j f = rw (ne_eqb o 0 f)
 
-reverse_zero : (o n j : ℕ) → o ≡ 0 → image (Reverse o n) j ≡ n - j
+pub reverse_zero : (o n j : ℕ) → o ≡ 0 → image (Reverse o n) j ≡ n - j
 unfolding image
 reverse_zero o n j z = rw (eq-eqb o 0 z)
 
@@ -63,11 +64,11 @@ reverse_minus o n j l f = rw (ne_eqb o 0 f) (⊎_elim last below (eq-or-lt_of_le
         let y : o + n - j ≡ o = omega arith in
         rw (x, y, add-mod_right)
 
-inverse_zero : (o n j : ℕ) → o ≡ 0 → inverse (Forward o n) j ≡ j
+pub inverse_zero : (o n j : ℕ) → o ≡ 0 → inverse (Forward o n) j ≡ j
 unfolding inverse
 inverse_zero o n j z = rw (eq-eqb o 0 z)
 
-inverse_other : (o n j : ℕ) → (o ≡ 0 → ⊥) → inverse (Forward o n) j ≡ (j + n - o % n) % n
+pub inverse_other : (o n j : ℕ) → (o ≡ 0 → ⊥) → inverse (Forward o n) j ≡ (j + n - o % n) % n
 unfolding inverse
 inverse_other o n j f = rw (ne_eqb o 0 f)
 
@@ -252,3 +253,13 @@ first_image (Forward o n) u f =
     three (forward_at o n 0 u.1 u.2) (λ w. absurd (f w.0)) (λ w. omega arith) (λ w. absurd (omega arith))
 first_image (Reverse o n) u f =
     three (reverse_at o n 0 u.1 u.2) (λ w. absurd (f w.0)) (λ w. omega arith) (λ w. absurd (omega arith))
+
+-- What the test of an index shows
+
+pub usable_known : (m : CyclicMapping) (i : ℕ) → usable m i ≡ true → HasIndex m i
+usable_known m i h =
+    let b = and_both (leb 1 (steps_of m) && leb (steps_of m) 65535)
+    (ltb (offset_of m) (steps_of m) && leb i (steps_of m)) h in
+    let s = and_both (leb 1 (steps_of m)) (leb (steps_of m) 65535) b.0 in
+    let t = and_both (ltb (offset_of m) (steps_of m)) (leb i (steps_of m)) b.1 in
+    (leb-true (steps_of m) 65535 s.1, ltb-true (offset_of m) (steps_of m) t.0, leb-true i (steps_of m) t.1)

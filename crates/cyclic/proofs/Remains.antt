@@ -22,6 +22,10 @@ use Rattle.cyclic.specs.Search.{Row, Closeness, close_at, tried, searched, try_f
 use Rattle.cyclic.proofs.Mappings.{image_within, first_image}
 use Rattle.cyclic.proofs.Laws.{CloseAt, offsets_most, ends_most}
 
+-- all points tried at m, after c comparisons, give t
+abbrev pub Tries : Closeness → Row → Row → CyclicMapping → ℕ → Tried → Type 0
+Tries close a b m c t = try_from close a b m (steps_of m + 1) 0 c ≡ t
+
 -- the first r points of a are close to their images
 abbrev pub Run : Closeness → Row → Row → CyclicMapping → ℕ → Type 0
 Run close a b m r = (j : ℕ) → j < r → CloseAt close a b m j
@@ -109,7 +113,7 @@ two_longer a b m t j k l f g h most i below =
 module _ {close : Closeness} {a b : Row} where
   -- all points tried at m, after c comparisons, where point j is the first that is not close, or the last of all
   module _ {m : CyclicMapping} {j k : ℕ} (c : ℕ) (t : Trying close a b m j k) where
-    far_point : close (a j) (b k) ≡ false → try_from close a b m (steps_of m + 1) 0 c ≡ tried false (c + (j + 1))
+    pub far_point : close (a j) (b k) ≡ false → Tries close a b m c (tried false (c + (j + 1)))
     unfolding try_from
     far_point h =
         let x : steps_of m + 1 ≡ j + suc (steps_of m - j) = omega arith in
@@ -117,8 +121,7 @@ module _ {close : Closeness} {a b : Row} where
         let g : close (a j) (b (image m j)) ≡ false = rw t.mapped at h in
         rw x (known_tried close a b m c (suc (steps_of m - j)) j t.run ∙ rw (g, y))
 
-    last_point : j ≡ steps_of m → close (a j) (b k) ≡ true →
-        try_from close a b m (steps_of m + 1) 0 c ≡ tried true (c + steps_of m + 1)
+    pub last_point : j ≡ steps_of m → close (a j) (b k) ≡ true → Tries close a b m c (tried true (c + steps_of m + 1))
     unfolding try_from
     last_point l h =
         let g : close (a j) (b (image m j)) ≡ true = rw t.mapped at h in

@@ -2,6 +2,7 @@
 ghost use Rattle.std.specs.Prelude.{◌≡◌, true, ℕ, ◌+◌, ◌*◌, ◌/◌, ◌≤◌, ◌<◌, length};
 ghost use Rattle.grid.specs.Grid.{point_at};
 ghost use Rattle.float.specs.Consts.{eps};
+ghost use Rattle.vector.specs.Vectors.{all_close};
 ghost use Rattle.refusal.specs.Refusals.{stated};
 ghost use Rattle.cyclic.specs.Mapping.{image, offset_of, steps_of, HasIndex};
 ghost use Rattle.cyclic.specs.Search.{Rows, close_at, closed, search_rows, search};
@@ -39,6 +40,15 @@ pub struct TwoRows<'a> {
     pub stride: usize,
     pub steps: usize,
     pub ghost inside: { Rows a.now a_start b.now b_start stride steps },
+}
+
+// Whether point i of a is close to point k of b. Inlined: every comparison of a search is made by it.
+#[inline(always)]
+pub fn points_close(a: &[f64], i: usize, b: &[f64], k: usize, tolerance: f64) -> bool
+    requires { (3 * i + 3 ≤ length a.now) × (3 * k + 3 ≤ length b.now) }
+    ensures { result ≡ all_close (point_at a.now i) (point_at b.now k) tolerance }
+{
+    grid::point_at(a, i).all_close(grid::point_at(b, k), tolerance)
 }
 
 impl CyclicMapping {
@@ -103,7 +113,13 @@ impl TwoRows<'_> {
         requires { (j ≤ self.now.steps) × (k ≤ self.now.steps) }
         ensures { result ≡ close_at tolerance (row_a self.now j) (row_b self.now k) }
     {
-        self.point_a(j).all_close(self.point_b(k), tolerance)
+        points_close(
+            self.a,
+            self.a_start + j * self.stride,
+            self.b,
+            self.b_start + k * self.stride,
+            tolerance,
+        )
     }
 
     // Whether they differ by less than EPS in each coordinate, and so are close by EPS. It has no branch, and compares

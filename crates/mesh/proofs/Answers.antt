@@ -18,10 +18,11 @@ use Rattle.lent.proofs.Laws.{zeroed_filled, room_passed}
 use Rattle.grid.specs.Grid.{Accepted}
 use Rattle.grid.proofs.Laws.{grid_passed, grid_accepted}
 use Rattle.surface.specs.Surface.{Shape, Triangle, kept, slots, triangles, flipped}
+use Rattle.surface.proofs.Pairs.{flipped_at_most}
 use Rattle.mesh.specs.Mesh.{triangle_numbers, pair_numbers, mesh_check, mesh_lists, written}
 use Rattle.mesh.specs.Held.{triangles_in, pairs_in}
 use Rattle.mesh.proofs.Holding.{triangles_held, pairs_held}
-use Rattle.mesh.proofs.Cells.{held_triangles}
+use Rattle.mesh.proofs.Cells.{held_triangles, held_most}
 use Rattle.mesh.proofs.Flips.{held_pairs}
 
 -- Refusals
@@ -56,12 +57,19 @@ list_filled k contents l lent h e q =
     let n : length contents ≡ k = ap length e ∙ length-take-le k l h in
     rw (← n) (zeroed_filled 0 contents l lent q (rw n (sym e)))
 
+pub triangles_most : (s : Shape) (count : ℕ) (l : List ℕ) → triangles_in count l ≡ kept s (2 * (s.M * s.N)) →
+    3 * count ≤ 6 * (s.M * s.N)
+triangles_most s count l e = omega (arith, held_most s (2 * (s.M * s.N)) count l e)
+
 pub triangles_filled : (s : Shape) (count : ℕ) (l lent : List ℕ) →
     triangles_in count l ≡ triangles s → 3 * count ≤ length l → length l ≡ length lent →
     zeroed_from 0 (3 * count) l ≡ filled 0 (triangle_numbers (triangles s)) lent
 triangles_filled s count l lent e h q =
     list_filled (3 * count) (triangle_numbers (triangles s)) l lent h
     (ap triangle_numbers (sym e) ∙ triangles_held count l h) q
+
+pub pairs_most : (s : Shape) (count : ℕ) (l : List ℕ) → pairs_in count l ≡ flipped s → 2 * count ≤ 2 * (s.M + s.N)
+pairs_most s count l e = omega (arith, held_pairs count l e, flipped_at_most s)
 
 pub pairs_filled : (s : Shape) (count : ℕ) (l lent : List ℕ) →
     pairs_in count l ≡ flipped s → 2 * count ≤ length l → length l ≡ length lent →
@@ -73,7 +81,7 @@ pairs_filled s count l lent e h q =
 -- What is handed over
 
 -- what all slots emit are the surface's triangles
-all_kept : (s : Shape) {ts : List Triangle} → ts ≡ kept s (2 * (s.M * s.N)) → ts ≡ triangles s
+pub all_kept : (s : Shape) {ts : List Triangle} → ts ≡ kept s (2 * (s.M * s.N)) → ts ≡ triangles s
 unfolding triangles slots
 all_kept s e = e
 
@@ -82,8 +90,15 @@ rest_zeroed : (k : ℕ) (l rest : List ℕ) → k ≤ length l → rest ≡ repl
     put_mid k (length l - k) l rest ≡ zeroed_from 0 k l
 rest_zeroed k l rest h e = grind (arith, common_steps)
 
--- k triangles in front of the list t' and p pairs in front of f', each with zeros past them, where t and f were lent
-pub lists_written : (s : Shape) (t f t' f' : List ℕ) {rest rest' : List ℕ} (k p : ℕ) →
+-- both lists, filled, where t and f were lent
+pub lists_written : (s : Shape) (t f : List ℕ) {t' f' : List ℕ} {k p : ℕ} →
+    t' ≡ filled 0 (triangle_numbers (triangles s)) t → f' ≡ filled 0 (pair_numbers (flipped s)) f →
+    k ≡ length (triangles s) → p ≡ length (flipped s) →
+    afterwards (record { triangles = k; pairs = p }) (mesh_lists t' f') ≡ written s (mesh_lists t f)
+lists_written s t f ts ps k p = rw (ts, ps, k, p)
+
+-- k triangles in front of the list t' and p pairs in front of f', each with zeros past them
+pub fronts_written : (s : Shape) (t f t' f' : List ℕ) {rest rest' : List ℕ} (k p : ℕ) →
     triangles_in k t' ≡ kept s (2 * (s.M * s.N)) → 3 * k ≤ length t' → length t' ≡ length t →
     rest ≡ replicate (length (mid_of (3 * k) (length t' - 3 * k) t')) 0 →
     pairs_in p f' ≡ flipped s → 2 * p ≤ length f' → length f' ≡ length f →
@@ -91,13 +106,10 @@ pub lists_written : (s : Shape) (t f t' f' : List ℕ) {rest rest' : List ℕ} (
     afterwards (record { triangles = k; pairs = p })
     (mesh_lists (put_mid (3 * k) (length t' - 3 * k) t' rest) (put_mid (2 * p) (length f' - 2 * p) f' rest'))
     ≡ written s (mesh_lists t f)
-lists_written s t f t' f' {rest} {rest'} k p ts tk tl tr ps pk pl pr =
+fronts_written s t f t' f' {rest} {rest'} k p ts tk tl tr ps pk pl pr =
     let all = all_kept s ts in
-    rw (
-      rest_zeroed (3 * k) t' rest tk tr,
-      rest_zeroed (2 * p) f' rest' pk pr,
-      triangles_filled s k t' t all tk tl,
-      pairs_filled s p f' f ps pk pl,
-      held_triangles k t' all,
-      held_pairs p f' ps,
-    )
+    lists_written s t f
+    (rest_zeroed (3 * k) t' rest tk tr ∙ triangles_filled s k t' t all tk tl)
+    (rest_zeroed (2 * p) f' rest' pk pr ∙ pairs_filled s p f' f ps pk pl)
+    (held_triangles k t' all)
+    (held_pairs p f' ps)

@@ -75,7 +75,7 @@ held_pairs count l e = sym (length_firsts (pair_at l) count) ∙ ap length e
 -- One seam
 
 -- a found seam's mapping fits where the seam does
-maps_told : {seam : cyclic.Seam} {m : CyclicMapping} {steps : ℕ} →
+pub maps_told : {seam : cyclic.Seam} {m : CyclicMapping} {steps : ℕ} →
     seam ≡ Some m → Maps seam steps → Maps (Some m) steps
 maps_told e h = rw e at h
 
@@ -129,7 +129,7 @@ no_pairs : (l : List ℕ) → pairs_in 0 l ≡ []
 unfolding firsts
 no_pairs l = refl
 
-flipped_is : (s : Shape) → flips AxisV s s.sv (flips AxisU s s.su []) ≡ flipped s
+pub flipped_is : (s : Shape) → flips AxisV s s.sv (flips AxisU s s.su []) ≡ flipped s
 unfolding flipped
 flipped_is s = refl
 

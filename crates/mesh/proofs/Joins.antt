@@ -20,21 +20,44 @@ use Rattle.mesh.specs.declared.corner.Place.{Place}
 use Rattle.mesh.specs.declared.corner.Surface.{Surface}
 use Rattle.mesh.specs.Corners.{shape_of, Joins, placed, join_of}
 
+-- The cases of one rule
+
+pub join_last : {seam : Seam} {m : CyclicMapping} (last line step : ℕ) → seam ≡ Some m → line ≡ last →
+    placed 0 (cyclic.inverse m step) ≡ join_of seam last line step
+unfolding join_of
+join_last last line step e h = rw (e, eq-eqb line last h)
+
+pub join_other : {seam : Seam} {m : CyclicMapping} (last line step : ℕ) → seam ≡ Some m → (line ≡ last → ⊥) →
+    placed line step ≡ join_of seam last line step
+unfolding join_of
+join_other last line step e h = rw (e, ne_eqb line last h)
+
+pub join_none : {seam : Seam} (last line step : ℕ) → seam ≡ None → placed line step ≡ join_of seam last line step
+unfolding join_of
+join_none last line step e = rw e
+
 -- a seam of lines of so many steps takes each of them
-maps_joins : (seam : Seam) (steps step : ℕ) → Maps seam steps → steps ≤ 255 → step ≤ steps → Joins seam step
+pub maps_joins : (seam : Seam) (steps step : ℕ) → Maps seam steps → steps ≤ 255 → step ≤ steps → Joins seam step
 maps_joins None steps step h most l = tt
 maps_joins (Some m) steps step h most l = (omega arith, omega arith, omega arith)
 
 -- a joined point stays on the lines and the steps of the grid
-join_within : (seam : Seam) (steps last line step : ℕ) → Maps seam steps → steps ≤ 255 → step ≤ steps →
+join_bounds : (seam : Seam) (steps last line step : ℕ) → Maps seam steps → steps ≤ 255 → step ≤ steps →
     ((join_of seam last line step).line ≤ line) × ((join_of seam last line step).step ≤ steps)
 unfolding join_of
-join_within None steps last line step h most l = (omega arith, l)
-join_within (Some m) steps last line step h most l =
+join_bounds None steps last line step h most l = (omega arith, l)
+join_bounds (Some m) steps last line step h most l =
     cond_keeps (λ (p : Place). (p.line ≤ line) × (p.step ≤ steps)) (eqb line last)
     (placed 0 (cyclic.inverse m step)) (placed line step)
     (omega arith, omega (arith, inverse_within m step (maps_joins (Some m) steps step h most l)))
     (omega arith, l)
+
+pub join_within : (seam : Seam) (steps last line step : ℕ) {p : Place} →
+    p ≡ join_of seam last line step → Maps seam steps → steps ≤ 255 → step ≤ steps →
+    (p.line ≤ line) × (p.step ≤ steps)
+join_within seam steps last line step e h most l = rw e (join_bounds seam steps last line step h most l)
+
+-- The two rules
 
 pub inverse_is : (m : CyclicMapping) (steps j : ℕ) → cyclic.steps_of m ≡ steps →
     inverse (of_mapping m) steps j ≡ cyclic.inverse m j
@@ -74,10 +97,10 @@ module _ (s : Surface) where
   v_joins u h = maps_joins s.v s.m u s.bounded.v_maps (omega arith) h
 
   pub u_within : (u v : ℕ) → v ≤ s.n → ((u_joined u v).line ≤ u) × ((u_joined u v).step ≤ s.n)
-  u_within u v h = join_within s.u s.n s.m u v s.bounded.u_maps (omega arith) h
+  u_within u v h = join_within s.u s.n s.m u v refl s.bounded.u_maps (omega arith) h
 
   pub v_within : (p : Place) → p.line ≤ s.m → ((v_joined p).line ≤ p.step) × ((v_joined p).step ≤ s.m)
-  v_within p h = join_within s.v s.m s.n p.step p.line s.bounded.v_maps (omega arith) h
+  v_within p h = join_within s.v s.m s.n p.step p.line refl s.bounded.v_maps (omega arith) h
 
   u_rule_lem : (u v : ℕ) → u_rule (shape_of s) (at u v) ≡ at (u_joined u v).line (u_joined u v).step
   u_rule_lem u v = rule_is (λ (p : Place). at p.line p.step) s.u s.n s.m u v s.bounded.u_maps

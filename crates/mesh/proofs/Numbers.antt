@@ -6,14 +6,19 @@ use native.Mathlib.Nat.{mul-le-mul}
 use native.Mathlib.Omega.{arith}
 use Rattle.std.specs.Int.{from_bool}
 use Rattle.param.specs.declared.Axis.{Axis}
+use Rattle.cyclic.specs.declared.mapping.CyclicMapping.{CyclicMapping}
+use Rattle.cyclic.specs.Mapping as cyclic
 use Rattle.cyclic.proofs.Mappings.{inverse_within}
 use Rattle.surface.specs.Surface.{Shape, Triangle, proper, slot, triangle_number, low_u, high_u, low_v, high_v}
+use Rattle.surface.specs.Surface.{wrap_ends, step_on}
+use Rattle.surface.specs.Found.{of_mapping}
 use Rattle.surface.proofs.Triangles.{number_more, number_most}
 use Rattle.surface.proofs.Joinings.{inverse_of}
 use Rattle.mesh.specs.declared.corner.Surface.{Surface}
 use Rattle.mesh.specs.declared.triangles.Half.{Half}
 use Rattle.mesh.specs.Corners.{shape_of, slot_at}
 use Rattle.mesh.specs.Rims.{rim_slot}
+use Rattle.mesh.proofs.Joins.{inverse_is}
 
 -- A cell's two slots, counted
 
@@ -63,5 +68,11 @@ pub rim_is : (s : Surface) (i : ℕ) {a axis : Axis} {h half : Half} {p : ℕ ×
 rim_is s i ea eh ep e t r = rw (r, t, ep, eh, ea, e)
 
 -- The step of one rim on another, between the inverse images of its two ends
+
+pub step_is : (m : CyclicMapping) (steps i : ℕ) {a b r : ℕ} →
+    cyclic.steps_of m ≡ steps → a ≡ cyclic.inverse m i → b ≡ cyclic.inverse m (i + 1) →
+    r ≡ wrap_ends steps a b → r ≡ step_on (of_mapping m) steps i
+unfolding step_on
+step_is m steps i e p q h = rw (h, p, q, inverse_is m steps i e, inverse_is m steps (i + 1) e)
 
 pub ruleset step_ends = (inverse_within, inverse_of)

@@ -59,7 +59,7 @@ impl Surface {
 
     // The number of corner (u, v) of a cell of row `row`: the u rule, then in the last row the v rule.
     #[tactic(auto, using(crate::proofs::Joins::rules_in_turn))]
-    fn corner(self, row: usize, u: usize, v: usize) -> usize
+    pub fn corner(self, row: usize, u: usize, v: usize) -> usize
         requires { (u ≤ self.m) × (v ≤ self.n) × (row < self.n) }
         ensures { result ≡ corner (shape_of self) row u v }
     {
@@ -77,7 +77,7 @@ impl Surface {
     }
 
     // The corners of cell (u, v).
-    pub(crate) fn cell_corners(self, u: usize, v: usize) -> Cell
+    pub fn cell_corners(self, u: usize, v: usize) -> Cell
         requires { (u < self.m) × (v < self.n) }
         ensures { result ≡ cell_corners (shape_of self) u v }
     {

@@ -15,9 +15,9 @@ use refusal::Refusal;
 use tolerance::Tolerances;
 
 pub mod corner;
-mod flipped;
-mod pairs;
-mod triangles;
+pub mod flipped;
+pub mod pairs;
+pub mod triangles;
 
 // The count of triangles and the count of flipped pairs.
 #[derive(Clone, Copy)]

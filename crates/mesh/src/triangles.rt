@@ -162,7 +162,7 @@ impl Triangles<'_> {
 
 impl Surface {
     // All triangles, into the front of a list, and how many there are; `starts` as above.
-    pub(crate) fn build_triangles(self, list: &mut [usize], starts: &mut [usize]) -> usize
+    pub fn build_triangles(self, list: &mut [usize], starts: &mut [usize]) -> usize
         requires room { 6 * (self.m * self.n) ≤ length list.old }
         requires starts_room { self.m < length starts.old }
         ensures triangles { triangles_in result list.new ≡ kept (shape_of self) (2 * (self.m * self.n)) }

@@ -59,6 +59,19 @@ fits_maps : (close : Closeness) (a b : Row) (steps : ℕ) (s : Seam) → seam_fi
 fits_maps close a b steps None h = tt
 fits_maps close a b steps (Some k) h = let f = fits_known close a b steps k h in (f.steps, f.below)
 
+-- what is found has its row's steps and an offset below them
+pub u_of_row : (g : List Float) (m n : ℕ) (t : Float) → 1 ≤ n → Maps (u_search g m n t).seam n
+unfolding u_search
+u_of_row g m n t h =
+    fits_maps (close_at t) (column g n 0) (column g n m) n (u_search g m n t).seam
+    (found_in (close_at t) (column g n 0) (column g n m) n h)
+
+pub v_of_row : (g : List Float) (m n : ℕ) (t : Float) → 1 ≤ m → Maps (v_search g m n t).seam m
+unfolding v_search
+v_of_row g m n t h =
+    fits_maps (close_at t) (row g n 0) (row g n n) m (v_search g m n t).seam
+    (found_in (close_at t) (row g n 0) (row g n n) m h)
+
 module _ (g : List Float) (m n : ℕ) where
   -- seams that fit are mappings of their rows
   pub given_map : (t : Tolerances) (u v : Seam) → seams_fit g m n t u v ≡ true → Maps u n × Maps v m

@@ -47,7 +47,7 @@ module _ (g : List Float) (m n : ℕ) (tolerances : Tolerances) where
       }
 
   -- those that are found fit
-  found_fit : Accepted g m n →
+  pub found_fit : Accepted g m n →
       seams_fit g m n tolerances (u_search g m n tolerances.u).seam (v_search g m n tolerances.v).seam ≡ true
   found_fit h = let s = (accepted_known g m n h).steps in found_fits g m n tolerances s.m_least s.n_least
 

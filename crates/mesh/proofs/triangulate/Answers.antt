@@ -1,7 +1,7 @@
 -- `mesh::triangulate` meets its contract: the triangles and the pairs are in front of their lists, and zero is written
 -- past them.
 use Rattle.mesh.specs.Corners.{shape_of}
-use Rattle.mesh.proofs.Answers.{lists_written}
+use Rattle.mesh.proofs.Answers.{fronts_written}
 use Rattle.mesh.proofs.triangulate.Goals as goal
 
 pub returns : goal.returns
@@ -9,6 +9,6 @@ returns c =
     let a = c.args in
     let b = c.build_triangles-count in
     let p = c.find_flipped-pairs in
-    lists_written (shape_of a.surface) a.triangles.now a.flipped.now b.new.list p.new.list b.result p.result
+    fronts_written (shape_of a.surface) a.triangles.now a.flipped.now b.new.list p.new.list b.result p.result
     b.ensures.triangles b.ensures.held b.auto.list (c.fill.ensures.after (λ y e. e))
     p.ensures.pairs p.ensures.held p.auto.list (c.fill-2.ensures.after (λ y e. e))
