@@ -112,7 +112,7 @@ pub fn is_refused(recorded: &[u64], refusal: Refusal) -> bool {
     word(recorded, 0) == u64::from(u8::from(refusal))
 }
 
-// Whether the recorded answer is these two numbers. That it is no refusal is tested before (`answers::told`).
+// Whether the recorded answer is no refusal, and these two numbers.
 pub fn is_told(recorded: &[u64], first: usize, second: usize) -> bool {
-    number(recorded, 1) == first && number(recorded, 2) == second
+    is_answered(recorded) && number(recorded, 1) == first && number(recorded, 2) == second
 }
