@@ -28,7 +28,8 @@ fn read_byte(byte: u8) -> Option<Byte> {
     }
 }
 
-// The numbers of the text, at the start of the list. None where a byte has no place there or the numbers are too many.
+// The list with the numbers of the text at its start; its other words stay. None where a byte has no place in the text
+// or the numbers are too many.
 pub fn read_words<'a>(text: &[u8], words: &'a mut [u64]) -> Option<&'a [u64]> {
     let mut value = 0;
     let mut count = 0;
@@ -42,7 +43,7 @@ pub fn read_words<'a>(text: &[u8], words: &'a mut [u64]) -> Option<&'a [u64]> {
             }
         }
     }
-    Some(&words[..count])
+    Some(words)
 }
 
 // The first field of a row, and the fields after it. None where the field is not there whole.
@@ -53,12 +54,17 @@ fn split_field(words: &[u64]) -> Option<(&[u64], &[u64])> {
 
 // Field `index` of a row of fields. None where it is not there whole. The record tells of a field no more than its
 // length, so that all before it are passed.
-pub fn field(words: &[u64], index: usize) -> Option<&[u64]> {
+fn whole_field(words: &[u64], index: usize) -> Option<&[u64]> {
     let mut rest = words;
     for _ in 0..index {
         rest = split_field(rest)?.1;
     }
     Some(split_field(rest)?.0)
+}
+
+// The same, or no words where it is not there whole: they then read as zero, as those that a list leaves out do.
+pub fn field(words: &[u64], index: usize) -> &[u64] {
+    whole_field(words, index).unwrap_or(&[])
 }
 
 // Word `index`, or zero where there is none.
@@ -106,7 +112,7 @@ pub fn is_refused(recorded: &[u64], refusal: Refusal) -> bool {
     word(recorded, 0) == u64::from(u8::from(refusal))
 }
 
-// Whether the recorded answer is these two numbers. That it is no refusal is tested before (`answers::told`).
+// Whether the recorded answer is no refusal, and these two numbers.
 pub fn is_told(recorded: &[u64], first: usize, second: usize) -> bool {
-    number(recorded, 1) == first && number(recorded, 2) == second
+    is_answered(recorded) && number(recorded, 1) == first && number(recorded, 2) == second
 }

@@ -16,12 +16,11 @@ const TEXT_ROOM: usize = 524288;
 // How many words they may be.
 const WORD_ROOM: usize = 65536;
 
-// Whether the library does what is recorded of a case: not where the case, or a field of it, is not there, and not where
-// its kind is none of these. The record numbers the kinds, and they are named by the functions alone: an enum of them
-// would say each once more.
-fn agrees(words: &[u64], index: usize) -> Option<bool> {
-    let case = words::field(words, index)?;
-    match words::word(words::field(case, 0)?, 0) {
+// Whether the library does what is recorded of a case. A case of a kind that is not there differs, and so does a case
+// that is missing, since its kind reads as zero. The record numbers the kinds, and they are named by the functions
+// alone: an enum of them would say each once more.
+fn agrees(case: &[u64]) -> bool {
+    match words::word(words::field(case, 0), 0) {
         1 => seams::new_vector(case),
         2 => seams::map_index(case),
         3 => seams::map_index_inv(case),
@@ -35,7 +34,7 @@ fn agrees(words: &[u64], index: usize) -> Option<bool> {
         11 => vectors::vector(case),
         12 => seams::find_seams(case),
         13 => meshes::triangulate_seams(case),
-        _ => None,
+        _ => false,
     }
 }
 
@@ -43,7 +42,7 @@ fn agrees(words: &[u64], index: usize) -> Option<bool> {
 fn difference(rt: &impl Print, words: &[u64], index: usize) -> io::Result<usize>
     ensures { IfOk result (λ count. count ≤ 1) }
 {
-    if agrees(words, index) == Some(true) {
+    if agrees(words::field(words, index)) {
         return Ok(0);
     }
     println!(rt; "replay: differs in case {index}")?;
@@ -53,8 +52,8 @@ fn difference(rt: &impl Print, words: &[u64], index: usize) -> io::Result<usize>
 // Field 0 says how many cases there are; they follow it. They are held to the room, not to the words that there are: a
 // case that is missing differs.
 fn replay(rt: &impl Print, words: &[u64]) -> io::Result<()> {
-    let cases = words::field(words, 0).map_or(0, |said| words::number(said, 0));
-    if cases > WORD_ROOM {
+    let cases = words::number(words::field(words, 0), 0);
+    if cases > words.len() {
         return println!(rt; "replay: the record is shorter than it says");
     }
     let mut differ = 0;

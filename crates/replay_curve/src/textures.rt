@@ -21,37 +21,37 @@ fn texture_of(numbers: &[u64]) -> ParametricSurfaceTexture {
 }
 
 // Each reads its numbers itself: a struct of them would name and fill each for two calls.
-pub fn plan(case: &[u64]) -> Option<bool> {
-    let numbers = field(case, 0)?;
-    let recorded = field(case, 1)?;
+pub fn plan(case: &[u64]) -> bool {
+    let numbers = field(case, 0);
+    let recorded = field(case, 1);
     let (m, n) = (number(numbers, 6), number(numbers, 7));
     let answer = texture::plan::plan(texture_of(numbers), m, n);
-    Some(told(recorded, answer, |counts| {
+    told(recorded, answer, |counts| {
         is_told(recorded, counts.rays, counts.samples)
-    }))
+    })
 }
 
-pub fn angle(case: &[u64]) -> Option<bool> {
-    let numbers = field(case, 0)?;
-    let recorded = field(case, 1)?;
+pub fn angle(case: &[u64]) -> bool {
+    let numbers = field(case, 0);
+    let recorded = field(case, 1);
     let (m, n) = (number(numbers, 6), number(numbers, 7));
     let (ray, sample) = (number(numbers, 8), number(numbers, 9));
     let answer = texture::sample::angle(texture_of(numbers), m, n, ray, sample);
-    Some(told(recorded, answer, |angle| {
+    told(recorded, answer, |angle| {
         same_float(angle, float(recorded, 1))
-    }))
+    })
 }
 
-pub fn sample_point(case: &[u64]) -> Option<bool> {
-    let numbers = field(case, 0)?;
-    let recorded = field(case, 1)?;
+pub fn sample_point(case: &[u64]) -> bool {
+    let numbers = field(case, 0);
+    let recorded = field(case, 1);
     let (m, n) = (number(numbers, 6), number(numbers, 7));
     let (ray, sample) = (number(numbers, 8), number(numbers, 9));
     let (cosine, sine) = (float(numbers, 10), float(numbers, 11));
     let texture = texture_of(numbers);
     let answer = texture::sample::sample_point(texture, m, n, ray, sample, cosine, sine);
-    Some(told(recorded, answer, |point| {
+    told(recorded, answer, |point| {
         // By their bits: `==` would take -0.0 for 0.0.
         same_float(point.u, float(recorded, 1)) && same_float(point.v, float(recorded, 2))
-    }))
+    })
 }

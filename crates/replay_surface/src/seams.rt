@@ -17,18 +17,18 @@ fn mapping(numbers: &[u64]) -> CyclicMapping {
     }
 }
 
-fn is_index(case: &[u64], answer: Result<usize, Refusal>) -> Option<bool> {
-    let recorded = field(case, 1)?;
-    Some(told(recorded, answer, |index| number(recorded, 1) == index))
+fn is_index(case: &[u64], answer: Result<usize, Refusal>) -> bool {
+    let recorded = field(case, 1);
+    told(recorded, answer, |index| number(recorded, 1) == index)
 }
 
-pub fn map_index(case: &[u64]) -> Option<bool> {
-    let numbers = field(case, 0)?;
+pub fn map_index(case: &[u64]) -> bool {
+    let numbers = field(case, 0);
     is_index(case, mapping(numbers).map_index(number(numbers, 5)))
 }
 
-pub fn map_index_inv(case: &[u64]) -> Option<bool> {
-    let numbers = field(case, 0)?;
+pub fn map_index_inv(case: &[u64]) -> bool {
+    let numbers = field(case, 0);
     is_index(case, mapping(numbers).map_index_inv(number(numbers, 5)))
 }
 
@@ -56,27 +56,28 @@ pub fn is_seam(recorded: &[u64], search: SeamSearch) -> bool {
         && word(recorded, 3) == search.comparisons
 }
 
-pub fn new_vector(case: &[u64]) -> Option<bool> {
+pub fn new_vector(case: &[u64]) -> bool {
     let mut a = [0.0; ROW_ROOM];
     let mut b = rooms::floats();
-    let a = read(field(case, 1)?, &mut a)?;
-    let b = read(field(case, 2)?, &mut b)?;
-    let tolerance = float(field(case, 0)?, 2);
+    let (Some(a), Some(b)) = (read(field(case, 1), &mut a), read(field(case, 2), &mut b)) else {
+        return false;
+    };
+    let tolerance = float(field(case, 0), 2);
     let answer = CyclicMapping::new_vector(a, b, tolerance);
-    // A refusal has no field after it.
-    Some(told(field(case, 3)?, answer, |search| {
-        field(case, 4).is_some_and(|seam| is_seam(seam, search))
-    }))
+    told(field(case, 3), answer, |search| {
+        is_seam(field(case, 4), search)
+    })
 }
 
-pub fn find_seams(case: &[u64]) -> Option<bool> {
+pub fn find_seams(case: &[u64]) -> bool {
     let mut grid = rooms::floats();
-    let numbers = field(case, 0)?;
-    let grid = read(field(case, 1)?, &mut grid)?;
+    let numbers = field(case, 0);
+    let Some(grid) = read(field(case, 1), &mut grid) else {
+        return false;
+    };
     let (m, n) = (number(numbers, 2), number(numbers, 3));
     let answer = grid_seams::find_seams(grid, m, n, tolerances(numbers));
-    Some(told(field(case, 2)?, answer, |seams| {
-        field(case, 3).is_some_and(|u| is_seam(u, seams.u))
-            && field(case, 4).is_some_and(|v| is_seam(v, seams.v))
-    }))
+    told(field(case, 2), answer, |seams| {
+        is_seam(field(case, 3), seams.u) && is_seam(field(case, 4), seams.v)
+    })
 }
