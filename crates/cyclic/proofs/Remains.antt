@@ -99,7 +99,7 @@ module _ (close : Closeness) (a b : Row) where
       rw (x, y, ← add-one r)
       (known_tried m c (suc k) r (λ j h. f j (omega arith)) ∙ passes m k r (c + r) (f r (omega arith)))
 
-  longer_run : (m : CyclicMapping) (r : ℕ) → Run close a b m r → CloseAt close a b m r → Run close a b m (r + 1)
+  pub longer_run : (m : CyclicMapping) (r : ℕ) → Run close a b m r → CloseAt close a b m r → Run close a b m (r + 1)
   longer_run m r f h j l = ⊎_elim (λ e. rw e h) (λ g. f j g) (eq-or-lt_of_le {n = j} {m = r} (omega arith))
 
 -- two points more, which are close by EPS, where that is not above the tolerance
@@ -128,7 +128,7 @@ module _ {close : Closeness} {a b : Row} where
         rw (← l) (known_tried close a b m c 1 j t.run ∙ rw g)
 
   -- the point that is compared next
-  point_after : {m : CyclicMapping} {j k : ℕ} → HasIndex m j → k ≡ image m j → Run close a b m j →
+  pub point_after : {m : CyclicMapping} {j k : ℕ} → HasIndex m j → k ≡ image m j → Run close a b m j →
       Trying close a b m j k
   point_after {m} {j} u e f = record { index = u; other = rw e (image_within m j u); mapped = e; run = f }
 

@@ -68,9 +68,8 @@ impl Surface {
         requires before { before ≡ triangle_number (shape_of self) (2 * (u * self.n + v)) }
         ensures { result ≡ triangle_number (shape_of self) (2 * (u * self.n + (v + 1))) }
     {
-        let first = self.triangle(u, v, Half::First).is_proper();
-        let second = self.triangle(u, v, Half::Second).is_proper();
-        before + usize::from(first) + usize::from(second)
+        let (first, second) = self.triangles(u, v);
+        before + usize::from(first.is_proper()) + usize::from(second.is_proper())
     }
 }
 

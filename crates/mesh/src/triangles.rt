@@ -2,6 +2,7 @@
 ghost use Rattle.std.specs.Prelude.{◌≡◌, cond, [], ◌∷◌, ◌++◌, ◌+◌, ◌*◌, ◌≤◌, ◌<◌, length};
 ghost use Rattle.surface.specs.Surface.{proper, slot, kept};
 ghost use Rattle.mesh.specs.Corners.{shape_of, triangle_of, slot_at};
+ghost use Rattle.mesh.specs.declared.triangles.Half.TheVariants.{First, Second};
 ghost use Rattle.mesh.specs.Held.{triangles_in};
 ghost use Rattle.mesh.specs.Rims.{Starts};
 
@@ -32,24 +33,36 @@ impl Triangle {
 }
 
 impl Surface {
-    // A triangle of cell (u, v).
+    // The two triangles of cell (u, v), whose corners are made once for both.
     #[tactic(auto, using(crate::proofs::Cells::cell_slots), unfolding(surface::specs::Surface::half_of))]
+    pub(crate) fn triangles(self, u: usize, v: usize) -> (Triangle, Triangle)
+        requires { (u < self.m) × (v < self.n) }
+        ensures { (triangle_of result.0 ≡ slot (shape_of self) (slot_at First (u * self.n + v)))
+            × (triangle_of result.1 ≡ slot (shape_of self) (slot_at Second (u * self.n + v))) }
+    {
+        let c = self.cell_corners(u, v);
+        let first = Triangle {
+            a: c.i00,
+            b: c.i10,
+            c: c.i01,
+        };
+        let second = Triangle {
+            a: c.i10,
+            b: c.i11,
+            c: c.i01,
+        };
+        (first, second)
+    }
+
+    // One of them.
     pub(crate) fn triangle(self, u: usize, v: usize, half: Half) -> Triangle
         requires { (u < self.m) × (v < self.n) }
         ensures { triangle_of result ≡ slot (shape_of self) (slot_at half (u * self.n + v)) }
     {
-        let c = self.cell_corners(u, v);
+        let (first, second) = self.triangles(u, v);
         match half {
-            Half::First => Triangle {
-                a: c.i00,
-                b: c.i10,
-                c: c.i01,
-            },
-            Half::Second => Triangle {
-                a: c.i10,
-                b: c.i11,
-                c: c.i01,
-            },
+            Half::First => first,
+            Half::Second => second,
         }
     }
 }
@@ -99,10 +112,9 @@ impl Triangles<'_> {
         ensures same { same_triangles self.old self.new }
         ensures held { HoldsSlots self.new (2 * (u * self.old.surface.n + (v + 1))) }
     {
-        // A copy, since `add` takes the whole of `self`.
-        let surface = self.surface;
-        self.add(surface.triangle(u, v, Half::First));
-        self.add(surface.triangle(u, v, Half::Second));
+        let (first, second) = self.surface.triangles(u, v);
+        self.add(first);
+        self.add(second);
     }
 
     // The same of a cell that touches neither the last u nor the last v: no rule applies, and its numbers differ.

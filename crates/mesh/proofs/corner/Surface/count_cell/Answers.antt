@@ -10,8 +10,8 @@ overflow_add-result-2 c =
     let a = c.args in
     omega (
       arith,
-      one_most c.is_proper-first.result,
-      one_most c.is_proper-second.result,
+      one_most c.is_proper.result,
+      one_most c.is_proper-2.result,
       cell_most a.self.n a.u a.v (omega arith) (omega arith) (omega arith),
       number_most (shape_of a.self) (2 * (a.u * a.self.n + a.v)),
     )

@@ -11,7 +11,7 @@ first_held : (e : After-add) → let a = e.args in HoldsSlots e.add.new.self (2 
 first_held e =
     let a = e.args in
     slot_added a.self.now.surface a.self.now e.add.new.self (2 * (a.u * a.self.now.surface.n + a.v)) refl
-    e.requires.held e.add.ensures.same e.triangle.ensures e.add.ensures.held
+    e.requires.held e.add.ensures.same e.triangles.ensures.0 e.add.ensures.held
 
 pub add-requires : goal.add-requires
 add-requires c =
@@ -34,4 +34,4 @@ returns-clause-held c =
     rw (← next)
     (slot_added a.self.now.surface c.add.new.self c.add-2.new.self k c.add.ensures.same.1
     (first_held (goal.at.returns-clause-held c).After-add)
-    c.add-2.ensures.same c.triangle-2.ensures c.add-2.ensures.held)
+    c.add-2.ensures.same c.triangles.ensures.1 c.add-2.ensures.held)
