@@ -1,14 +1,77 @@
--- A cell that a point is not in on one axis has no fit, so that it need not be tried; and a diagonal's cell is in the
--- grid.
-use Rattle.std.proofs.Common.{◌≡◌, refl, sym, ◌∙◌, ◌<◌, ℕ, ℤ, pos, negsuc, ◌-ℤ◌, false, cond, Option, Some, None, ltb}
-use mathlib.Core.Bool.{and-false}
-use borrow.Author.Tests.{ltb-true}
+-- `index_of` by the tests, on signed numbers. A cell that a point is not in on one axis has no fit, so that it need not
+-- be tried; and a diagonal's cell is in the grid.
+use Rattle.std.proofs.Common.{◌≡◌, refl, sym, ◌∙◌, ◌≤◌, ◌<◌, ℕ, zero, suc, ℤ, pos, negsuc, ◌-ℤ◌, true, false, cond}
+use Rattle.std.proofs.Common.{Option, Some, None, ltb}
+use native.Mathlib.Nat.{lt_of_le_of_lt, le-suc}
+use native.Mathlib.Omega.{arith}
+use mathlib.Core.Bool.{true≢false, and-false}
+use lib.IntN.{nat_abs, pred_ℤ, -ℤ_one}
+use lib.Signed.{non_neg, lt_z, le_z}
+use lib.Dec.{T, leb}
+use mir.Syntax.{w64}
+use mir.Val.{SFits, Fits}
+use borrow.Author.Tests.{ltb-true, lt-ltb, le-ltb, leb-false}
 use Rattle.float.specs.Whole.{floor_z}
+use Rattle.float.specs.Cast.{count}
 use Rattle.basics.proofs.Tests.{cond_keeps, cond_case}
 use Rattle.param.specs.declared.ParamPoint.{ParamPoint}
 use Rattle.param.specs.declared.Cells.{Cells}
 use Rattle.std.specs.Option.{MatchOption}
 use Rattle.edges.specs.Cell.{index_of, on_diagonal, try_cell, in_cell, or_cell, diagonal_cell_at}
+
+-- ---- the cast
+pub nonneg_of : (z : ℤ) → le_z (pos 0) z ≡ true → T (non_neg z)
+nonneg_of (pos n) h = tt
+nonneg_of (negsuc n) h = absurd (true≢false (sym h))
+
+pub abs_fits : (z : ℤ) → SFits w64 z → Fits w64 (nat_abs z)
+abs_fits (pos n) s = record { fits = omega (arith, s.sfits) }
+abs_fits (negsuc n) s = record { fits = omega (arith, s.sfits) }
+
+no_zero : (n : ℕ) → leb 0 n ≡ false → ⊥
+no_zero n h = omega (arith, leb-false 0 n h)
+
+-- a signed number as a count
+pub count_in_lem : (z : ℤ) → le_z (pos 0) z ≡ true → SFits w64 z → (nat_abs z ≡ count z) × (nat_abs z < 9223372036854775808)
+count_in_lem (pos n) h s = (refl, s.sfits)
+count_in_lem (negsuc n) h s = absurd (true≢false (sym h))
+
+pub count_out : (z : ℤ) → le_z (pos 0) z ≡ false → 0 ≡ count z
+count_out (pos n) h = absurd (no_zero n h)
+count_out (negsuc n) h = refl
+
+-- ---- `index_of` by the tests
+pub index_neg : (z : ℤ) (n : ℕ) → le_z (pos 0) z ≡ false → None ≡ index_of z n
+unfolding index_of
+index_neg (pos k) n h = absurd (no_zero k h)
+index_neg (negsuc k) n h = refl
+
+pub index_in : (z : ℤ) (n : ℕ) → le_z (pos 0) z ≡ true → nat_abs z < n → Some (nat_abs z) ≡ index_of z n
+unfolding index_of
+index_in (pos k) n h l = simp (lt-ltb k n l)
+index_in (negsuc k) n h l = absurd (true≢false (sym h))
+
+pub index_out : (z : ℤ) (n : ℕ) → n ≤ nat_abs z → None ≡ index_of z n
+unfolding index_of
+index_out (pos k) n l = simp (le-ltb k n l)
+index_out (negsuc k) n l = refl
+
+-- the number before z: z is the least i64, or it fits too
+abbrev pub least : ℤ
+least = negsuc 9223372036854775807
+
+pub before_out : (z : ℤ) (n : ℕ) → lt_z least z ≡ false → None ≡ index_of (z -ℤ pos 1) n
+unfolding index_of
+before_out (pos k) n h = absurd (true≢false h)
+before_out (negsuc k) n h = refl
+
+pub before_fits : (z : ℤ) → lt_z least z ≡ true → SFits w64 z → SFits w64 (z -ℤ pos 1)
+before_fits z h s = rw -ℤ_one (go z h s)
+  where
+    go : (y : ℤ) → lt_z least y ≡ true → SFits w64 y → SFits w64 (pred_ℤ y)
+    go (pos zero) g t = record { sfits = omega arith }
+    go (pos (suc k)) g t = record { sfits = lt_of_le_of_lt (le-suc k) t.sfits }
+    go (negsuc k) g t = record { sfits = omega (arith, ltb-true k 9223372036854775807 g) }
 
 -- ---- a cell that the point is not in on one axis
 pub not_in_u : (p : ParamPoint) (i j : Option ℕ) → in_cell p.u i ≡ false → try_cell p i j ≡ None

@@ -56,7 +56,8 @@ module _ {A : Type 0} {xs : List A} {count place : ℕ} (room : count < length x
       let e : j + 1 ≡ i = omega arith in
       let before : j < i = omega arith in
       let counted : j < count = omega arith in
-      let stood : x ≡ get_or old j d = rw (← get_or-take i ys j d, m.below, get_or-take i xs j d, get_or-take count xs j d) in
+      let stood : x ≡ get_or old j d =
+      rw (← get_or-take i ys j d, m.below, get_or-take i xs j d, get_or-take count xs j d) in
       let fits : i < length t = omega (arith, length-take-le (count + 1) ys (omega arith)) in
       let moved : drop i (take (count + 1) (set ys i x)) ≡ x ∷ drop (i + 1) t =
       rw (
@@ -240,5 +241,8 @@ module _ (ls : List Float) (cs : List ℕ) (count : ℕ) (same : length ls ≡ l
       events_put ls cs count place e.lambda c ms ds same room h k
       ∙ ap (λ (x : EdgeEvent). put_at place x es) (event_back e q n.0)
       ∙ placed e n.1 es place e s.ascend (sorted_placed s) (omega (arith, f.most))
-      (λ i g. ap (λ x. precedes (total_order e.lambda x)) (sym (asked i nan e (omega (arith, f.most)))) ∙ f.after i g)
-      (λ g. ap (λ x. precedes (total_order e.lambda x)) (sym (asked place nan e (omega arith))) ∙ f.before (omega arith))
+      (λ i g. ap ahead_of (sym (asked i nan e (omega (arith, f.most)))) ∙ f.after i g)
+      (λ g. ap ahead_of (sym (asked place nan e (omega arith))) ∙ f.before (omega arith))
+    where
+      ahead_of : Float → Bool
+      ahead_of l = precedes (total_order e.lambda l)

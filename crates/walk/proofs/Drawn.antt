@@ -14,10 +14,10 @@ use Rattle.walk.specs.Walk.{point_moves, end_moves, moves_of}
 
 module _ (tolerance : Float) (sample : ℕ) where
   -- the line's end
-  end_drawn : (inside : Bool) (w : Page) →
+  pub end_run : (inside : Bool) (w : Page) →
       on_page tolerance (moves_by sample (end_moves inside)) w ≡ flush_unless inside w
-  end_drawn true w = page_none tolerance w
-  end_drawn false w = page_one tolerance flush w
+  end_run true w = page_none tolerance w
+  end_run false w = page_one tolerance flush w
 
   -- what becomes of a point
   abbrev pub point_drawn : Result (Option Crossing) Refusal → Page → Outcome Page
@@ -34,7 +34,7 @@ module _ (tolerance : Float) (sample : ℕ) where
   -- what ends the line, after an outcome
   pub then_end : (inside : Bool) (x : Outcome Page) →
       follow x (on_page tolerance (moves_by sample (end_moves inside))) ≡ follow x (flush_unless inside)
-  then_end inside (on w) = end_drawn inside w
+  then_end inside (on w) = end_run inside w
   then_end inside (off k w) = refl
 
   pub event_drawn : (d : Decision) (w : Page) →

@@ -4,4 +4,5 @@ use Rattle.edges.proofs.events.Events.at.Goals as goal
 
 pub returns : goal.returns
 returns c =
-    rw (← c.self.view_is, c.event_at.ensures) (read_event c.self.invariant c.args.i (rw (← c.self.view_is) at c.requires))
+    rw (← c.self.view_is, c.event_at.ensures)
+    (read_event c.self.invariant c.args.i (rw (← c.self.view_is) at c.requires))
