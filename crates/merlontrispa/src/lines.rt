@@ -106,8 +106,8 @@ pub extern "C" fn mt_line_span(
     SpanAnswer::from(path::line_span(points, starts, point_count, line_count, index))
 }
 
-// What `get` hands back, as a part of the points: a reference cannot be handed to C. No `From`: that the products fit is
-// known of a line's span alone.
+// What `get` hands back, as a part of the points: a reference cannot be handed to C. `line_span` says where it begins. No
+// `From`: that the products fit is known of a line's span alone.
 #[unsafe(no_mangle)]
 pub extern "C" fn mt_get(
     points: &[f64],
@@ -118,14 +118,12 @@ pub extern "C" fn mt_get(
 ) -> Part
     ensures { Gets points.now starts.now point_count line_count index result }
 {
+    let length = path::get(points, starts, point_count, line_count, index).len();
     match path::line_span(points, starts, point_count, line_count, index) {
         Ok(span) => Part {
             offset: 3 * span.start,
-            length: 3 * (span.end - span.start),
+            length,
         },
-        Err(_) => Part {
-            offset: 0,
-            length: 0,
-        },
+        Err(_) => Part { offset: 0, length },
     }
 }

@@ -58,11 +58,21 @@ module _ (points : List Float) (starts : List ℕ) (point_count line_count index
         within = leb-true _ _ o.1;
       }
 
-  -- the span of a line that is there
+  -- the span of a line that is there, and 8 for one that is not
   pub span_there : There points starts point_count line_count index →
       line_span points starts point_count line_count index ≡ ok ends
   unfolding line_span
   span_there t = rw (is_there_lem t)
+
+  pub span_not : (There points starts point_count line_count index → ⊥) →
+      line_span points starts point_count line_count index ≡ refused 8
+  unfolding line_span
+  span_not f = go (is_there points starts point_count line_count index) refl
+    where
+      go : (t : Bool) → is_there points starts point_count line_count index ≡ t →
+          cond t (ok ends) (refused 8) ≡ refused 8
+      go true e = absurd (f (there e))
+      go false e = refl
 
   -- an answer that is no refusal is of a line that is there
   pub span_ok : {e : Span} → ok e ≡ line_span points starts point_count line_count index →

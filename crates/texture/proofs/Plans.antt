@@ -1,16 +1,58 @@
--- What follows a plan's own tests: what is known where all of them pass, and that its refusals come first.
+-- `plan` by the cases of its tests, and what follows them: what is known where all of them pass, and that its refusals
+-- come first.
 use mathlib.Core.Path.{◌≡◌, sym}
-use mathlib.Core.Bool.{Bool, true, false, true≢false}
-use Prim.Native.Nat.{ℕ}
+use mathlib.Core.Bool.{Bool, true, false, ◌&&◌, true≢false}
+use Prim.Native.Nat.{ℕ, max}
+use lib.Ieee.{Float, le, to_unsigned}
 use Rattle.std.specs.Prelude.{Err}
+use Rattle.float.specs.Cast.{nat_float}
 use Rattle.refusal.specs.declared.Refusal.{Refusal}
 use Rattle.refusal.specs.Refusals.{Check, passed, Answer, ok, refused, number_of, unless, passing}
 use Rattle.refusal.specs.declared.Refusal.TheVariants.{Steps, Texture, Count}
 use Rattle.grid.specs.Grid.{steps_fit}
 use Rattle.refusal.proofs.Laws.{unless_passed, unless_then, answered, refused_first}
 use Rattle.texture.specs.declared.plan.ParametricSurfaceTexture.{ParametricSurfaceTexture}
+use Rattle.texture.specs.declared.plan.ParametricSurfaceTexture.TheVariants.{Swirl, Spiral}
 use Rattle.texture.specs.declared.plan.PlanCounts.{PlanCounts}
-use Rattle.texture.specs.Plan.{rays_of, samples_per_ray, texture_fits, counts_fit, plan_check, plan_of, plan}
+use Rattle.texture.specs.Plan.{texture_spacing, swirl_rays, radial_sample_count, spiral_sample_count, rays_of}
+use Rattle.texture.specs.Plan.{samples_per_ray, texture_fits, max_count, counts_fit, plan_check, plan_of, plan}
+
+-- the counts of each texture, before they are counts
+module _ (m n : ℕ) {t : ParametricSurfaceTexture} {s : Float} where
+  pub rays_swirl : {w x r : Float} → t ≡ Swirl s w → x ≡ texture_spacing s → r ≡ swirl_rays m n x → r ≡ rays_of m n t
+  rays_swirl e p q = rw (e, q, p)
+
+  pub rays_spiral : {a k : ℕ} {r : Float} → t ≡ Spiral s a → k ≡ max a 1 → r ≡ nat_float k → r ≡ rays_of m n t
+  rays_spiral e p q = rw (e, q, p)
+
+  pub samples_swirl : {w x r : Float} → t ≡ Swirl s w → x ≡ texture_spacing s → r ≡ radial_sample_count m n x w →
+      r ≡ samples_per_ray m n t
+  samples_swirl e p q = rw (e, q, p)
+
+  pub samples_spiral : {a : ℕ} {x r : Float} → t ≡ Spiral s a → x ≡ texture_spacing s → r ≡ spiral_sample_count m n x →
+      r ≡ samples_per_ray m n t
+  samples_spiral e p q = rw (e, q, p)
+
+-- `plan` by the cases of its tests, in their order
+module _ (t : ParametricSurfaceTexture) (m n : ℕ) {b : Bool} (eb : b ≡ steps_fit m n) where
+  pub plan_steps : b ≡ false → refused 1 ≡ plan t m n
+  unfolding plan plan_check
+  plan_steps h = rw (← eb, h)
+
+  module _ (h : b ≡ true) {f : Bool} (ef : f ≡ texture_fits t) where
+    pub plan_texture : f ≡ false → refused 5 ≡ plan t m n
+    unfolding plan plan_check
+    plan_texture k = rw (← eb, h, ← ef, k)
+
+    module _ (k : f ≡ true) {r s : Float} (er : r ≡ rays_of m n t) (es : s ≡ samples_per_ray m n t) where
+      pub plan_counts : le r max_count && le s max_count ≡ false → refused 6 ≡ plan t m n
+      unfolding plan plan_check
+      plan_counts l = rw (← eb, h, ← ef, k, ← er, ← es, l)
+
+      pub plan_counted : {i j : ℕ} → le r max_count && le s max_count ≡ true → i ≡ to_unsigned 64 r →
+          j ≡ to_unsigned 64 s → ok (record { rays = i; samples = j }) ≡ plan t m n
+      unfolding plan plan_check
+      plan_counted l ei ej = rw (← eb, h, ← ef, k, ← er, ← es, l, ei, ej)
 
 -- what is known where all tests are passed
 pub checks : (t : ParametricSurfaceTexture) (m n : ℕ) (after : Check) → plan_check t m n after ≡ passed
