@@ -3,12 +3,24 @@
 
 ghost use Rattle.std.specs.Prelude.{◌≡◌, ◌+◌, ◌*◌, ◌≤◌, length, map};
 ghost use Rattle.std.specs.List.{range_with_len};
-ghost use mathlib.Core.List.{flatten};
+ghost use mathlib.Core.List.{[], ◌∷◌, flatten};
 ghost use Rattle.float.specs.Consts.{zero64};
 ghost use Rattle.lent.specs.Lent.{filled};
 ghost use Rattle.path.specs.GridPaths.{up_to, along_u, grid_lines, coordinates, starts_from};
 
-use grid::{Grid, point_number};
+use grid::{Grid, point_at, point_number};
+use vector::Vector;
+
+// A point's coordinates. Three stores, since a copy of a slice, also in a loop, becomes a call of memcpy, which the
+// library does without.
+fn put(place: &mut [f64], p: Vector)
+    requires { length place.old ≡ 3 }
+    ensures { place.new ≡ coordinates (p ∷ []) }
+{
+    place[0] = p.x;
+    place[1] = p.y;
+    place[2] = p.z;
+}
 
 // The line along u at v.
 #[tactic(auto, unfolding(crate::specs::GridPaths::coordinates, crate::specs::GridPaths::along_u))]
@@ -17,8 +29,8 @@ fn line_along_u(grid: &Grid<'_>, v: usize, line: &mut [f64])
     ensures { line.new ≡ coordinates (along_u grid.now.points.now grid.now.cells.m grid.now.cells.n v) }
 {
     for u in 0..grid.cells.m + 1 {
-        let at = 3 * point_number(grid.cells.n, u, v);
-        line[3 * u..3 * u + 3].copy_from_slice(&grid.points[at..at + 3]);
+        let number = point_number(grid.cells.n, u, v);
+        put(&mut line[3 * u..3 * u + 3], point_at(grid.points, number));
     }
 }
 
@@ -34,7 +46,20 @@ fn lines_along_u(grid: &Grid<'_>, points: &mut [f64])
     }
 }
 
-// The points of all lines, and zero past them. Those of the lines along v, u by u, are all points in their order.
+// The lines along v, u by u, are all points in their order.
+fn lines_along_v(grid: &Grid<'_>, points: &mut [f64])
+    requires { length points.old ≡ length grid.now.points.now }
+    ensures { points.new ≡ grid.now.points.now }
+{
+    for number in 0..(grid.cells.m + 1) * (grid.cells.n + 1) {
+        put(
+            &mut points[3 * number..3 * number + 3],
+            point_at(grid.points, number),
+        );
+    }
+}
+
+// The points of all lines, and zero past them.
 #[tactic(auto, using(crate::proofs::Lines::points_drawn))]
 pub fn points(grid: &Grid<'_>, points: &mut [f64])
     requires { 6 * ((grid.now.cells.m + 1) * (grid.now.cells.n + 1)) ≤ length points.old }
@@ -45,7 +70,7 @@ pub fn points(grid: &Grid<'_>, points: &mut [f64])
     let (along_u, rest) = points.split_at_mut(grid.points.len());
     let (along_v, rest) = rest.split_at_mut(grid.points.len());
     lines_along_u(grid, along_u);
-    along_v.copy_from_slice(grid.points);
+    lines_along_v(grid, along_v);
     rest.fill(0.0);
 }
 

@@ -5,5 +5,5 @@ use Rattle.path.proofs.draw.line_along_u.Goals as goal
 
 pub loop-u-preserved : goal.loop-u-preserved
 loop-u-preserved c =
-    line_turn _ _ _ _ _ _ _ _ _ _ c.loop-u.invariant c.copy_from_slice.ensures.after (omega arith) (omega arith)
-    c.args.grid.now.fits.2 (omega arith) c.requires.0 (omega arith)
+    line_turn _ _ _ _ _ _ _ c.loop-u.invariant (rw (c.point_at.ensures, c.point_number-number.ensures) at c.put.ensures)
+    (omega arith)
