@@ -14,7 +14,7 @@ use Rattle.walk.specs.Walk.{point_moves, end_moves, moves_of}
 
 module _ (tolerance : Float) (sample : ℕ) where
   -- the line's end
-  end_drawn : (inside : Bool) (w : Page) →
+  pub end_drawn : (inside : Bool) (w : Page) →
       on_page tolerance (moves_by sample (end_moves inside)) w ≡ flush_unless inside w
   end_drawn true w = page_none tolerance w
   end_drawn false w = page_one tolerance flush w
