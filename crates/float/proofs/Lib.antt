@@ -12,3 +12,4 @@ pub mod Bounds
 pub mod Range
 pub mod Between
 pub mod Zeros
+pub mod Facts

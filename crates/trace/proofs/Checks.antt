@@ -20,7 +20,7 @@ use Rattle.tolerance.specs.declared.Tolerances.{Tolerances}
 use Rattle.tolerance.specs.Tolerance.{tolerances_check}
 use Rattle.grid.specs.Grid.{grid_check}
 use Rattle.grid.proofs.Laws.{Shaped, grid_passed}
-use Rattle.trace.specs.Curve.{sample_at, param_at, SamplesFit, marked_point}
+use Rattle.trace.specs.Curve.{sample_at, param_at, marked_point}
 use Rattle.trace.specs.Trace.{samples_length_fits, check_lengths, marks_fit, sample_fits, pairs_fit, trace_check}
 
 -- ---- the tests of the code
@@ -33,7 +33,7 @@ unfolding marks_fit
 marks_at_most [] = refl
 marks_at_most (k ∷ ks) = rw (mark_at_most k, marks_at_most ks)
 
-module _ (ps : List Float) (ks : List ℕ) (fits : SamplesFit ps ks) where
+module _ (ps : List Float) (ks : List ℕ) (e : length ps ≡ 2 * length ks) where
   abbrev pub fits_at : ℕ → Bool
   fits_at i = sample_fits (marked_point (sample_at (get_or ks i 0) (param_at ps i)))
 
@@ -50,8 +50,8 @@ module _ (ps : List Float) (ks : List ℕ) (fits : SamplesFit ps ks) where
 
   from : (i n : ℕ) → i + n ≡ length ks → list_all fits_at (range_with_len i n) ≡ pairs_fit (drop (2 * i) ps) (drop i ks)
   unfolding pairs_fit
-  from i zero e = let past : length ks ≤ i = omega arith in rw (drop_of_length-le ks past)
-  from i (suc n) e = rw (pair_here i (omega arith), from (i + 1) n (omega arith))
+  from i zero t = let past : length ks ≤ i = omega arith in rw (drop_of_length-le ks past)
+  from i (suc n) t = rw (pair_here i (omega arith), from (i + 1) n (omega arith))
 
   pub pairs_in_turn : list_all fits_at (range_with_len 0 (length ks)) ≡ pairs_fit ps ks
   pairs_in_turn = from 0 (length ks) (omega arith)

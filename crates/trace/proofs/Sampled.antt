@@ -1,6 +1,6 @@
 -- One sample by what it is, and one turn of the trace over the samples: those from i on are the one at i and those
 -- after it.
-use mathlib.Core.Path.{◌≡◌, refl, ap}
+use mathlib.Core.Path.{◌≡◌, refl, ap, sym, ◌∙◌}
 use mathlib.Core.List.{List, [], ◌∷◌}
 use Prim.Native.Nat.{ℕ, zero, suc, ◌+◌, ◌*◌, ◌≤◌, ◌<◌}
 use native.Mathlib.Numerals.{add-one}
@@ -8,19 +8,20 @@ use native.Mathlib.Omega.{arith}
 use lib.ListN.{length, drop, get_or, drop_of_length-le}
 use lib.Seq.{drop-cons}
 use lib.Ieee.{Float, nan}
-use Rattle.std.specs.Prelude.{Option}
+use Rattle.std.specs.Prelude.{Option, Ok, Err}
+use Rattle.refusal.specs.declared.Refusal.{Refusal}
 use Rattle.refusal.specs.Refusals.{Check}
 use Rattle.param.specs.declared.ParamPoint.{ParamPoint}
 use Rattle.param.specs.declared.Cells.{Cells}
 use Rattle.page.specs.declared.Sheet.{Sheet}
 use Rattle.page.specs.Moves.{flush, Outcome, on, follow}
 use Rattle.page.specs.Page.{moves_by, Page, flush_page, on_page}
-use Rattle.page.specs.Sheets.{outcome_of}
-use Rattle.page.proofs.Follow.{page_append, page_none, page_one}
+use Rattle.page.specs.Sheets.{page_of, outcome_of}
+use Rattle.page.proofs.Follow.{down, stops, page_append, page_none, page_one}
 use Rattle.walk.specs.Walk.{leg_moves}
 use Rattle.trace.specs.declared.curve.Visit.{Visit}
 use Rattle.trace.specs.declared.curve.Visit.TheVariants.{Break, Along, First}
-use Rattle.trace.specs.Curve.{Sample, sample_at, sample, samples_of, param_at, SamplesFit, marked_point, visit_of}
+use Rattle.trace.specs.Curve.{Sample, sample_at, sample, samples_of, param_at, marked_point, visit_of}
 use Rattle.trace.specs.Curve.{visit_moves, trace_moves}
 
 -- ---- one sample, by what it is
@@ -63,11 +64,11 @@ module _ (tolerance : Float) (g : List Float) (k : Cells) (ks : List ℕ) (ps : 
   abbrev pub left : ℕ → Option ParamPoint → Page → Outcome Page
   left i p = on_page tolerance (trace_moves g k i (drop i (samples_of ks ps)) p)
 
-  module _ (h : SamplesFit ps ks) (i : ℕ) (p : Option ParamPoint) (w : Page) where
+  module _ (h : length ps ≡ 2 * length ks) (i : ℕ) (p : Option ParamPoint) (w : Page) where
     pub trace_flushes : length ks ≤ i → left i p w ≡ flush_page w
     unfolding trace_moves
     trace_flushes t =
-        let past : length (samples_of ks ps) ≤ i = omega (arith, samples_length ks ps h.0) in
+        let past : length (samples_of ks ps) ≤ i = omega (arith, samples_length ks ps h) in
         rw (drop_of_length-le (samples_of ks ps) past) (page_one tolerance flush w)
 
     -- sample i, with what its calls say of it, and what is left then
@@ -79,9 +80,20 @@ module _ (tolerance : Float) (g : List Float) (k : Cells) (ks : List ℕ) (ps : 
     trace_turn {o} {v} r s t eo ev er =
         let z = sample 0 nan nan in
         let x = sample_at (get_or ks i 0) (param_at ps i) in
-        let there : i < length (samples_of ks ps) = omega (arith, samples_length ks ps h.0) in
+        let there : i < length (samples_of ks ps) = omega (arith, samples_length ks ps h) in
         let first : drop i (samples_of ks ps) ≡ x ∷ drop (i + 1) (samples_of ks ps) =
-        rw (add-one i, drop-cons (samples_of ks ps) i z there, samples_at ks ps i z h.0 t) in
+        rw (add-one i, drop-cons (samples_of ks ps) i z there, samples_at ks ps i z h t) in
         rw (first, er, ev, eo)
         (page_append tolerance (moves_by i (visit_moves g k (visit_of p (marked_point x))))
         (trace_moves g k (i + 1) (drop (i + 1) (samples_of ks ps)) (marked_point x)) w)
+
+    -- where the calls of sample i go on, so does the trace, from the page that they leave; where they refuse, it is refused
+    module _ {o : Option ParamPoint} {v : Visit} (r : Check) (s : Sheet) (t : i < length ks)
+        (eo : o ≡ marked_point (sample_at (get_or ks i 0) (param_at ps i))) (ev : v ≡ visit_of p o)
+        (er : outcome_of r s ≡ on_page tolerance (moves_by i (visit_moves g k v)) w)
+      where
+        pub trace_goes : {u : Unit} → r ≡ Ok u → left i p w ≡ left (i + 1) o (page_of s)
+        trace_goes e = trace_turn r s t eo ev er ∙ down (outcome_of r s) (left (i + 1) o) r s refl e
+
+        pub trace_stops : {n : Refusal} → r ≡ Err n → outcome_of (Err n) s ≡ left i p w
+        trace_stops e = stops (outcome_of r s) (left (i + 1) o) r s refl e ∙ sym (trace_turn r s t eo ev er)

@@ -24,7 +24,7 @@ turn c =
     let s = a.samples.now in
     let d = c.trace_sample in
     rw c.loop-i.invariant.1
-    (trace_turn a.tolerance g.points.now g.cells s.marks.now s.pairs.now s.fits c.loop-i.i c.loop-i.previous
+    (trace_turn a.tolerance g.points.now g.cells s.marks.now s.pairs.now s.fits.0 c.loop-i.i c.loop-i.previous
     (page_of c.loop-i.sheet) d.result d.new.sheet (omega (arith, c.len-i-end.ensures)) c.at-sample.ensures
     c.visit_of.ensures d.ensures.page)
 
@@ -45,7 +45,7 @@ returns-clause-page c =
     let s = a.samples.now in
     rw (
       c.loop-i.invariant.1,
-      trace_flushes a.tolerance g.points.now g.cells s.marks.now s.pairs.now s.fits c.loop-i.i c.loop-i.previous
+      trace_flushes a.tolerance g.points.now g.cells s.marks.now s.pairs.now s.fits.0 c.loop-i.i c.loop-i.previous
           (page_of c.loop-i.sheet) (omega (arith, c.len-i-end.ensures)),
       c.flush_segment.ensures.page,
     )

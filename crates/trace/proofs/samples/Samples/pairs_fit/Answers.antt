@@ -10,7 +10,7 @@ use Rattle.trace.proofs.samples.Samples.pairs_fit.Goals as goal
 pub returns : goal.returns
 returns c =
     let s = c.args.self.now in
-    all_from_yields_List (fits_at s.pairs.now s.marks.now s.fits) _ _ _ c.all.ensures.ran
+    all_from_yields_List (fits_at s.pairs.now s.marks.now s.fits.0) _ _ _ c.all.ensures.ran
     (YieldsList-from_range 0 (length s.marks.now) (length s.marks.now) (rw c.len.ensures) (omega arith))
     (λ x b q k. search (rules, tests))
-    ∙ pairs_in_turn s.pairs.now s.marks.now s.fits
+    ∙ pairs_in_turn s.pairs.now s.marks.now s.fits.0
