@@ -1,15 +1,13 @@
 -- The tests and the lists of both triangulations: what is known where no test refuses, and the lists that are handed
 -- over.
 use Rattle.refusal.specs.Refusals.{passed}
-use Prim.Native.Nat.{ℕ, ◌+◌, ◌-◌, ◌*◌, ◌≤◌}
+use Prim.Native.Nat.{ℕ, ◌+◌, ◌*◌, ◌≤◌}
 use mathlib.Core.Path.{◌≡◌, sym, ap, ◌∙◌}
 use mathlib.Core.List.{List}
 use lib.Ieee.{Float}
-use lib.ListN.{length, take, replicate}
+use lib.ListN.{length, take}
 use lib.Seq.{length-take-le}
 use native.Mathlib.Omega.{arith}
-use borrow.Rule.Slice.PartMut.{mid_of, put_mid}
-use Rattle.std.proofs.lemmas.Grind.{common_steps}
 use Rattle.refusal.proofs.Laws.{then_passed}
 use Rattle.tolerance.specs.declared.Tolerances.{Tolerances}
 use Rattle.tolerance.specs.Tolerance.{tolerances_check}
@@ -85,11 +83,6 @@ pub all_kept : (s : Shape) {ts : List Triangle} → ts ≡ kept s (2 * (s.M * s.
 unfolding triangles slots
 all_kept s e = e
 
--- a list whose part from place k on is written over with zeros
-rest_zeroed : (k : ℕ) (l rest : List ℕ) → k ≤ length l → rest ≡ replicate (length (mid_of k (length l - k) l)) 0 →
-    put_mid k (length l - k) l rest ≡ zeroed_from 0 k l
-rest_zeroed k l rest h e = grind (arith, common_steps)
-
 -- both lists, filled, where t and f were lent
 pub lists_written : (s : Shape) (t f : List ℕ) {t' f' : List ℕ} {k p : ℕ} →
     t' ≡ filled 0 (triangle_numbers (triangles s)) t → f' ≡ filled 0 (pair_numbers (flipped s)) f →
@@ -97,19 +90,17 @@ pub lists_written : (s : Shape) (t f : List ℕ) {t' f' : List ℕ} {k p : ℕ} 
     afterwards (record { triangles = k; pairs = p }) (mesh_lists t' f') ≡ written s (mesh_lists t f)
 lists_written s t f ts ps k p = rw (ts, ps, k, p)
 
--- k triangles in front of the list t' and p pairs in front of f', each with zeros past them
-pub fronts_written : (s : Shape) (t f t' f' : List ℕ) {rest rest' : List ℕ} (k p : ℕ) →
+-- k triangles in front of the list t' and p pairs in front of f', and each list with zeros past them
+pub fronts_written : (s : Shape) (t f t' f' : List ℕ) {t0 f0 : List ℕ} (k p : ℕ) →
     triangles_in k t' ≡ kept s (2 * (s.M * s.N)) → 3 * k ≤ length t' → length t' ≡ length t →
-    rest ≡ replicate (length (mid_of (3 * k) (length t' - 3 * k) t')) 0 →
+    t0 ≡ zeroed_from 0 (3 * k) t' →
     pairs_in p f' ≡ flipped s → 2 * p ≤ length f' → length f' ≡ length f →
-    rest' ≡ replicate (length (mid_of (2 * p) (length f' - 2 * p) f')) 0 →
-    afterwards (record { triangles = k; pairs = p })
-    (mesh_lists (put_mid (3 * k) (length t' - 3 * k) t' rest) (put_mid (2 * p) (length f' - 2 * p) f' rest'))
-    ≡ written s (mesh_lists t f)
-fronts_written s t f t' f' {rest} {rest'} k p ts tk tl tr ps pk pl pr =
+    f0 ≡ zeroed_from 0 (2 * p) f' →
+    afterwards (record { triangles = k; pairs = p }) (mesh_lists t0 f0) ≡ written s (mesh_lists t f)
+fronts_written s t f t' f' k p ts tk tl tz ps pk pl pz =
     let all = all_kept s ts in
     lists_written s t f
-    (rest_zeroed (3 * k) t' rest tk tr ∙ triangles_filled s k t' t all tk tl)
-    (rest_zeroed (2 * p) f' rest' pk pr ∙ pairs_filled s p f' f ps pk pl)
+    (tz ∙ triangles_filled s k t' t all tk tl)
+    (pz ∙ pairs_filled s p f' f ps pk pl)
     (held_triangles k t' all)
     (held_pairs p f' ps)

@@ -1,5 +1,5 @@
 -- `path::draw::lines_along_u` meets its contract: each turn writes the next line.
-use Rattle.std.proofs.Common.{◌≡◌, ◌+◌, ◌*◌, arith}
+use Rattle.std.proofs.Common.{◌≡◌, ◌+◌, ◌*◌, arith, rules}
 use Rattle.path.proofs.Turns.{lines_turn}
 use mathlib.Core.List.{flatten}
 use Rattle.path.specs.GridPaths.{coordinates}
@@ -10,4 +10,7 @@ unfolding coordinates flatten
 loop-v-init c = let none : 0 * (3 * (c.args.grid.now.cells.m + 1)) ≡ 0 = omega arith in rw none
 
 pub loop-v-preserved : goal.loop-v-preserved
-loop-v-preserved c = lines_turn _ _ _ _ _ _ _ c.loop-v.invariant c.line_along_u.ensures (omega arith) (omega arith)
+loop-v-preserved c =
+    let g = c.args.grid.now in
+    lines_turn g.points.now g.cells.m g.cells.n c.loop-v.v _ c.line_along_u.new.line _ c.loop-v.invariant (search rules)
+    (omega arith) (omega arith)
